@@ -4,7 +4,7 @@
 ghost use Rattle.std.specs.Prelude.{◌≡◌, ◌≢◌, ◌⊎◌, ℕ, List, map, string_bytes};
 ghost use Rattle.std.specs.Io.KnownBytes.{Appends};
 ghost use Rattle.std.specs.Process.{exit_status};
-ghost use Rattle.strm_ports.specs.Faults.{Rose, TakesPart};
+ghost use Rattle.strm_input_output.specs.Faults.{Rose, TakesPart};
 ghost use Rattle.strm_chain.specs.Asking.{IsAsked};
 ghost use Rattle.strm_chain.specs.Serving.{IsTooLong, IsOutput, IsStatus, IsFaultless};
 
@@ -12,8 +12,8 @@ use std::alloc::Global;
 use std::process::ExitCode;
 use std::{env, io};
 use strm_chain::serving::{DONE, OUT_OF_MEMORY, TOO_LONG, USAGE, WRITE_FAULT, chain_serve};
-use strm_ports::ports::{Sink, Source};
-use strm_ports::standard::{StdinSource, StdoutSink};
+use strm_input_output::ports::{Sink, Source};
+use strm_input_output::standard::{StdinSource, StdoutSink};
 
 // Serves a source and a sink. The program's status is that of `chain_serve`, and with it goes what that
 // writes.

@@ -6,7 +6,7 @@ ghost use Rattle.std.specs.Io.KnownBytes.{Appends};
 ghost use Rattle.std.specs.Process.{exit_status};
 ghost use Rattle.strm_frames.specs.Frames.{Frame};
 ghost use Rattle.strm_lines.specs.Lines.{lines_of};
-ghost use Rattle.strm_ports.specs.Faults.{Rose, TakesPart};
+ghost use Rattle.strm_input_output.specs.Faults.{Rose, TakesPart};
 ghost use Rattle.strm_mux.specs.Lines.{Puts, IsFirstBad, IsTooLong};
 ghost use Rattle.strm_mux.specs.Serving.{IsSizes, IsOutput, IsStatus, IsFaultless};
 
@@ -14,8 +14,8 @@ use std::alloc::Global;
 use std::process::ExitCode;
 use std::{env, io};
 use strm_mux::serving::{BAD_LINE, DONE, OUT_OF_MEMORY, TOO_LONG, USAGE, WRITE_FAULT, mux_serve};
-use strm_ports::ports::{Sink, Source};
-use strm_ports::standard::{StdinSource, StdoutSink};
+use strm_input_output::ports::{Sink, Source};
+use strm_input_output::standard::{StdinSource, StdoutSink};
 
 // Serves a source and a sink. The program's status is that of `mux_serve`, and with it goes what that
 // writes.

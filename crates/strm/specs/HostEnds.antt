@@ -4,8 +4,8 @@ use Rattle.strm_codes.specs.declared.codes.TransmitKind.TheVariants.{Stream, Fut
 use Rattle.strm_codes.specs.declared.payloads.Payload.TheVariants.{Nothing, One, Tuple}
 use Rattle.strm_codes.specs.declared.scalars.Scalar.TheVariants.{U8, U32, Char}
 use Rattle.strm_buffers.specs.Tells.{WriterTells, ReaderTells, Tells}
-use Rattle.strm_ends.specs.Credits.{ungranted}
-use Rattle.strm_ends.specs.QueueTells.{unfed_writer}
+use Rattle.strm_program_ends.specs.Credits.{ungranted}
+use Rattle.strm_program_ends.specs.QueueTells.{unfed_writer}
 use Rattle.strm_host.specs.Erasing.{unpolled}
 
 -- what each of two streams of bytes that are ready holds; a third holds nothing

@@ -2,7 +2,7 @@
 
 use crate::answers::is;
 use std::process::Abort;
-use strm_contexts::contexts::ErrorContexts;
+use strm_error_contexts::contexts::ErrorContexts;
 
 // New contexts get these numbers.
 fn make(rt: &impl Abort, contexts: &mut ErrorContexts, message: &str, numbers: &[u32]) {

@@ -3,7 +3,7 @@
 use crate::answers::is;
 use std::alloc::Global;
 use std::process::Abort;
-use strm_contexts::messages::message_of;
+use strm_error_contexts::messages::message_of;
 
 // Each is a message, or none is.
 fn are_messages(rt: &impl Abort, texts: &[&[u8]], wanted: bool) {

@@ -3,7 +3,7 @@
 use crate::answers::is;
 use std::process::Abort;
 use strm_codes::counts::OutOfMemory;
-use strm_sets::sets::{SetNotEmpty, WaitableSets};
+use strm_waitable_sets::sets::{SetNotEmpty, WaitableSets};
 
 // New sets get these numbers.
 fn make(rt: &impl Abort, sets: &mut WaitableSets, numbers: &[u32]) {

@@ -18,7 +18,7 @@ mod taken;
 mod windows;
 
 ghost use Rattle.strm_buffers.specs.AllTells.{tells_of};
-ghost use Rattle.strm_world.specs.Does.{Fits};
+ghost use Rattle.strm_host_machine.specs.Does.{Fits};
 
 use crate::copies::{COUNTS, Copies};
 use crate::filled::{COUNT, Filled};
@@ -35,8 +35,8 @@ use strm_codes::codes::TransmitKind;
 use strm_codes::counts::ItemCount;
 use strm_codes::payloads::Payload;
 use strm_codes::scalars::Scalar;
-use strm_ends::credit_reader::CreditReader;
-use strm_ends::queue_writer::QueueWriter;
+use strm_program_ends::credit_reader::CreditReader;
+use strm_program_ends::queue_writer::QueueWriter;
 use strm_host::erased::Erased;
 use strm_host::erased_readers::ErasedReader;
 use strm_host_tests::copying::Copying;

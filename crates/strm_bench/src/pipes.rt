@@ -1,7 +1,7 @@
 //! Times of pipes from a host writer to a host reader.
 
 ghost use Rattle.strm_buffers.specs.AllTells.{tells_of};
-ghost use Rattle.strm_world.specs.Does.{Fits};
+ghost use Rattle.strm_host_machine.specs.Does.{Fits};
 
 use crate::hosted::{BYTES, LISTED, list};
 use crate::piped::{Piping, ROUNDS};
@@ -12,8 +12,8 @@ use strm_buffers::hosts::Hosts;
 use strm_buffers::readers::HostReader;
 use strm_buffers::writers::HostWriter;
 use strm_codes::codes::TransmitKind;
-use strm_ends::credit_reader::CreditReader;
-use strm_ends::queue_writer::QueueWriter;
+use strm_program_ends::credit_reader::CreditReader;
+use strm_program_ends::queue_writer::QueueWriter;
 use strm_host::erased::Erased;
 use strm_host::erased_readers::ErasedReader;
 use strm_host_tests::copying::Copying;

@@ -1,7 +1,7 @@
 //! Rounds on a store: a write of 8 items waits, a read takes them, and the write is told.
 
 ghost use Rattle.strm_buffers.specs.AllTells.{tells_of};
-ghost use Rattle.strm_world.specs.Does.{Fits};
+ghost use Rattle.strm_host_machine.specs.Does.{Fits};
 
 use std::alloc::Global;
 use strm_buffers::hosts::Hosts;

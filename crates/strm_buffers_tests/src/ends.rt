@@ -4,7 +4,7 @@ ghost use Rattle.std.specs.Prelude.{◌≡◌};
 ghost use Rattle.strm_codes.specs.declared.codes.TransmitKind.TheVariants.{Stream};
 ghost use Rattle.strm_codes.specs.declared.payloads.Payload.TheVariants.{One};
 ghost use Rattle.strm_codes.specs.declared.scalars.Scalar.TheVariants.{U8};
-ghost use Rattle.strm_ends.specs.Scripts.{scripted_tells, unpolled_writer};
+ghost use Rattle.strm_program_ends.specs.Scripts.{scripted_tells, unpolled_writer};
 
 use crate::answers::{is, memory};
 use crate::silent::SilentWriter;
@@ -23,10 +23,10 @@ use strm_buffers::writers::HostWriter;
 use strm_codes::codes::TransmitKind;
 use strm_codes::payloads::Payload;
 use strm_codes::scalars::Scalar;
-use strm_ends::credit_reader::CreditReader;
-use strm_ends::queue_writer::QueueWriter;
-use strm_ends::scripted_reader::{ReaderTurn, ScriptedReader};
-use strm_ends::scripted_writer::{ScriptedWriter, WriterTurn};
+use strm_program_ends::credit_reader::CreditReader;
+use strm_program_ends::queue_writer::QueueWriter;
+use strm_program_ends::scripted_reader::{ReaderTurn, ScriptedReader};
+use strm_program_ends::scripted_writer::{ScriptedWriter, WriterTurn};
 use strm_memory::payloaded::Payloaded;
 
 const BYTES: Payload = Payload::One(Scalar::U8);

@@ -9,7 +9,7 @@ use strm_buffers::writers::HostWriter;
 use strm_codes::codes::TransmitKind;
 use strm_codes::payloads::Payload;
 use strm_codes::scalars::Scalar;
-use strm_ends::queue_writer::QueueWriter;
+use strm_program_ends::queue_writer::QueueWriter;
 
 const COMPLETED: HostTurn = Turn::Ready(StreamResult::Completed);
 

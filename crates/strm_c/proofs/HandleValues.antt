@@ -27,7 +27,7 @@ use Rattle.std_heap.specs.contracts.Global as Heap
 use Rattle.std_heap.proofs.Global.TheLaws as heap
 use Rattle.std_heap.specs.declared.Global.{Global}
 use Rattle.std_heap.specs.contracts.GlobalAllocator.TheImpl.{ghosts}
-use Rattle.strm_embed.specs.contracts.guest_store.GuestStore as Stored
+use Rattle.strm_guest_store.specs.contracts.guest_store.GuestStore as Stored
 use Rattle.strm_c.specs.Owned.{owned}
 use Rattle.strm_c.specs.contracts.handles.StoreHandle as handle
 use Rattle.strm_c.proofs.Values.{both, Loose, al}

@@ -6,7 +6,7 @@ use Rattle.std.specs.Box.Ownership.{box_owns}
 use Rattle.std_heap.specs.declared.Global.{Global}
 use Rattle.std_heap.specs.contracts.GlobalAllocator.TheImpl.{ghosts}
 use Rattle.strm_machine.specs.State.{State}
-use Rattle.strm_embed.specs.contracts.guest_store.GuestStore.{the_row}
+use Rattle.strm_guest_store.specs.contracts.guest_store.GuestStore.{the_row}
 
 -- the box that the store lies in; where there is none, the pointer is null
 abbrev pub owned : Global → Ptr → Option State → Fml

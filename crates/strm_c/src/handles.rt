@@ -3,8 +3,8 @@
 ghost use Rattle.std.specs.Prelude.{◌≡◌, true, false, Option, Some, None, IsSome, IfSome};
 ghost use Rattle.strm_machine.specs.State.{State};
 ghost use Rattle.std.specs.Coded.{codes};
-ghost use Rattle.strm_contexts.specs.Contexts.{contexts_code};
-ghost use Rattle.strm_sets.specs.Sets.{sets_code};
+ghost use Rattle.strm_error_contexts.specs.Contexts.{contexts_code};
+ghost use Rattle.strm_waitable_sets.specs.Sets.{sets_code};
 
 mod lends;
 
@@ -12,7 +12,7 @@ use crate::loose::Loose;
 use std::alloc::Global;
 use std::marker::Model;
 use std::{mem, ptr};
-use strm_embed::guest_store::GuestStore;
+use strm_guest_store::guest_store::GuestStore;
 
 /// One word, which C holds and only this library reads: a store, or none.
 #[repr(C)]

@@ -4,7 +4,7 @@ use Rattle.std.specs.Prelude.{map, replicate}
 use Rattle.std.proofs.lemmas.Bool.{cases_lt}
 use Rattle.std.proofs.lemmas.List.{append-nil, length_push, length-set, length-replicate, length-map, take_more, take_all, map_push, replicate_more}
 use Rattle.strm_handles.specs.Handles.{no_handles, Handles}
-use Rattle.strm_sets.specs.Sets.{no_sets}
+use Rattle.strm_waitable_sets.specs.Sets.{no_sets}
 use Rattle.strm_machine.specs.State.{State, Guest, no_guest, no_stream, guest_in, memory_in, with_handles, stream_at}
 use Rattle.strm_machine.specs.Acts.{act_of}
 use Rattle.strm_machine.specs.Making.{made_stream, made_pair, with_stream, with_read_end}

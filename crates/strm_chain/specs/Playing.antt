@@ -10,7 +10,7 @@ use Rattle.strm_machine.specs.Plays.{play}
 use Rattle.strm_machine.specs.declared.steps.Step.{Step}
 use Rattle.strm_machine.specs.declared.replies.Reply.{Reply}
 use Rattle.strm_laws.specs.Laws.{HasBytes}
-use Rattle.strm_world.specs.Does.{Fits}
+use Rattle.strm_host_machine.specs.Does.{Fits}
 use Rattle.strm_transmit.specs.Guests.{nobody, Unhosted}
 
 -- a chain begins with a store without guests, named 0, under these limits

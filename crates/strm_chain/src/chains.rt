@@ -85,8 +85,8 @@ pub struct Chain {
 
 impl Model for Chain {
     ghost use Rattle.std.specs.Coded.{codes};
-    ghost use Rattle.strm_contexts.specs.Contexts.{contexts_code};
-    ghost use Rattle.strm_sets.specs.Sets.{sets_code};
+    ghost use Rattle.strm_error_contexts.specs.Contexts.{contexts_code};
+    ghost use Rattle.strm_waitable_sets.specs.Sets.{sets_code};
     ghost use Rattle.strm_chain.specs.Keeping.{ChainState, IsChain};
 
     ghost Value = { ChainState };

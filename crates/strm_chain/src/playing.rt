@@ -8,8 +8,8 @@ ghost use Rattle.strm_machine.specs.State.{memory_in, stream_at};
 ghost use Rattle.strm_laws.specs.Laws.{HasBytes};
 ghost use Rattle.strm_machine.specs.Reactions.{react, goes};
 ghost use Rattle.strm_machine.specs.Plays.{is_settled};
-ghost use Rattle.strm_world.specs.Steps.{touches};
-ghost use Rattle.strm_world.specs.Does.{Fits};
+ghost use Rattle.strm_host_machine.specs.Steps.{touches};
+ghost use Rattle.strm_host_machine.specs.Does.{Fits};
 ghost use Rattle.strm_transmit.specs.Hosted.{lone};
 ghost use Rattle.strm_transmit.specs.Guests.{is_of_guests, nobody};
 ghost use Rattle.strm_chain.specs.Playing.{Follows};
@@ -49,8 +49,8 @@ pub(crate) struct Player {
 
 impl Model for Player {
     ghost use Rattle.std.specs.Coded.{codes};
-    ghost use Rattle.strm_contexts.specs.Contexts.{contexts_code};
-    ghost use Rattle.strm_sets.specs.Sets.{sets_code};
+    ghost use Rattle.strm_error_contexts.specs.Contexts.{contexts_code};
+    ghost use Rattle.strm_waitable_sets.specs.Sets.{sets_code};
     ghost use Rattle.strm_chain.specs.Playing.{Play, Follows};
 
     ghost Value = { Play };

@@ -4,7 +4,7 @@
 
 ghost use Rattle.std.specs.Prelude.{◌≡◌, ◌≢◌, ◌≤◌, ◌+◌, ◌⊎◌, ℕ, List, [], length, map, IfOk, Some, string_bytes};
 ghost use Rattle.std.specs.Io.KnownBytes.{Appends, Consumes};
-ghost use Rattle.strm_ports.specs.Faults.{Rose, TakesPart};
+ghost use Rattle.strm_input_output.specs.Faults.{Rose, TakesPart};
 ghost use Rattle.strm_chain.specs.Asking.{Asks, IsAsked};
 ghost use Rattle.strm_chain.specs.Serving.{IsTooLong, IsPipedBy, IsOutput, IsStatus, IsFaultless, usage_text};
 
@@ -14,8 +14,8 @@ use crate::lists::Bytes8;
 use std::alloc::Global;
 use strm_codes::counts::OutOfMemory;
 use strm_lines::texts::{read_fault_text, too_long_text};
-use strm_ports::ports::{Sink, Source};
-use strm_ports::whole::{InputError, read_within, write_whole};
+use strm_input_output::ports::{Sink, Source};
+use strm_input_output::whole::{InputError, read_within, write_whole};
 
 /// The chain came to its end.
 pub const DONE: u8 = 0;

@@ -7,7 +7,7 @@ use std::process::Abort;
 use strm_chain::chains::{Chain, ChainEnd, ChainError, MAX_INPUT, chain_all, chain_run};
 use strm_chain::serving::chain_serve;
 use strm_chain::stages::Stage;
-use strm_ports::in_memory::{BytesSink, BytesSource};
+use strm_input_output::in_memory::{BytesSink, BytesSource};
 
 // So many bytes, from 0 to 250 over and over.
 fn bytes(alloc: Global, count: usize) -> Result<Vec<u8>, AllocError> {

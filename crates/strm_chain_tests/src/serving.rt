@@ -3,7 +3,7 @@
 use std::alloc::{AllocError, Global};
 use std::process::Abort;
 use strm_chain::serving::chain_serve;
-use strm_ports::in_memory::{BytesSink, BytesSource};
+use strm_input_output::in_memory::{BytesSink, BytesSource};
 
 // Words, an input, the calls of the source and of the sink that fail, the status, and what the sink took.
 // A call of the source gives at most 4 bytes, and one of the sink takes at most 3.

@@ -11,8 +11,8 @@ use Rattle.strm_codes.specs.declared.payloads.Payload.{Payload}
 use Rattle.strm_buffers.specs.Tells.{Tells, told_by}
 use Rattle.strm_machine.specs.State.{State}
 use Rattle.strm_machine.specs.Tests.{same_kind}
-use Rattle.strm_world.specs.HostRefusals.{is_unknown_host}
-use Rattle.strm_world.specs.Releasing.{released, after_release}
+use Rattle.strm_host_machine.specs.HostRefusals.{is_unknown_host}
+use Rattle.strm_host_machine.specs.Releasing.{released, after_release}
 use Rattle.strm_machine.specs.Acts.{act_of}
 use Rattle.strm_machine.specs.Reactions.{react}
 use Rattle.strm_machine.specs.declared.acts.Act.{Act}

@@ -6,7 +6,7 @@
 
 ghost use Rattle.std.specs.Prelude.{◌≡◌, ◌≢◌, ◌==◌, Err, OnOk, OnErr};
 ghost use Rattle.strm_buffers.specs.AllTells.{tells_of};
-ghost use Rattle.strm_world.specs.Does.{Fits};
+ghost use Rattle.strm_host_machine.specs.Does.{Fits};
 ghost use Rattle.strm_transmit.specs.Hosted.{StillFits, StillKnows};
 ghost use Rattle.strm_host.specs.ReadEnds.{read_end, used, no_memory, tested, host_tested, any_tested, Makes, Lifts, Lowers, PipesTo, Closes, Releases, left_by};
 

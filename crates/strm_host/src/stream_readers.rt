@@ -7,7 +7,7 @@
 ghost use Rattle.std.specs.Prelude.{◌≡◌, ◌≢◌, Err, OnOk, OnErr, IfErr};
 ghost use Rattle.strm_codes.specs.declared.codes.TransmitIndex.TheVariants.{Stream};
 ghost use Rattle.strm_buffers.specs.AllTells.{tells_of};
-ghost use Rattle.strm_world.specs.Does.{Fits};
+ghost use Rattle.strm_host_machine.specs.Does.{Fits};
 ghost use Rattle.strm_transmit.specs.Hosted.{StillFits, StillKnows};
 ghost use Rattle.strm_host.specs.ReadEnds.{used, no_memory, tested, any_tested, converted, refused_only, Makes, Lifts, Lowers, PipesTo, Closes, Releases, left_by};
 

@@ -8,14 +8,14 @@ use Rattle.strm_machine.specs.declared.replies.Reply.TheVariants as replies
 use Rattle.strm_machine.specs.declared.steps.Step.{Step}
 use Rattle.strm_machine.specs.declared.stops.Stop.{Stop}
 use Rattle.strm_machine.specs.declared.stops.Stop.TheVariants.{StoreTrapped}
-use Rattle.strm_world.specs.Ends.{Writer, Reader}
-use Rattle.strm_world.specs.World.{World}
-use Rattle.strm_world.specs.Outcomes.{Outcome, Goes, Stops, Stuck, stops, done, then_on}
-use Rattle.strm_world.specs.Driving.{drive_turn, driven, round_of}
-use Rattle.strm_world.specs.Steps.{performs_in, outcome}
-use Rattle.strm_world.specs.HostPlays.{Ends, Halts, after_step, play}
-use Rattle.strm_world.proofs.OutcomeLemmas.{outcome-trapped, outcome-performs, refusal_in-drive}
-use Rattle.strm_world.proofs.DriveLemmas.{then_on-twice, then_on_same}
+use Rattle.strm_host_machine.specs.Ends.{Writer, Reader}
+use Rattle.strm_host_machine.specs.World.{World}
+use Rattle.strm_host_machine.specs.Outcomes.{Outcome, Goes, Stops, Stuck, stops, done, then_on}
+use Rattle.strm_host_machine.specs.Driving.{drive_turn, driven, round_of}
+use Rattle.strm_host_machine.specs.Steps.{performs_in, outcome}
+use Rattle.strm_host_machine.specs.HostPlays.{Ends, Halts, after_step, play}
+use Rattle.strm_host_machine.proofs.OutcomeLemmas.{outcome-trapped, outcome-performs, refusal_in-drive}
+use Rattle.strm_host_machine.proofs.DriveLemmas.{then_on-twice, then_on_same}
 use Rattle.strm_host_laws.specs.HostMoments.{Part, Acts, Turns, HostMoment, parts_of, parts_in, part_on, followed, acted, host_moments, first_moments, last_of}
 
 -- THE MOMENTS FOLLOW EACH OTHER

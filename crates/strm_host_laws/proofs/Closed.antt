@@ -23,14 +23,14 @@ use Rattle.strm_machine.specs.declared.steps.Step.{Step}
 use Rattle.strm_machine.specs.declared.stops.Stop.{Stop}
 use Rattle.strm_machine.specs.declared.replies.Reply.{Reply}
 use Rattle.strm_machine.specs.Reactions.{reaction}
-use Rattle.strm_world.specs.Ends.{Writer, Reader, no_writer, writer_in, polled_writer, given_writer, fed_writer, closed_writer, polled_reader, granted_reader}
-use Rattle.strm_world.specs.Producing.{is_last}
-use Rattle.strm_world.specs.Consuming.{with_taken}
-use Rattle.strm_world.specs.Attaching.{hosted_stream, has_items, new_producer, piped}
-use Rattle.strm_world.specs.HostPlays.{Ends, Halts, play}
-use Rattle.strm_world.specs.World.{World, stream_in, writer_at, reader_at, with_guests, with_kept, with_consumer, with_writer, with_reader, without_writer, leaves_writer, leaves_reader, with_stream_in}
-use Rattle.strm_world.specs.HostRefusals.{is_unknown_host, is_used, refusal_in}
-use Rattle.strm_world.specs.Does.{is_ended, saids, writers_from, start}
+use Rattle.strm_host_machine.specs.Ends.{Writer, Reader, no_writer, writer_in, polled_writer, given_writer, fed_writer, closed_writer, polled_reader, granted_reader}
+use Rattle.strm_host_machine.specs.Producing.{is_last}
+use Rattle.strm_host_machine.specs.Consuming.{with_taken}
+use Rattle.strm_host_machine.specs.Attaching.{hosted_stream, has_items, new_producer, piped}
+use Rattle.strm_host_machine.specs.HostPlays.{Ends, Halts, play}
+use Rattle.strm_host_machine.specs.World.{World, stream_in, writer_at, reader_at, with_guests, with_kept, with_consumer, with_writer, with_reader, without_writer, leaves_writer, leaves_reader, with_stream_in}
+use Rattle.strm_host_machine.specs.HostRefusals.{is_unknown_host, is_used, refusal_in}
+use Rattle.strm_host_machine.specs.Does.{is_ended, saids, writers_from, start}
 use Rattle.strm_host_laws.specs.HostMoments.{Part, Acts, HostMoment, part_on, host_moments, first_moments, last_of}
 use Rattle.strm_host_laws.specs.HostLaws.{ClosesExactly, EndsExactly}
 use Rattle.strm_host_laws.proofs.Chains.{is_part, Chain, moments-chain, first-chain, StopsAt, play-ends, play-halts}

@@ -14,19 +14,19 @@ use Rattle.strm_machine.specs.declared.streams.Side.TheVariants.{Writing, Readin
 use Rattle.strm_machine.specs.declared.streams.Stream.{Stream}
 use Rattle.strm_machine.specs.declared.replies.Reply.{Reply}
 use Rattle.strm_machine.proofs.StreamSteps.{reaction_streams}
-use Rattle.strm_world.specs.World.{World, stream_in, writer_at}
-use Rattle.strm_world.specs.Outcomes.{Outcome, Goes, Stops, Stuck}
-use Rattle.strm_world.specs.Attaching.{forsaken, hosted_stream}
-use Rattle.strm_world.specs.Producing.{producer_turn}
-use Rattle.strm_world.specs.Consuming.{consumer_turn}
-use Rattle.strm_world.specs.Driving.{if_open, driven_by, drive_turn, numbers_from, round_of}
-use Rattle.strm_world.proofs.OutcomeLemmas.{outcome-trapped}
+use Rattle.strm_host_machine.specs.World.{World, stream_in, writer_at}
+use Rattle.strm_host_machine.specs.Outcomes.{Outcome, Goes, Stops, Stuck}
+use Rattle.strm_host_machine.specs.Attaching.{forsaken, hosted_stream}
+use Rattle.strm_host_machine.specs.Producing.{producer_turn}
+use Rattle.strm_host_machine.specs.Consuming.{consumer_turn}
+use Rattle.strm_host_machine.specs.Driving.{if_open, driven_by, drive_turn, numbers_from, round_of}
+use Rattle.strm_host_machine.proofs.OutcomeLemmas.{outcome-trapped}
 use Rattle.strm_host_laws.specs.HostMoments.{Part, Acts, Turns, HostMoment, parts_of, part_on, followed, acted, host_moments, first_moments}
 use Rattle.strm_host_laws.proofs.Chains.{is_part}
 use Rattle.strm_host_laws.proofs.Forms.{HasTurned, reacted_to, Form, BySame, ByReacting, ByForsaking, ByHosting, ByFeeding, ByGranting, ByPiping, ByTurning, ByPassing, ByCalling}
 use Rattle.strm_host_laws.proofs.Goings.{IfGoes}
 use Rattle.strm_machine.proofs.HostLemmas.{serving_known}
-use Rattle.strm_world.specs.Piping.{pipe_round}
+use Rattle.strm_host_machine.specs.Piping.{pipe_round}
 use Rattle.strm_host_laws.proofs.Rounds.{HasPassed, round_is}
 use Rattle.strm_host_laws.proofs.Standing.{Holds}
 use Rattle.strm_host_laws.proofs.Lives.{Lives, goes_form, goes_lives}

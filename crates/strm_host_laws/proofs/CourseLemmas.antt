@@ -24,10 +24,10 @@ use Rattle.strm_machine.specs.declared.streams.Side.{Side}
 use Rattle.strm_machine.specs.declared.streams.Side.TheVariants.{Writing, Reading}
 use Rattle.strm_machine.specs.declared.streams.Stream.{Stream}
 use Rattle.strm_codes.specs.declared.payloads.Payload.{Payload}
-use Rattle.strm_world.specs.Attaching.{withdrawn, piped, forsaken}
-use Rattle.strm_world.specs.Settling.{went, settled, with_some_received, let_go, moved_on}
-use Rattle.strm_world.specs.Courses.{Holder, AGuest, NoGuest, AHost, NoMore, Poll, Progress, CourseEnd, Course, Reached, reaches, end_on, with_end_on, held_by, is_no_more, is_a_host, report_at, hearing_end, hears, cancels, begins, meets_by, called_by, Calls, course_by}
-use Rattle.strm_world.specs.Courses as courses
+use Rattle.strm_host_machine.specs.Attaching.{withdrawn, piped, forsaken}
+use Rattle.strm_host_machine.specs.Settling.{went, settled, with_some_received, let_go, moved_on}
+use Rattle.strm_host_machine.specs.Courses.{Holder, AGuest, NoGuest, AHost, NoMore, Poll, Progress, CourseEnd, Course, Reached, reaches, end_on, with_end_on, held_by, is_no_more, is_a_host, report_at, hearing_end, hears, cancels, begins, meets_by, called_by, Calls, course_by}
+use Rattle.strm_host_machine.specs.Courses as courses
 use Rattle.strm_host_laws.proofs.Tracing.{holder_of, progress_of, seen_end, seen}
 
 -- ## One end

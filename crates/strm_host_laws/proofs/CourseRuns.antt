@@ -3,9 +3,9 @@
 use Rattle.std.proofs.Common.{◌≡◌, ℕ, ◌<◌, ◌≤◌, List, [], ◌∷◌, ◌++◌, length, refl, sym, ap, subst, ◌∙◌, inl, inr}
 use Rattle.std.proofs.lemmas.Bool.{cases_lt}
 use Rattle.std.proofs.lemmas.List.{append_assoc}
-use Rattle.strm_world.specs.World.{World, stream_in}
+use Rattle.strm_host_machine.specs.World.{World, stream_in}
 use Rattle.strm_host_laws.specs.HostMoments.{HostMoment, last_of}
-use Rattle.strm_world.specs.Courses.{StreamEvent, Course, fresh_course, answers_of, course_by, codes_from, codes_of}
+use Rattle.strm_host_machine.specs.Courses.{StreamEvent, Course, fresh_course, answers_of, course_by, codes_from, codes_of}
 use Rattle.strm_host_laws.specs.StreamEvents.{events_in, events, answered_in, answered}
 use Rattle.strm_host_laws.proofs.Tracing.{course_of}
 use Rattle.strm_host_laws.specs.Isolation.{AnswersByItself}

@@ -24,10 +24,10 @@ use Rattle.strm_machine.specs.declared.replies.Reply.{Reply}
 use Rattle.strm_machine.specs.declared.replies.Reply.TheVariants as replies
 use Rattle.strm_buffers.specs.Tells.{Tells}
 use Rattle.strm_machine.specs.declared.steps.Step.{Step}
-use Rattle.strm_world.specs.Does.{start}
-use Rattle.strm_world.specs.World.{World, stream_in, writer_at, held_of, with_consumer, with_stream_in}
-use Rattle.strm_world.specs.Settling.{result_of}
-use Rattle.strm_world.specs.Attaching.{piped, without_ends, forsaken, hosted_stream}
+use Rattle.strm_host_machine.specs.Does.{start}
+use Rattle.strm_host_machine.specs.World.{World, stream_in, writer_at, held_of, with_consumer, with_stream_in}
+use Rattle.strm_host_machine.specs.Settling.{result_of}
+use Rattle.strm_host_machine.specs.Attaching.{piped, without_ends, forsaken, hosted_stream}
 use Rattle.strm_host_laws.specs.HostMoments.{Part, Acts, HostMoment, first_moments, last_of}
 use Rattle.strm_host_laws.specs.HostLaws.{used_in, items_of, made_of, produced_by, produced_in, produced, host_got_in, host_got, is_made_by, is_hosted, is_piped_in, is_piped, held_by, held_first, DeliversAll}
 use Rattle.strm_host_laws.proofs.Chains.{Follows, Chain, first-chain}

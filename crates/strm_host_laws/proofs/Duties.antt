@@ -19,7 +19,7 @@ use Rattle.strm_machine.specs.declared.streams.Side.{Side}
 use Rattle.strm_machine.specs.declared.streams.Side.TheVariants.{Writing, Reading}
 use Rattle.strm_machine.proofs.HostLemmas.{serving_known, no_host, unless_host}
 use Rattle.strm_machine.proofs.ShapeLemmas.{reaction-consumers}
-use Rattle.strm_world.proofs.SettleLemmas.{is_done_with}
+use Rattle.strm_host_machine.proofs.SettleLemmas.{is_done_with}
 use Rattle.strm_host_laws.specs.HostMoments.{Part, Acts}
 use Rattle.strm_host_laws.specs.HostLaws.{is_piped_in}
 use Rattle.strm_host_laws.proofs.Effects.{opened_by, piped_in, ByStaying, ByGone, ByDry, Pipes, Effect, ByReaction, ByRest, ByHosting, ByPiping, ByDriving, ByPassing, ByCalling, ByForsaking}

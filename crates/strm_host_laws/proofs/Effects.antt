@@ -32,19 +32,19 @@ use Rattle.strm_machine.specs.declared.streams.Stream.{Stream}
 use Rattle.strm_machine.specs.declared.replies.Reply.{Reply}
 use Rattle.strm_machine.specs.declared.replies.Reply.TheVariants as replies
 use Rattle.strm_machine.proofs.ReactionLemmas.{reaction-performs, reaction-refused}
-use Rattle.strm_world.specs.World.{World, stream_in, writer_at, with_consumer, leaves_writer, leaves_reader, with_stream_in}
-use Rattle.strm_world.specs.Outcomes.{Outcome, Goes, Stops, Stuck, then_on, of_reply}
-use Rattle.strm_world.specs.Settling.{with_some_received, answered_with, answered}
-use Rattle.strm_world.specs.Producing.{producer_turn}
-use Rattle.strm_world.specs.Consuming.{consumer_turn}
-use Rattle.strm_world.specs.Attaching.{hosted_stream, has_items, hosts_new, piped, is_dry, without_ends, pipes, forsaken, forsakes}
-use Rattle.strm_world.specs.Piping.{both_gone, pipe_round}
-use Rattle.strm_world.specs.Driving.{if_open, driven_by, drive_turn}
-use Rattle.strm_world.specs.HostRefusals.{is_used, refusal_in}
-use Rattle.strm_world.specs.Steps.{reacts, reads_from, writes_to, operates_by, drops_in, on_host, performs_by, performs_in, unless_refused_in, outcome}
-use Rattle.strm_world.proofs.SettleLemmas.{leaves_writer-stays, delivered-owners, code_told as code_answered, told-nothing}
-use Rattle.strm_world.proofs.TouchLemmas.{names_none, refusal-none, IsDrop, touch-by}
-use Rattle.strm_world.proofs.OutcomeLemmas.{refusal_in-on_end}
+use Rattle.strm_host_machine.specs.World.{World, stream_in, writer_at, with_consumer, leaves_writer, leaves_reader, with_stream_in}
+use Rattle.strm_host_machine.specs.Outcomes.{Outcome, Goes, Stops, Stuck, then_on, of_reply}
+use Rattle.strm_host_machine.specs.Settling.{with_some_received, answered_with, answered}
+use Rattle.strm_host_machine.specs.Producing.{producer_turn}
+use Rattle.strm_host_machine.specs.Consuming.{consumer_turn}
+use Rattle.strm_host_machine.specs.Attaching.{hosted_stream, has_items, hosts_new, piped, is_dry, without_ends, pipes, forsaken, forsakes}
+use Rattle.strm_host_machine.specs.Piping.{both_gone, pipe_round}
+use Rattle.strm_host_machine.specs.Driving.{if_open, driven_by, drive_turn}
+use Rattle.strm_host_machine.specs.HostRefusals.{is_used, refusal_in}
+use Rattle.strm_host_machine.specs.Steps.{reacts, reads_from, writes_to, operates_by, drops_in, on_host, performs_by, performs_in, unless_refused_in, outcome}
+use Rattle.strm_host_machine.proofs.SettleLemmas.{leaves_writer-stays, delivered-owners, code_told as code_answered, told-nothing}
+use Rattle.strm_host_machine.proofs.TouchLemmas.{names_none, refusal-none, IsDrop, touch-by}
+use Rattle.strm_host_machine.proofs.OutcomeLemmas.{refusal_in-on_end}
 use Rattle.strm_host_laws.specs.HostMoments.{Part, Acts, Turns, HostMoment, part_on}
 use Rattle.strm_host_laws.proofs.Chains.{is_part, Follows}
 use Rattle.strm_host_laws.proofs.Goings.{with_state, IfGoes, some_received-by, written-streams}

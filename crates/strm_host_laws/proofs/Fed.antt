@@ -18,12 +18,12 @@ use Rattle.strm_machine.specs.declared.streams.Owner.{Owner}
 use Rattle.strm_machine.specs.declared.streams.Owner.TheVariants.{Host, Gone}
 use Rattle.strm_machine.specs.declared.replies.Reply.{Reply}
 use Rattle.strm_machine.specs.declared.replies.Reply.TheVariants as replies
-use Rattle.strm_world.specs.Ends.{Writer, no_writer, polled_writer, given_writer, fed_writer, closed_writer}
-use Rattle.strm_world.specs.World.{World, stream_in, writer_at, with_consumer, with_writer, leaves_writer, leaves_reader, with_stream_in}
-use Rattle.strm_world.specs.Attaching.{piped}
-use Rattle.strm_world.specs.Outcomes.{Goes}
-use Rattle.strm_world.specs.HostRefusals.{is_unknown_host, refusal_in}
-use Rattle.strm_world.specs.Steps.{performs_in, unless_refused_in, outcome}
+use Rattle.strm_host_machine.specs.Ends.{Writer, no_writer, polled_writer, given_writer, fed_writer, closed_writer}
+use Rattle.strm_host_machine.specs.World.{World, stream_in, writer_at, with_consumer, with_writer, leaves_writer, leaves_reader, with_stream_in}
+use Rattle.strm_host_machine.specs.Attaching.{piped}
+use Rattle.strm_host_machine.specs.Outcomes.{Goes}
+use Rattle.strm_host_machine.specs.HostRefusals.{is_unknown_host, refusal_in}
+use Rattle.strm_host_machine.specs.Steps.{performs_in, unless_refused_in, outcome}
 use Rattle.strm_host_laws.specs.HostMoments.{Part, Acts, HostMoment, part_on, first_moments, last_of}
 use Rattle.strm_host_laws.specs.HostLaws.{used, used_in, all_used, fed_in, all_fed, WriterGoesOn}
 use Rattle.strm_host_laws.proofs.Chains.{is_part, Follows, Chain, first-chain}

@@ -23,23 +23,23 @@ use Rattle.strm_machine.specs.declared.streams.Side.{Side}
 use Rattle.strm_machine.specs.declared.streams.Side.TheVariants.{Writing, Reading}
 use Rattle.strm_machine.specs.declared.replies.Reply.{Reply}
 use Rattle.strm_machine.specs.declared.replies.Reply.TheVariants as replies
-use Rattle.strm_world.specs.Ends.{fed_writer, granted_reader}
-use Rattle.strm_world.specs.World.{World, stream_in, writer_at, reader_at, with_consumer, with_writer, with_reader, with_stream_in}
-use Rattle.strm_world.specs.Outcomes.{Outcome, Goes, Stops, Stuck, then_on, of_reply}
-use Rattle.strm_world.specs.Settling.{answered_with, answered}
-use Rattle.strm_world.specs.Producing.{producer_turn}
-use Rattle.strm_world.specs.Consuming.{consumer_turn}
-use Rattle.strm_world.specs.Attaching.{hosts_new, piped, is_dry, without_ends, pipes, forsaken, forsakes}
-use Rattle.strm_world.specs.Driving.{if_open, driven_by, drive_turn}
-use Rattle.strm_world.proofs.TouchLemmas.{names_none, touch-by}
-use Rattle.strm_world.specs.HostRefusals.{refusal_in}
-use Rattle.strm_world.specs.Steps.{reacts, reads_from, writes_to, operates_by, drops_in, on_host, performs_by, performs_in, unless_refused_in, outcome}
-use Rattle.strm_world.proofs.OutcomeLemmas.{refusal_in-on_end}
+use Rattle.strm_host_machine.specs.Ends.{fed_writer, granted_reader}
+use Rattle.strm_host_machine.specs.World.{World, stream_in, writer_at, reader_at, with_consumer, with_writer, with_reader, with_stream_in}
+use Rattle.strm_host_machine.specs.Outcomes.{Outcome, Goes, Stops, Stuck, then_on, of_reply}
+use Rattle.strm_host_machine.specs.Settling.{answered_with, answered}
+use Rattle.strm_host_machine.specs.Producing.{producer_turn}
+use Rattle.strm_host_machine.specs.Consuming.{consumer_turn}
+use Rattle.strm_host_machine.specs.Attaching.{hosts_new, piped, is_dry, without_ends, pipes, forsaken, forsakes}
+use Rattle.strm_host_machine.specs.Driving.{if_open, driven_by, drive_turn}
+use Rattle.strm_host_machine.proofs.TouchLemmas.{names_none, touch-by}
+use Rattle.strm_host_machine.specs.HostRefusals.{refusal_in}
+use Rattle.strm_host_machine.specs.Steps.{reacts, reads_from, writes_to, operates_by, drops_in, on_host, performs_by, performs_in, unless_refused_in, outcome}
+use Rattle.strm_host_machine.proofs.OutcomeLemmas.{refusal_in-on_end}
 use Rattle.strm_host_laws.specs.HostMoments.{Part, Acts, Turns, part_on}
 use Rattle.strm_host_laws.proofs.Chains.{is_part}
 use Rattle.strm_host_laws.proofs.Goings.{with_state, hosted, piped_to, IfGoes}
 use Rattle.strm_host_laws.proofs.Standing.{Holds, Begun, call_begun}
-use Rattle.strm_world.specs.Piping.{pipe_round}
+use Rattle.strm_host_machine.specs.Piping.{pipe_round}
 use Rattle.strm_host_laws.proofs.Rounds.{Passed, HasPassed, round_is}
 use Rattle.strm_host_laws.proofs.Turned.{Turned, turn_is, Taken, taking_is}
 use Rattle.strm_machine.proofs.HostLemmas.{serving_known, host_number}

@@ -38,8 +38,8 @@ use Rattle.strm_machine.proofs.HostLemmas.{no_host}
 use Rattle.strm_machine.proofs.TallyLemmas.{begins_by}
 use Rattle.strm_machine.proofs.Shapes.{stream_on, begun_on, turn_on, Operates, Shape, ByTurn, BySetting, ByOwner, ByTable, ByPair, ByGuest, ByPut, ByRest as ByRestShape}
 use Rattle.strm_machine.proofs.ShapeLemmas.{reaction-shape, reaction-consumers}
-use Rattle.strm_world.specs.Settling.{result_of, went, settled, since_after}
-use Rattle.strm_world.proofs.SettleLemmas.{is_done_with}
+use Rattle.strm_host_machine.specs.Settling.{result_of, went, settled, since_after}
+use Rattle.strm_host_machine.proofs.SettleLemmas.{is_done_with}
 use Rattle.strm_host_laws.proofs.HostTurns.{since_of, turned_stream, Turned}
 use Rattle.strm_host_laws.proofs.PartsSeen.{IsTaken}
 use Rattle.strm_host_laws.proofs.Standing.{Holds}

@@ -40,12 +40,12 @@ use Rattle.strm_machine.proofs.EndingLemmas.{told-becomes}
 use Rattle.strm_machine.proofs.HostLemmas.{serving_known, unless_host}
 use Rattle.strm_machine.proofs.ShapeLemmas.{reaction-consumers}
 use Rattle.strm_machine.proofs.TableLemmas.{set-keeps}
-use Rattle.strm_world.specs.Attaching.{hosted_stream, piped, without_ends, forsaken}
-use Rattle.strm_world.specs.Ends.{Writer}
-use Rattle.strm_world.specs.HostRefusals.{is_used}
-use Rattle.strm_world.specs.Piping.{both_gone}
-use Rattle.strm_world.specs.Settling.{went, settled, with_some_received}
-use Rattle.strm_world.specs.World.{World, stream_in, writer_at, held_of, with_consumer, leaves_writer, leaves_reader, with_stream_in}
+use Rattle.strm_host_machine.specs.Attaching.{hosted_stream, piped, without_ends, forsaken}
+use Rattle.strm_host_machine.specs.Ends.{Writer}
+use Rattle.strm_host_machine.specs.HostRefusals.{is_used}
+use Rattle.strm_host_machine.specs.Piping.{both_gone}
+use Rattle.strm_host_machine.specs.Settling.{went, settled, with_some_received}
+use Rattle.strm_host_machine.specs.World.{World, stream_in, writer_at, held_of, with_consumer, leaves_writer, leaves_reader, with_stream_in}
 use Rattle.strm_host_laws.specs.HostMoments.{Part, HostMoment}
 use Rattle.strm_host_laws.specs.HostLaws.{items_of}
 use Rattle.strm_host_laws.proofs.Closed.{is_new_reader}

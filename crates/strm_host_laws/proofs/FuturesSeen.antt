@@ -28,8 +28,8 @@ use Rattle.strm_machine.proofs.HostLemmas.{serving_known, no_host}
 use Rattle.strm_machine.proofs.ShapeLemmas.{reaction-consumers}
 use Rattle.strm_machine.proofs.StreamSteps.{reaction_streams}
 use Rattle.strm_machine.proofs.TallyLemmas.{AreOne, PassesOne, begins_by}
-use Rattle.strm_world.specs.Attaching.{withdrawn, piped, without_ends, forsaken}
-use Rattle.strm_world.specs.HostRefusals.{is_used}
+use Rattle.strm_host_machine.specs.Attaching.{withdrawn, piped, without_ends, forsaken}
+use Rattle.strm_host_machine.specs.HostRefusals.{is_used}
 use Rattle.strm_host_laws.specs.HostMoments.{Part}
 use Rattle.strm_host_laws.proofs.Effects.{opened_by, Driven, Calls, piped_in, Piped, ByStaying, ByGone, ByDry, piped_streams, Pipes, forsaken_by, Forsakes, Effect, ByReaction, ByRest, ByHosting, ByPiping, ByDriving, ByPassing, ByCalling, ByForsaking, Passes, passing_other}
 use Rattle.strm_host_laws.proofs.FutureRead.{OpenOne, AreOpenOne, FutureRead, BeginsOne, FutureStep, Leaves, Opens, still_step, future_step, reaction_future, turned_future}

@@ -33,21 +33,21 @@ use Rattle.strm_machine.specs.declared.streams.Side.TheVariants.{Writing, Readin
 use Rattle.strm_machine.specs.declared.streams.Stream.{Stream}
 use Rattle.strm_machine.specs.declared.replies.Reply.{Reply}
 use Rattle.strm_machine.specs.declared.replies.Reply.TheVariants as replies
-use Rattle.strm_world.specs.Ends.{Writer, Reader, polled_writer, fed_writer, polled_reader, granted_reader}
-use Rattle.strm_world.specs.World.{World, stream_in, writer_at, reader_at, held_of, with_guests, with_producer, with_kept, with_consumer, with_writer, with_reader, leaves_writer, leaves_reader, with_stream_in}
-use Rattle.strm_world.specs.Outcomes.{Outcome, Goes, Stops, Stuck, then_on, done, of_reply}
-use Rattle.strm_world.specs.Polls.{AfterWriter, is_failed, is_writer_poll, writer_says, is_reader_poll, tells_truly, reader_says}
-use Rattle.strm_world.specs.Settling.{result_of, with_some_received, moved_on, since_after, answered_with, answered}
-use Rattle.strm_world.specs.Producing.{lowered, receives, with_answer, produced_result, hands_out, hands_over, produces, producer_turn}
-use Rattle.strm_world.specs.Consuming.{lifted, with_taken, gives_up, consumer_turn}
-use Rattle.strm_world.specs.Attaching.{hosted_stream, with_new_stream, new_producer, hosts_new, piped, has_items, is_dry, without_ends, pipes, forsaken, forsakes}
-use Rattle.strm_world.specs.Piping.{wants_items, fetches, gathered, is_resting, passed_on, offers, is_done_with, is_run_dry, both_gone, ends_if_done, pipe_round}
+use Rattle.strm_host_machine.specs.Ends.{Writer, Reader, polled_writer, fed_writer, polled_reader, granted_reader}
+use Rattle.strm_host_machine.specs.World.{World, stream_in, writer_at, reader_at, held_of, with_guests, with_producer, with_kept, with_consumer, with_writer, with_reader, leaves_writer, leaves_reader, with_stream_in}
+use Rattle.strm_host_machine.specs.Outcomes.{Outcome, Goes, Stops, Stuck, then_on, done, of_reply}
+use Rattle.strm_host_machine.specs.Polls.{AfterWriter, is_failed, is_writer_poll, writer_says, is_reader_poll, tells_truly, reader_says}
+use Rattle.strm_host_machine.specs.Settling.{result_of, with_some_received, moved_on, since_after, answered_with, answered}
+use Rattle.strm_host_machine.specs.Producing.{lowered, receives, with_answer, produced_result, hands_out, hands_over, produces, producer_turn}
+use Rattle.strm_host_machine.specs.Consuming.{lifted, with_taken, gives_up, consumer_turn}
+use Rattle.strm_host_machine.specs.Attaching.{hosted_stream, with_new_stream, new_producer, hosts_new, piped, has_items, is_dry, without_ends, pipes, forsaken, forsakes}
+use Rattle.strm_host_machine.specs.Piping.{wants_items, fetches, gathered, is_resting, passed_on, offers, is_done_with, is_run_dry, both_gone, ends_if_done, pipe_round}
 use Rattle.strm_machine.specs.Turns.{with_received}
-use Rattle.strm_world.specs.Driving.{if_open, driven_by, drive_turn}
-use Rattle.strm_world.proofs.TouchLemmas.{touch-by}
-use Rattle.strm_world.specs.HostRefusals.{refusal_in}
-use Rattle.strm_world.specs.Steps.{reacts, reads_from, writes_to, operates_by, drops_in, on_host, performs_by, performs_in, unless_refused_in, outcome}
-use Rattle.strm_world.proofs.SettleLemmas.{is_done_with as is_settled_done, leaves_writer-stays, leaves_reader-stays, delivered-owners}
+use Rattle.strm_host_machine.specs.Driving.{if_open, driven_by, drive_turn}
+use Rattle.strm_host_machine.proofs.TouchLemmas.{touch-by}
+use Rattle.strm_host_machine.specs.HostRefusals.{refusal_in}
+use Rattle.strm_host_machine.specs.Steps.{reacts, reads_from, writes_to, operates_by, drops_in, on_host, performs_by, performs_in, unless_refused_in, outcome}
+use Rattle.strm_host_machine.proofs.SettleLemmas.{is_done_with as is_settled_done, leaves_writer-stays, leaves_reader-stays, delivered-owners}
 use Rattle.strm_host_laws.specs.HostMoments.{Part, Acts, Turns, part_on}
 use Rattle.strm_host_laws.proofs.Chains.{is_part}
 use Rattle.strm_machine.proofs.EndLemmas.{each_side}

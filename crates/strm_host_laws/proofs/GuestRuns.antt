@@ -17,8 +17,8 @@ use Rattle.strm_machine.specs.declared.streams.Stream.{Stream}
 use Rattle.strm_machine.proofs.ArrivalLemmas.{AreBytes}
 use Rattle.strm_machine.proofs.TallyLemmas.{received_one}
 use Rattle.strm_buffers.specs.Tells.{Tells}
-use Rattle.strm_world.specs.World.{World, stream_in}
-use Rattle.strm_world.specs.Does.{start}
+use Rattle.strm_host_machine.specs.World.{World, stream_in}
+use Rattle.strm_host_machine.specs.Does.{start}
 use Rattle.strm_laws.specs.Conservation.{calls, writes, got, all_reported}
 use Rattle.strm_laws.specs.Laws.{AreSteps, total, waiting, moved_at, Conserves, Stands}
 use Rattle.strm_laws.proofs.Calls.{got-push}

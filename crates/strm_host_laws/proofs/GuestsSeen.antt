@@ -30,7 +30,7 @@ use Rattle.strm_machine.proofs.Lawful.{StaysMade}
 use Rattle.strm_machine.proofs.MomentLemmas.{Seen, Untold, unnamed, untold}
 use Rattle.strm_machine.proofs.NamedEndLemmas.{names-unmade}
 use Rattle.strm_machine.proofs.TallyLemmas.{Tallies}
-use Rattle.strm_world.specs.Attaching.{piped, without_ends, forsaken}
+use Rattle.strm_host_machine.specs.Attaching.{piped, without_ends, forsaken}
 use Rattle.strm_host_laws.specs.HostMoments.{Part, Acts, Turns}
 use Rattle.strm_host_laws.specs.HostLaws.{act_in, is_made_by, is_piped_in}
 use Rattle.strm_machine.proofs.ShapeLemmas.{reaction-from, reaction-consumers}

@@ -16,8 +16,8 @@ use Rattle.strm_machine.specs.declared.replies.Reply.{Reply}
 use Rattle.strm_machine.specs.declared.streams.Side.{Side}
 use Rattle.strm_machine.specs.declared.streams.Side.TheVariants.{Writing, Reading}
 use Rattle.strm_machine.proofs.NamedEndLemmas.{NamesEnd, named_itself}
-use Rattle.strm_world.specs.Courses.{StreamEvent, Course, Reached, reaches, fresh_course, is_answered, answers_of, course_by, codes_from}
-use Rattle.strm_world.specs.World.{World, stream_in, writer_at}
+use Rattle.strm_host_machine.specs.Courses.{StreamEvent, Course, Reached, reaches, fresh_course, is_answered, answers_of, course_by, codes_from}
+use Rattle.strm_host_machine.specs.World.{World, stream_in, writer_at}
 use Rattle.strm_host_laws.specs.HostMoments.{Part, Acts, HostMoment}
 use Rattle.strm_host_laws.specs.Isolation.{Stays, LeavesOthers}
 use Rattle.strm_host_laws.specs.StreamEvents.{polls_across, by_name, events_at, events_by_number, events_in, code_answered, answered_at, answered_in}

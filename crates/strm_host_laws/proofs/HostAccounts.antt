@@ -16,7 +16,7 @@ use Rattle.strm_machine.specs.declared.streams.Side.TheVariants.{Writing, Readin
 use Rattle.strm_machine.proofs.Changes.{scene, Change}
 use Rattle.strm_machine.proofs.Lawful.{StaysMade}
 use Rattle.strm_machine.proofs.MomentLemmas.{Untold, nothing_got}
-use Rattle.strm_world.specs.World.{stream_in}
+use Rattle.strm_host_machine.specs.World.{stream_in}
 use Rattle.strm_laws.specs.Conservation.{all_handed}
 use Rattle.strm_laws.specs.Laws.{total, waiting, moved_at, IsAsked}
 use Rattle.strm_laws.proofs.Calls.{calls-push, all_reported-push}

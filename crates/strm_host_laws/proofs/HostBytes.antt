@@ -45,10 +45,10 @@ use Rattle.strm_machine.proofs.StateLemmas.{memory_in-with_memory, memory_in-wit
 use Rattle.strm_machine.proofs.TurnLemmas.{front_inside, size_in}
 use Rattle.strm_machine.proofs.UntouchedLemmas.{FindsRoom, FindsRoomFor, reaction-stays_at, StaysAside-same}
 use Rattle.strm_machine.proofs.StreamSteps.{most_of, set_most, reaction_streams}
-use Rattle.strm_world.specs.Attaching.{piped, without_ends, forsaken}
-use Rattle.strm_world.specs.Producing.{lowered}
-use Rattle.strm_world.specs.World.{World}
-use Rattle.strm_world.specs.Does.{start}
+use Rattle.strm_host_machine.specs.Attaching.{piped, without_ends, forsaken}
+use Rattle.strm_host_machine.specs.Producing.{lowered}
+use Rattle.strm_host_machine.specs.World.{World}
+use Rattle.strm_host_machine.specs.Does.{start}
 use Rattle.strm_laws.specs.Laws.{AreSteps}
 use Rattle.strm_host_laws.specs.HostMoments.{Part, Acts, Turns, HostMoment, first_moments}
 use Rattle.strm_host_laws.specs.HostLaws.{plain, plains}
@@ -62,7 +62,7 @@ use Rattle.strm_host_laws.proofs.GuestsSeen.{moment_in, forsaken_guests}
 use Rattle.strm_host_laws.proofs.Standing.{Holds, Holds-effect, Holds-empty, call_begun, opened_payload, waiting_placed}
 use Rattle.strm_host_laws.proofs.StepsLeft.{left_after, Pays, Costs, first_cost}
 use Rattle.strm_host_laws.proofs.TurnMoves.{moved_on-moves}
-use Rattle.strm_world.proofs.LoweredLemmas.{lowered-keeps}
+use Rattle.strm_host_machine.proofs.LoweredLemmas.{lowered-keeps}
 
 -- ## How many items a part may bring
 

@@ -30,14 +30,14 @@ use Rattle.strm_machine.specs.declared.streams.Side.TheVariants.{Writing, Readin
 use Rattle.strm_machine.specs.declared.streams.Stream.{Stream}
 use Rattle.strm_machine.proofs.RefusalLemmas.{drop_fits, close_fits}
 use Rattle.strm_machine.proofs.TableLemmas.{set-keeps}
-use Rattle.strm_world.specs.Attaching.{hosted_stream, new_producer, piped, has_items, is_dry, without_ends, piped_by, forsaken, forsakes}
-use Rattle.strm_world.specs.Courses.{AHost, NoMore, Begins, Drops, Moves, Course, reaches, end_on, held_by, dropped_by, fresh_course, both_gone_if, course_by, codes_from, is_no_more, is_a_host}
-use Rattle.strm_world.specs.Courses as courses
-use Rattle.strm_world.specs.Ends.{Writer, Reader, no_writer, no_reader, fed_writer, granted_reader}
-use Rattle.strm_world.specs.HostRefusals.{refusal_in, is_used}
-use Rattle.strm_world.specs.Outcomes.{reacted}
-use Rattle.strm_world.specs.World.{World, stream_in, writer_at, reader_at, with_consumer, with_writer, with_reader, leaves_writer, leaves_reader, with_stream_in}
-use Rattle.strm_world.proofs.SettleLemmas.{leaves_writer-stays}
+use Rattle.strm_host_machine.specs.Attaching.{hosted_stream, new_producer, piped, has_items, is_dry, without_ends, piped_by, forsaken, forsakes}
+use Rattle.strm_host_machine.specs.Courses.{AHost, NoMore, Begins, Drops, Moves, Course, reaches, end_on, held_by, dropped_by, fresh_course, both_gone_if, course_by, codes_from, is_no_more, is_a_host}
+use Rattle.strm_host_machine.specs.Courses as courses
+use Rattle.strm_host_machine.specs.Ends.{Writer, Reader, no_writer, no_reader, fed_writer, granted_reader}
+use Rattle.strm_host_machine.specs.HostRefusals.{refusal_in, is_used}
+use Rattle.strm_host_machine.specs.Outcomes.{reacted}
+use Rattle.strm_host_machine.specs.World.{World, stream_in, writer_at, reader_at, with_consumer, with_writer, with_reader, leaves_writer, leaves_reader, with_stream_in}
+use Rattle.strm_host_machine.proofs.SettleLemmas.{leaves_writer-stays}
 use Rattle.strm_host_laws.specs.HostMoments.{Acts}
 use Rattle.strm_host_laws.specs.StreamEvents.{events_in}
 use Rattle.strm_host_laws.proofs.Tracing.{holder_of, held_for, over_for, seen, course_of}

@@ -29,15 +29,15 @@ use Rattle.strm_machine.specs.declared.streams.Stream.{Stream}
 use Rattle.strm_machine.specs.declared.replies.Reply.{Reply}
 use Rattle.strm_machine.specs.declared.replies.Reply.TheVariants as replies
 use Rattle.strm_machine.proofs.TableLemmas.{OwnersStay, set-keeps}
-use Rattle.strm_world.specs.Ends.{polled_writer, polled_reader, given_writer}
-use Rattle.strm_world.specs.World.{World, stream_in, writer_at, reader_at, with_guests, with_producer, with_writer, with_reader, leaves_writer, leaves_reader, with_stream_in}
-use Rattle.strm_world.specs.Outcomes.{Outcome, Goes, Stops, Stuck, done}
-use Rattle.strm_world.specs.Polls.{AfterWriter, AfterReader, is_failed, same_flag, is_writer_poll, writer_says, is_reader_poll, tells_truly, reader_says}
-use Rattle.strm_world.specs.Settling.{result_of, moved_on, since_after}
-use Rattle.strm_world.specs.Attaching.{has_items}
-use Rattle.strm_world.specs.Producing.{lowered, receives, is_last, with_answer, produced_result, produces, producer_turn}
-use Rattle.strm_world.specs.Consuming.{lifted, with_taken, gives_up, consumer_turn}
-use Rattle.strm_world.proofs.SettleLemmas.{is_done_with, leaves_writer-stays, leaves_reader-stays}
+use Rattle.strm_host_machine.specs.Ends.{polled_writer, polled_reader, given_writer}
+use Rattle.strm_host_machine.specs.World.{World, stream_in, writer_at, reader_at, with_guests, with_producer, with_writer, with_reader, leaves_writer, leaves_reader, with_stream_in}
+use Rattle.strm_host_machine.specs.Outcomes.{Outcome, Goes, Stops, Stuck, done}
+use Rattle.strm_host_machine.specs.Polls.{AfterWriter, AfterReader, is_failed, same_flag, is_writer_poll, writer_says, is_reader_poll, tells_truly, reader_says}
+use Rattle.strm_host_machine.specs.Settling.{result_of, moved_on, since_after}
+use Rattle.strm_host_machine.specs.Attaching.{has_items}
+use Rattle.strm_host_machine.specs.Producing.{lowered, receives, is_last, with_answer, produced_result, produces, producer_turn}
+use Rattle.strm_host_machine.specs.Consuming.{lifted, with_taken, gives_up, consumer_turn}
+use Rattle.strm_host_machine.proofs.SettleLemmas.{is_done_with, leaves_writer-stays, leaves_reader-stays}
 use Rattle.strm_host_laws.proofs.Goings.{with_state, gave_up, with_stream_in-same}
 use Rattle.strm_host_laws.proofs.TurnMoves.{moved-theirs, moved-mine}
 

@@ -9,11 +9,11 @@ use Rattle.strm_machine.specs.declared.acts.Act.TheVariants.{Drive}
 use Rattle.strm_machine.specs.declared.limits.Limits.{Limits}
 use Rattle.strm_machine.specs.declared.steps.Step.{Step}
 use Rattle.strm_machine.specs.declared.replies.Reply.{Reply}
-use Rattle.strm_world.specs.Does.{start}
-use Rattle.strm_world.specs.Driving.{numbers_from}
-use Rattle.strm_world.specs.Outcomes.{Outcome, Goes, Stops, Stuck}
-use Rattle.strm_world.specs.World.{World}
-use Rattle.strm_world.proofs.OutcomeLemmas.{outcome-trapped}
+use Rattle.strm_host_machine.specs.Does.{start}
+use Rattle.strm_host_machine.specs.Driving.{numbers_from}
+use Rattle.strm_host_machine.specs.Outcomes.{Outcome, Goes, Stops, Stuck}
+use Rattle.strm_host_machine.specs.World.{World}
+use Rattle.strm_host_machine.proofs.OutcomeLemmas.{outcome-trapped}
 use Rattle.strm_host_laws.specs.HostMoments.{Part, Acts, Turns, HostMoment, parts_of, part_on, followed, acted, host_moments, first_moments, last_of}
 use Rattle.strm_host_laws.specs.Isolation.{LeavesOthers, AreIsolated}
 use Rattle.strm_host_laws.proofs.Chains.{is_part, Follows}

@@ -26,16 +26,16 @@ use Rattle.strm_machine.specs.WaitableSets.{ready_member}
 use Rattle.strm_machine.specs.declared.steps.Step.{Step}
 use Rattle.strm_machine.specs.declared.steps.Step.TheVariants as steps
 use Rattle.strm_machine.specs.declared.streams.Side.TheVariants.{Writing, Reading}
-use Rattle.strm_world.specs.Ends.{no_writer}
-use Rattle.strm_world.specs.World.{World, stream_in, with_stream_in}
-use Rattle.strm_world.specs.Settling.{moved_on}
-use Rattle.strm_world.specs.Producing.{producer_turn}
-use Rattle.strm_world.specs.Attaching.{hosts_new}
-use Rattle.strm_world.specs.Driving.{drive_turn}
-use Rattle.strm_world.specs.HostRefusals.{refusal_in}
-use Rattle.strm_world.specs.Steps.{performs_in, outcome}
+use Rattle.strm_host_machine.specs.Ends.{no_writer}
+use Rattle.strm_host_machine.specs.World.{World, stream_in, with_stream_in}
+use Rattle.strm_host_machine.specs.Settling.{moved_on}
+use Rattle.strm_host_machine.specs.Producing.{producer_turn}
+use Rattle.strm_host_machine.specs.Attaching.{hosts_new}
+use Rattle.strm_host_machine.specs.Driving.{drive_turn}
+use Rattle.strm_host_machine.specs.HostRefusals.{refusal_in}
+use Rattle.strm_host_machine.specs.Steps.{performs_in, outcome}
 use Rattle.strm_host_laws.specs.HostMoments.{HostMoment, host_moments, last_of}
-use Rattle.strm_world.specs.Courses.{AGuest, Poll, StreamEvent, Course, Begins, Calls, Hears, Cancels, Drops, Moves, Turns, course_by, codes_of, fresh_course}
+use Rattle.strm_host_machine.specs.Courses.{AGuest, Poll, StreamEvent, Course, Begins, Calls, Hears, Cancels, Drops, Moves, Turns, course_by, codes_of, fresh_course}
 use Rattle.strm_host_laws.proofs.CourseRuns.{course_after}
 use Rattle.strm_host_laws.specs.StreamEvents.{events, answered}
 use Rattle.strm_host_laws.proofs.Tracing.{course_of}

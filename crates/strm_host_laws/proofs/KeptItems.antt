@@ -17,8 +17,8 @@ use Rattle.strm_machine.specs.declared.streams.Side.{Side}
 use Rattle.strm_machine.specs.declared.streams.Side.TheVariants.{Writing, Reading}
 use Rattle.strm_machine.specs.declared.replies.Reply.{Reply}
 use Rattle.strm_machine.proofs.ShapeLemmas.{reaction-kept_items}
-use Rattle.strm_world.specs.Attaching.{piped, without_ends, forsaken}
-use Rattle.strm_world.specs.World.{World, stream_in, reader_at, with_consumer}
+use Rattle.strm_host_machine.specs.Attaching.{piped, without_ends, forsaken}
+use Rattle.strm_host_machine.specs.World.{World, stream_in, reader_at, with_consumer}
 use Rattle.strm_host_laws.specs.HostMoments.{Part, HostMoment}
 use Rattle.strm_host_laws.specs.HostLaws.{used_by}
 use Rattle.strm_host_laws.proofs.Fed.{used_are}

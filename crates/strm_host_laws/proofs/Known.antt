@@ -21,15 +21,15 @@ use Rattle.strm_machine.specs.declared.streams.Stream.{Stream}
 use Rattle.strm_machine.proofs.ReactionLemmas.{reaction-trapped}
 use Rattle.strm_machine.proofs.ShapeLemmas.{reaction-producers}
 use Rattle.strm_machine.proofs.TableLemmas.{set-keeps}
-use Rattle.strm_world.specs.Ends.{Writer, no_writer, writer_in, polled_writer, given_writer, fed_writer, closed_writer}
-use Rattle.strm_world.specs.World.{World, stream_in, writer_at, with_consumer, leaves_writer, leaves_reader, with_stream_in}
-use Rattle.strm_world.specs.Outcomes.{Outcome, Goes, Stops, Stuck, then_on}
-use Rattle.strm_world.specs.Attaching.{has_items, new_producer, piped}
-use Rattle.strm_world.specs.Releasing.{KnowsHeld, KnowsHeldIn}
-use Rattle.strm_world.specs.Driving.{driven, drive_turn, round_of}
-use Rattle.strm_world.specs.HostRefusals.{refusal_in}
-use Rattle.strm_world.specs.Steps.{outcome, unless_refused_in, performs_in}
-use Rattle.strm_world.specs.Does.{Begins as BeginsWith, AllBegin, saids, Extends, held_while, writers_from, world_of, Does}
+use Rattle.strm_host_machine.specs.Ends.{Writer, no_writer, writer_in, polled_writer, given_writer, fed_writer, closed_writer}
+use Rattle.strm_host_machine.specs.World.{World, stream_in, writer_at, with_consumer, leaves_writer, leaves_reader, with_stream_in}
+use Rattle.strm_host_machine.specs.Outcomes.{Outcome, Goes, Stops, Stuck, then_on}
+use Rattle.strm_host_machine.specs.Attaching.{has_items, new_producer, piped}
+use Rattle.strm_host_machine.specs.Releasing.{KnowsHeld, KnowsHeldIn}
+use Rattle.strm_host_machine.specs.Driving.{driven, drive_turn, round_of}
+use Rattle.strm_host_machine.specs.HostRefusals.{refusal_in}
+use Rattle.strm_host_machine.specs.Steps.{outcome, unless_refused_in, performs_in}
+use Rattle.strm_host_machine.specs.Does.{Begins as BeginsWith, AllBegin, saids, Extends, held_while, writers_from, world_of, Does}
 use Rattle.strm_host_laws.specs.HostMoments.{Acts, Turns}
 use Rattle.strm_host_laws.proofs.Goings.{Begins, Stopping, Rules, Comes, part-comes, feed-comes, grant-comes}
 use Rattle.strm_host_laws.proofs.Rounds.{writer_there}

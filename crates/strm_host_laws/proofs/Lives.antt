@@ -23,10 +23,10 @@ use Rattle.strm_machine.specs.declared.streams.Stream.{Stream}
 use Rattle.strm_machine.specs.declared.replies.Reply.{Reply}
 use Rattle.strm_machine.proofs.HostLemmas.{serving_made}
 use Rattle.strm_machine.proofs.SoundLemmas.{placed_at}
-use Rattle.strm_world.specs.Ends.{Writer, polled_writer, fed_writer}
-use Rattle.strm_world.specs.World.{World, stream_in, writer_at}
-use Rattle.strm_world.specs.Outcomes.{Outcome, Goes, Stops, Stuck}
-use Rattle.strm_world.specs.Does.{SaidFits}
+use Rattle.strm_host_machine.specs.Ends.{Writer, polled_writer, fed_writer}
+use Rattle.strm_host_machine.specs.World.{World, stream_in, writer_at}
+use Rattle.strm_host_machine.specs.Outcomes.{Outcome, Goes, Stops, Stuck}
+use Rattle.strm_host_machine.specs.Does.{SaidFits}
 use Rattle.strm_host_laws.specs.HostMoments.{Part, Acts, HostMoment, part_on}
 use Rattle.strm_host_laws.specs.HostLaws.{Supplies}
 use Rattle.strm_host_laws.proofs.Chains.{is_part}

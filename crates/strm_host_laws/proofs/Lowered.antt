@@ -17,7 +17,7 @@ use Rattle.strm_machine.proofs.CarryLemmas.{no_scalars}
 use Rattle.strm_machine.proofs.StateLemmas.{memory_in-with_memory}
 use Rattle.strm_machine.proofs.TurnLemmas.{front_inside}
 use Rattle.strm_machine.proofs.TurnChangeLemmas.{there}
-use Rattle.strm_world.specs.Producing.{lowered}
+use Rattle.strm_host_machine.specs.Producing.{lowered}
 
 -- items of no scalars are all alike, and lie everywhere
 nothing_decoded : (bytes : List ℕ) (xs : List (List ℤ)) → AreItems [] xs → decoded [] bytes (length xs) ≡ map Some xs

@@ -31,10 +31,10 @@ use Rattle.strm_machine.specs.declared.streams.Stream.{Stream}
 use Rattle.strm_machine.proofs.MomentLemmas.{nothing_got}
 use Rattle.strm_machine.proofs.Shapes.{operating}
 use Rattle.strm_machine.proofs.NamedEndLemmas.{named_itself}
-use Rattle.strm_world.specs.Ends.{Writer}
-use Rattle.strm_world.specs.World.{World, stream_in, writer_at, reader_at, held_of}
-use Rattle.strm_world.specs.Settling.{with_some_received}
-use Rattle.strm_world.specs.Does.{SaidFits}
+use Rattle.strm_host_machine.specs.Ends.{Writer}
+use Rattle.strm_host_machine.specs.World.{World, stream_in, writer_at, reader_at, held_of}
+use Rattle.strm_host_machine.specs.Settling.{with_some_received}
+use Rattle.strm_host_machine.specs.Does.{SaidFits}
 use Rattle.strm_host_laws.specs.HostMoments.{HostMoment}
 use Rattle.strm_host_laws.specs.HostLaws.{used_in, items_of, act_in, plain, produced_by, produced_in, source, used_by, count_taken, taken_from, taken_by, host_taken_in, got_by, host_got_in, Supplies}
 use Rattle.strm_machine.proofs.HostLemmas.{unless_host}

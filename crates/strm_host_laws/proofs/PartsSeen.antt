@@ -30,15 +30,15 @@ use Rattle.strm_machine.proofs.ShapeLemmas.{reaction-shape}
 use Rattle.strm_machine.proofs.Shapes.{stream_on, begun_on, turn_on, Operates, set_by, owned_by, IsFreed, tabled_by, Shape, ByTurn, BySetting, ByOwner, ByTable, ByPair, ByGuest, ByPut, ByRest as ByRestShape}
 use Rattle.strm_machine.proofs.SoundStepLemmas.{operate-keeps}
 use Rattle.std.specs.Option.{option_map}
-use Rattle.strm_world.specs.Attaching.{withdrawn, piped, without_ends, forsaken}
+use Rattle.strm_host_machine.specs.Attaching.{withdrawn, piped, without_ends, forsaken}
 use Rattle.strm_machine.specs.Soundness.{IsUnmoved}
 use Rattle.strm_machine.proofs.SoundLemmas.{left_told}
 use Rattle.strm_machine.proofs.TableLemmas.{OwnersStay}
 use Rattle.strm_codes.specs.declared.codes.StreamResult.{StreamResult}
 use Rattle.strm_codes.specs.declared.payloads.Payload.{Payload}
-use Rattle.strm_world.specs.Settling.{went, settled, with_some_received}
+use Rattle.strm_host_machine.specs.Settling.{went, settled, with_some_received}
 use Rattle.strm_machine.specs.Turns.{with_received}
-use Rattle.strm_world.proofs.SettleLemmas.{is_done_with}
+use Rattle.strm_host_machine.proofs.SettleLemmas.{is_done_with}
 use Rattle.strm_host_laws.specs.HostMoments.{Part}
 use Rattle.strm_host_laws.proofs.HostTurns.{Turned, turned_stream}
 use Rattle.strm_host_laws.proofs.Effects.{opened_by, piped_streams, Pipes, Passes, passing_streams, forsaken_by, Effect, ByReaction, ByRest, ByHosting, ByPiping, ByDriving, ByPassing, ByCalling, ByForsaking}

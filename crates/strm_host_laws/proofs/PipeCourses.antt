@@ -20,17 +20,17 @@ use Rattle.strm_machine.specs.declared.streams.Producer.{Producer}
 use Rattle.strm_machine.specs.declared.streams.Side.TheVariants.{Writing, Reading}
 use Rattle.strm_machine.specs.declared.streams.Stream.{Stream}
 use Rattle.strm_machine.proofs.TableLemmas.{set-keeps}
-use Rattle.strm_world.specs.Attaching.{has_items, without_ends}
-use Rattle.strm_world.specs.Courses.{Course, Poll, fills, empties, ends_round, both_gone_if, with_items}
-use Rattle.strm_world.specs.Courses as courses
-use Rattle.strm_world.specs.Ends.{Writer, Reader, no_writer, no_reader, polled_writer, polled_reader}
-use Rattle.strm_world.specs.Outcomes.{Outcome, Goes, Stops, Stuck, then_on}
-use Rattle.strm_world.specs.Piping.{wants_items, fetches, gathered, is_resting, passed_on, offers, is_done_with, is_run_dry, both_gone, ends_if_done, pipe_round}
-use Rattle.strm_world.specs.Polls.{is_failed, is_writer_poll, writer_says, is_reader_poll, tells_truly, reader_says}
-use Rattle.strm_world.specs.Producing.{is_last, with_answer}
-use Rattle.strm_world.specs.Settling.{with_some_received, since_after}
-use Rattle.strm_world.specs.World.{World, stream_in, writer_at, reader_at, held_of, with_kept, with_consumer, with_writer, with_reader, leaves_writer, leaves_reader, with_stream_in}
-use Rattle.strm_world.proofs.SettleLemmas.{leaves_reader-stays}
+use Rattle.strm_host_machine.specs.Attaching.{has_items, without_ends}
+use Rattle.strm_host_machine.specs.Courses.{Course, Poll, fills, empties, ends_round, both_gone_if, with_items}
+use Rattle.strm_host_machine.specs.Courses as courses
+use Rattle.strm_host_machine.specs.Ends.{Writer, Reader, no_writer, no_reader, polled_writer, polled_reader}
+use Rattle.strm_host_machine.specs.Outcomes.{Outcome, Goes, Stops, Stuck, then_on}
+use Rattle.strm_host_machine.specs.Piping.{wants_items, fetches, gathered, is_resting, passed_on, offers, is_done_with, is_run_dry, both_gone, ends_if_done, pipe_round}
+use Rattle.strm_host_machine.specs.Polls.{is_failed, is_writer_poll, writer_says, is_reader_poll, tells_truly, reader_says}
+use Rattle.strm_host_machine.specs.Producing.{is_last, with_answer}
+use Rattle.strm_host_machine.specs.Settling.{with_some_received, since_after}
+use Rattle.strm_host_machine.specs.World.{World, stream_in, writer_at, reader_at, held_of, with_kept, with_consumer, with_writer, with_reader, leaves_writer, leaves_reader, with_stream_in}
+use Rattle.strm_host_machine.proofs.SettleLemmas.{leaves_reader-stays}
 use Rattle.strm_host_laws.specs.HostLaws.{used}
 use Rattle.strm_host_laws.specs.StreamEvents.{poll_of, poll_of_reader}
 use Rattle.strm_host_laws.proofs.Tracing.{held_for, over_for, seen, course_of}

@@ -19,13 +19,13 @@ use Rattle.strm_machine.specs.declared.steps.Step.{Step}
 use Rattle.strm_machine.specs.declared.steps.Step.TheVariants as steps
 use Rattle.strm_machine.specs.declared.replies.Reply.{Reply}
 use Rattle.strm_machine.specs.declared.replies.Reply.TheVariants as replies
-use Rattle.strm_world.specs.Ends.{Writer, Reader, no_writer, no_reader}
-use Rattle.strm_world.specs.World.{World, stream_in, writer_at, reader_at, with_stream_in}
-use Rattle.strm_world.specs.Attaching.{hosts_new, pipes}
-use Rattle.strm_world.specs.Piping.{pipe_round}
-use Rattle.strm_world.specs.Driving.{drive_turn}
-use Rattle.strm_world.specs.HostRefusals.{refusal_in}
-use Rattle.strm_world.specs.Steps.{performs_in, outcome}
+use Rattle.strm_host_machine.specs.Ends.{Writer, Reader, no_writer, no_reader}
+use Rattle.strm_host_machine.specs.World.{World, stream_in, writer_at, reader_at, with_stream_in}
+use Rattle.strm_host_machine.specs.Attaching.{hosts_new, pipes}
+use Rattle.strm_host_machine.specs.Piping.{pipe_round}
+use Rattle.strm_host_machine.specs.Driving.{drive_turn}
+use Rattle.strm_host_machine.specs.HostRefusals.{refusal_in}
+use Rattle.strm_host_machine.specs.Steps.{performs_in, outcome}
 use Rattle.strm_host_laws.specs.HostMoments.{HostMoment, host_moments, last_of}
 use Rattle.strm_host_laws.specs.HostLaws.{produced, held_first, host_got, all_taken, held_by, is_pipe_of}
 

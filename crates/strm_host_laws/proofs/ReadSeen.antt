@@ -48,9 +48,9 @@ use Rattle.strm_machine.proofs.StreamSteps.{reaction_streams}
 use Rattle.strm_machine.proofs.TallyLemmas.{none_one, none_fresh, PassesOne-by}
 use Rattle.strm_machine.proofs.TurnChangeLemmas.{none_got, still, goes_on}
 use Rattle.strm_laws.proofs.KeptChanges.{scene_with}
-use Rattle.strm_world.specs.Attaching.{withdrawn, piped, without_ends, forsaken}
-use Rattle.strm_world.specs.Settling.{went, settled}
-use Rattle.strm_world.proofs.SettleLemmas.{code_told as code_answered}
+use Rattle.strm_host_machine.specs.Attaching.{withdrawn, piped, without_ends, forsaken}
+use Rattle.strm_host_machine.specs.Settling.{went, settled}
+use Rattle.strm_host_machine.proofs.SettleLemmas.{code_told as code_answered}
 use Rattle.strm_host_laws.specs.HostMoments.{Part, Acts, Turns}
 use Rattle.strm_host_laws.specs.HostLaws.{act_in, write_place, source, taken_in, is_piped_in}
 use Rattle.strm_host_laws.proofs.Effects.{opened_by, Driven, Calls, Hosts, piped_streams, Pipes, forsaken_by, Forsakes, is_idle, Effect, ByReaction, ByRest, ByHosting, ByPiping, ByDriving, ByPassing, ByCalling, ByForsaking, Passes, passing_other}

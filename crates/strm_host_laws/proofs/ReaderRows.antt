@@ -32,14 +32,14 @@ use Rattle.strm_machine.specs.declared.replies.Reply.{Reply}
 use Rattle.strm_machine.specs.declared.replies.Reply.TheVariants as replies
 use Rattle.strm_laws.specs.Conservation.{writes, all_reported, handed, all_handed}
 use Rattle.strm_laws.specs.Laws.{moved_at}
-use Rattle.strm_world.specs.Ends.{Reader, no_reader}
-use Rattle.strm_world.specs.World.{World, stream_in, reader_at, with_stream_in}
-use Rattle.strm_world.specs.Settling.{moved_on}
-use Rattle.strm_world.specs.Consuming.{consumer_turn}
-use Rattle.strm_world.specs.Attaching.{pipes}
-use Rattle.strm_world.specs.Driving.{drive_turn}
-use Rattle.strm_world.specs.HostRefusals.{refusal_in}
-use Rattle.strm_world.specs.Steps.{performs_in, outcome}
+use Rattle.strm_host_machine.specs.Ends.{Reader, no_reader}
+use Rattle.strm_host_machine.specs.World.{World, stream_in, reader_at, with_stream_in}
+use Rattle.strm_host_machine.specs.Settling.{moved_on}
+use Rattle.strm_host_machine.specs.Consuming.{consumer_turn}
+use Rattle.strm_host_machine.specs.Attaching.{pipes}
+use Rattle.strm_host_machine.specs.Driving.{drive_turn}
+use Rattle.strm_host_machine.specs.HostRefusals.{refusal_in}
+use Rattle.strm_host_machine.specs.Steps.{performs_in, outcome}
 use Rattle.strm_host_laws.specs.HostMoments.{HostMoment, host_moments, last_of}
 use Rattle.strm_host_laws.specs.HostLaws.{plains, host_got, all_taken, is_pipe_of, is_piped, all_used_by, all_granted}
 

@@ -25,14 +25,14 @@ use Rattle.strm_machine.specs.declared.streams.Stream.{Stream}
 use Rattle.strm_machine.specs.declared.replies.Reply.{Reply}
 use Rattle.strm_machine.proofs.ShapeLemmas.{reaction-consumers}
 use Rattle.strm_machine.proofs.TableLemmas.{OwnersStay, set-keeps}
-use Rattle.strm_world.specs.Ends.{Writer, Reader, no_reader, reader_in, polled_reader, closed_reader, granted_reader}
-use Rattle.strm_world.specs.World.{World, stream_in, reader_at, with_consumer, with_reader, without_reader, leaves_writer, leaves_reader, with_stream_in}
-use Rattle.strm_world.specs.Consuming.{lifted}
-use Rattle.strm_world.specs.Settling.{since_after}
-use Rattle.strm_world.specs.Attaching.{piped, without_ends, forsaken}
-use Rattle.strm_world.specs.HostPlays.{Ends, Halts, play}
-use Rattle.strm_world.specs.Does.{is_ended, start}
-use Rattle.strm_world.proofs.SettleLemmas.{delivered-owners}
+use Rattle.strm_host_machine.specs.Ends.{Writer, Reader, no_reader, reader_in, polled_reader, closed_reader, granted_reader}
+use Rattle.strm_host_machine.specs.World.{World, stream_in, reader_at, with_consumer, with_reader, without_reader, leaves_writer, leaves_reader, with_stream_in}
+use Rattle.strm_host_machine.specs.Consuming.{lifted}
+use Rattle.strm_host_machine.specs.Settling.{since_after}
+use Rattle.strm_host_machine.specs.Attaching.{piped, without_ends, forsaken}
+use Rattle.strm_host_machine.specs.HostPlays.{Ends, Halts, play}
+use Rattle.strm_host_machine.specs.Does.{is_ended, start}
+use Rattle.strm_host_machine.proofs.SettleLemmas.{delivered-owners}
 use Rattle.strm_host_laws.specs.HostMoments.{Part, Acts, HostMoment, part_on, host_moments, first_moments, last_of}
 use Rattle.strm_host_laws.specs.HostLaws.{ReadersCloseExactly}
 use Rattle.strm_host_laws.proofs.Chains.{is_part, Chain, moments-chain, first-chain, StopsAt, play-ends, play-halts}
@@ -42,8 +42,8 @@ use Rattle.strm_host_laws.proofs.Forms.{HasTurned, opened, called, reacted_to, s
 use Rattle.strm_host_laws.proofs.WrittenBack.{leaves_writer-readers, mid_end}
 use Rattle.strm_host_laws.proofs.Rounds.{between}
 use Rattle.strm_host_laws.proofs.HostTurns.{with_stream_in-kept}
-use Rattle.strm_world.specs.Piping.{both_gone}
-use Rattle.strm_world.specs.Settling.{with_some_received}
+use Rattle.strm_host_machine.specs.Piping.{both_gone}
+use Rattle.strm_host_machine.specs.Settling.{with_some_received}
 use Rattle.strm_machine.specs.declared.streams.End.{End}
 use Rattle.strm_host_laws.proofs.Goings.{with_state, some_received-end, piped_to, Begins, Stopping, Rules, Halted, Comes, IfGoes, with_stream_in-same, part-comes, feed-comes, grant-comes}
 use Rattle.strm_host_laws.proofs.Standing.{Holds, Holds-reaction, Holds-next, Holds-empty, Holds-pipe}

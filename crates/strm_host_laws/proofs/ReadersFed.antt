@@ -18,12 +18,12 @@ use Rattle.strm_machine.specs.declared.streams.Owner.TheVariants.{Host, Gone}
 use Rattle.strm_machine.specs.declared.streams.Stream.{Stream}
 use Rattle.strm_machine.specs.declared.replies.Reply.{Reply}
 use Rattle.strm_machine.specs.declared.replies.Reply.TheVariants as replies
-use Rattle.strm_world.specs.Ends.{Reader, no_reader, polled_reader, closed_reader, granted_reader}
-use Rattle.strm_world.specs.World.{World, stream_in, reader_at, with_consumer, with_reader, leaves_writer, leaves_reader, with_stream_in}
-use Rattle.strm_world.specs.Outcomes.{Goes}
-use Rattle.strm_world.specs.HostRefusals.{is_unknown_host, refusal_in}
-use Rattle.strm_world.specs.Attaching.{piped}
-use Rattle.strm_world.specs.Steps.{performs_in, unless_refused_in, outcome}
+use Rattle.strm_host_machine.specs.Ends.{Reader, no_reader, polled_reader, closed_reader, granted_reader}
+use Rattle.strm_host_machine.specs.World.{World, stream_in, reader_at, with_consumer, with_reader, leaves_writer, leaves_reader, with_stream_in}
+use Rattle.strm_host_machine.specs.Outcomes.{Goes}
+use Rattle.strm_host_machine.specs.HostRefusals.{is_unknown_host, refusal_in}
+use Rattle.strm_host_machine.specs.Attaching.{piped}
+use Rattle.strm_host_machine.specs.Steps.{performs_in, unless_refused_in, outcome}
 use Rattle.strm_host_laws.specs.HostMoments.{Part, Acts, HostMoment, part_on, first_moments, last_of}
 use Rattle.strm_host_laws.specs.HostLaws.{used, used_by, all_used_by, granted_in, all_granted, ReaderGoesOn}
 use Rattle.strm_host_laws.proofs.Chains.{is_part, Follows, Chain, first-chain}

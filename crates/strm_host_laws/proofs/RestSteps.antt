@@ -10,7 +10,7 @@ use Rattle.strm_machine.specs.Making.{made_stream, made_pair, with_stream}
 use Rattle.strm_machine.specs.Tests.{Name, end_named, stream_named, side_named}
 use Rattle.strm_machine.specs.WaitableSets.{set_named, number_named, report_of_named, ready_in}
 use Rattle.strm_machine.proofs.SetStepLemmas.{ready_member-is}
-use Rattle.strm_contexts.specs.Contexts.{Contexts}
+use Rattle.strm_error_contexts.specs.Contexts.{Contexts}
 use Rattle.strm_machine.specs.Reactions.{makes, member_told, polls, performs}
 use Rattle.strm_machine.specs.declared.acts.Act.{Act}
 use Rattle.strm_machine.specs.declared.acts.Act.TheVariants.{Make, OnSet, OnContext, OnMemory}
@@ -23,10 +23,10 @@ use Rattle.strm_machine.specs.declared.replies.Reply.TheVariants as replies
 use Rattle.strm_machine.specs.declared.streams.Side.{Side}
 use Rattle.strm_machine.specs.declared.streams.Stream.{Stream}
 use Rattle.strm_machine.proofs.NamedEndLemmas.{is_end_on, end_there}
-use Rattle.strm_world.specs.Courses.{Hears, reaches, fresh_course}
-use Rattle.strm_world.specs.Outcomes.{reacted}
-use Rattle.strm_world.specs.World.{World, stream_in}
-use Rattle.strm_world.proofs.SettleLemmas.{told-nothing}
+use Rattle.strm_host_machine.specs.Courses.{Hears, reaches, fresh_course}
+use Rattle.strm_host_machine.specs.Outcomes.{reacted}
+use Rattle.strm_host_machine.specs.World.{World, stream_in}
+use Rattle.strm_host_machine.proofs.SettleLemmas.{told-nothing}
 use Rattle.strm_host_laws.specs.HostMoments.{Acts}
 use Rattle.strm_host_laws.specs.Isolation.{Stays}
 use Rattle.strm_host_laws.proofs.Tracing.{held_for, over_for, seen, course_of}

@@ -21,15 +21,15 @@ use Rattle.strm_machine.specs.declared.streams.Stream.{Stream}
 use Rattle.strm_machine.specs.declared.replies.Reply.{Reply}
 use Rattle.strm_machine.specs.declared.replies.Reply.TheVariants as replies
 use Rattle.strm_machine.proofs.TableLemmas.{set-keeps}
-use Rattle.strm_world.specs.Ends.{Writer, Reader, no_writer, no_reader, polled_writer, polled_reader}
-use Rattle.strm_world.specs.World.{World, stream_in, writer_at, reader_at, held_of, with_kept, with_consumer, with_writer, with_reader, with_stream_in}
-use Rattle.strm_world.specs.Outcomes.{Outcome, Goes, Stops, Stuck, done, then_on}
-use Rattle.strm_world.specs.Polls.{is_failed, same_flag, is_writer_poll, writer_says, is_reader_poll, tells_truly, reader_says}
-use Rattle.strm_world.specs.Settling.{with_some_received, since_after}
-use Rattle.strm_world.specs.Producing.{is_last, with_answer}
-use Rattle.strm_world.specs.Attaching.{has_items}
-use Rattle.strm_world.specs.Piping.{wants_items, fetches, gathered, is_resting, passed_on, offers, is_done_with, is_run_dry, both_gone, ends_if_done, pipe_round}
-use Rattle.strm_world.proofs.WorldLemmas.{set-same}
+use Rattle.strm_host_machine.specs.Ends.{Writer, Reader, no_writer, no_reader, polled_writer, polled_reader}
+use Rattle.strm_host_machine.specs.World.{World, stream_in, writer_at, reader_at, held_of, with_kept, with_consumer, with_writer, with_reader, with_stream_in}
+use Rattle.strm_host_machine.specs.Outcomes.{Outcome, Goes, Stops, Stuck, done, then_on}
+use Rattle.strm_host_machine.specs.Polls.{is_failed, same_flag, is_writer_poll, writer_says, is_reader_poll, tells_truly, reader_says}
+use Rattle.strm_host_machine.specs.Settling.{with_some_received, since_after}
+use Rattle.strm_host_machine.specs.Producing.{is_last, with_answer}
+use Rattle.strm_host_machine.specs.Attaching.{has_items}
+use Rattle.strm_host_machine.specs.Piping.{wants_items, fetches, gathered, is_resting, passed_on, offers, is_done_with, is_run_dry, both_gone, ends_if_done, pipe_round}
+use Rattle.strm_host_machine.proofs.WorldLemmas.{set-same}
 use Rattle.strm_host_laws.specs.HostLaws.{items_of, count_taken}
 use Rattle.strm_host_laws.proofs.Goings.{with_state, IfGoes, some_received-kind, written-streams, with_stream_in-same}
 

@@ -40,11 +40,11 @@ use Rattle.strm_machine.proofs.ShapeLemmas.{operate-fits}
 use Rattle.strm_machine.proofs.Shapes.{turn_on, begun_on, Operates}
 use Rattle.strm_machine.proofs.SideLemmas.{same_side_is}
 use Rattle.strm_machine.proofs.SoundStepLemmas.{operate-keeps}
-use Rattle.strm_world.specs.Courses.{Course, Poll, StreamEvent, AGuest, NoGuest, Calls, Hears, Cancels, Drops, Moves, reaches, end_on, held_by, dropped_by, moved_to, is_answered, course_by}
-use Rattle.strm_world.specs.Outcomes.{Outcome, reacted}
-use Rattle.strm_world.specs.Steps.{reacts}
-use Rattle.strm_world.specs.World.{World, stream_in}
-use Rattle.strm_world.proofs.SettleLemmas.{delivered-owners}
+use Rattle.strm_host_machine.specs.Courses.{Course, Poll, StreamEvent, AGuest, NoGuest, Calls, Hears, Cancels, Drops, Moves, reaches, end_on, held_by, dropped_by, moved_to, is_answered, course_by}
+use Rattle.strm_host_machine.specs.Outcomes.{Outcome, reacted}
+use Rattle.strm_host_machine.specs.Steps.{reacts}
+use Rattle.strm_host_machine.specs.World.{World, stream_in}
+use Rattle.strm_host_machine.proofs.SettleLemmas.{delivered-owners}
 use Rattle.strm_host_laws.specs.HostMoments.{Acts, HostMoment}
 use Rattle.strm_host_laws.specs.Isolation.{Stays}
 use Rattle.strm_host_laws.specs.StreamEvents.{polls_across, by_name, by_loose_act, events_by_number, code_answered}

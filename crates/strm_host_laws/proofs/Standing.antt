@@ -50,22 +50,22 @@ use Rattle.strm_machine.proofs.ReactionLemmas.{refusal-on_end}
 use Rattle.strm_machine.proofs.SoundLemmas.{IsSound-guests, IsSound-stream, placed_at, asked-placed, left_told, type_of-same, AreNamed-more}
 use Rattle.strm_machine.proofs.SoundStepLemmas.{operate-keeps, reaction-sound}
 use Rattle.strm_machine.proofs.TableLemmas.{OwnersStay, with_end-owners, handles-same, owner_in, set-keeps, at_push}
-use Rattle.strm_world.specs.HostRefusals.{is_used}
+use Rattle.strm_host_machine.specs.HostRefusals.{is_used}
 use Rattle.strm_buffers.specs.Tells.{Tells}
 use Rattle.std.specs.Option.{option_map}
-use Rattle.strm_world.specs.World.{World}
-use Rattle.strm_world.specs.Does.{start}
-use Rattle.strm_world.specs.Settling.{with_some_received}
-use Rattle.strm_world.specs.Attaching.{withdrawn, piped, without_ends, forsaken}
+use Rattle.strm_host_machine.specs.World.{World}
+use Rattle.strm_host_machine.specs.Does.{start}
+use Rattle.strm_host_machine.specs.Settling.{with_some_received}
+use Rattle.strm_host_machine.specs.Attaching.{withdrawn, piped, without_ends, forsaken}
 use Rattle.strm_host_laws.proofs.Goings.{some_received-by, some_received-end, some_received-payload, some_received-kind}
-use Rattle.strm_world.proofs.SettleLemmas.{is_done_with}
+use Rattle.strm_host_machine.proofs.SettleLemmas.{is_done_with}
 use Rattle.strm_host_laws.specs.HostMoments.{Part, HostMoment, first_moments, last_of}
 use Rattle.strm_host_laws.proofs.Chains.{Follows, Chain, first-chain}
 use Rattle.strm_host_laws.proofs.HostTurns.{leaves_ended, both_ended, with_done, turned_stream, turned_by, Fills, Turned, end_twice}
 use Rattle.strm_host_laws.proofs.Effects.{opened_by, Driven, Calls, Hosts, piped_in, Piped, ByStaying, ByGone, ByDry, Effect, ByReaction, ByRest, ByHosting, ByPiping, ByDriving, ByPassing, ByCalling, ByForsaking, both_over, Passes, passing_made, host_made, follows_effect}
 use Rattle.strm_host_laws.proofs.TurnMoves.{Moves, moved_on-moves, moved-theirs, moved-mine, moves-placed}
 use Rattle.strm_host_laws.proofs.HostsAgree.{StaysOrFree, IsHeld-either, set_either, no_two, one_stream, HostsHold-changed, StaysIdle, HostsHold-set}
-use Rattle.strm_world.proofs.LoweredLemmas.{lowered-keeps}
+use Rattle.strm_host_machine.proofs.LoweredLemmas.{lowered-keeps}
 
 -- ## A read end that is loose
 

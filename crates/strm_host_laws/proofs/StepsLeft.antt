@@ -9,9 +9,9 @@ use Rattle.strm_machine.specs.Moments.{PutsBytes}
 use Rattle.strm_machine.specs.declared.acts.Act.{Act}
 use Rattle.strm_machine.specs.declared.acts.Act.TheVariants.{Drive}
 use Rattle.strm_machine.specs.declared.steps.Step.{Step}
-use Rattle.strm_world.specs.World.{World}
-use Rattle.strm_world.specs.Outcomes.{Outcome, Goes, Stops, Stuck}
-use Rattle.strm_world.specs.Driving.{numbers_from}
+use Rattle.strm_host_machine.specs.World.{World}
+use Rattle.strm_host_machine.specs.Outcomes.{Outcome, Goes, Stops, Stuck}
+use Rattle.strm_host_machine.specs.Driving.{numbers_from}
 use Rattle.strm_laws.specs.Laws.{HasBytes}
 use Rattle.strm_host_laws.specs.HostMoments.{Part, Acts, Turns, HostMoment, parts_of, part_on, followed, acted, host_moments, first_moments}
 

@@ -5,9 +5,9 @@ use Rattle.strm_machine.specs.declared.acts.HostAct.TheVariants.{Feed, Grant}
 use Rattle.strm_machine.specs.declared.replies.Reply.{Reply}
 use Rattle.strm_machine.specs.declared.steps.Step.{Step}
 use Rattle.strm_machine.specs.declared.stops.Stop.{Stop}
-use Rattle.strm_world.specs.Ends.{Writer, Reader, writer_in, reader_in}
-use Rattle.strm_world.specs.World.{World, writer_at, reader_at}
-use Rattle.strm_world.specs.HostPlays.{play, Halts}
+use Rattle.strm_host_machine.specs.Ends.{Writer, Reader, writer_in, reader_in}
+use Rattle.strm_host_machine.specs.World.{World, writer_at, reader_at}
+use Rattle.strm_host_machine.specs.HostPlays.{play, Halts}
 use Rattle.strm_host_laws.specs.HostLaws.{WriterStops, ReaderStops}
 use Rattle.strm_host_laws.specs.HostMoments.{Part, Acts, part_on, host_moments, last_of}
 use Rattle.strm_host_laws.proofs.Chains.{is_part, StopsAt, play-halts}

@@ -32,21 +32,21 @@ use Rattle.strm_machine.proofs.ReactionLemmas.{refusal-on_end, reaction-performs
 use Rattle.strm_machine.proofs.ShapeLemmas.{operate-fits}
 use Rattle.strm_machine.proofs.Shapes.{Operates}
 use Rattle.strm_machine.proofs.TableLemmas.{OwnersStay}
-use Rattle.strm_world.specs.Attaching.{hosts_new, pipes, forsakes}
-use Rattle.strm_world.specs.Consuming.{consumer_turn}
-use Rattle.strm_world.specs.Courses.{Course, AHost, Calls, Turns, Reached, reaches, hears, answers_then, code_or_blocked, called_by, turn_across, with_progress, begins, course_by, report_at}
-use Rattle.strm_world.specs.Courses as courses
-use Rattle.strm_world.specs.Driving.{if_open, driven_by, drive_turn}
-use Rattle.strm_world.specs.HostRefusals.{refusal_in}
-use Rattle.strm_world.specs.Outcomes.{Outcome, Goes, Stops, Stuck, then_on, reacted}
-use Rattle.strm_world.specs.Piping.{pipe_round}
-use Rattle.strm_world.specs.Producing.{producer_turn}
-use Rattle.strm_world.specs.Settling.{answered_with, answered}
-use Rattle.strm_world.specs.Steps.{reacts, reads_from, writes_to, operates_by, drops_in, on_host, performs_in, unless_refused_in, outcome}
-use Rattle.strm_world.specs.World.{World, stream_in, writer_at, reader_at, with_stream_in}
-use Rattle.strm_world.proofs.OutcomeLemmas.{refusal_in-on_end}
-use Rattle.strm_world.proofs.SettleLemmas.{delivered-owners}
-use Rattle.strm_world.proofs.TouchLemmas.{names_none, refusal-none}
+use Rattle.strm_host_machine.specs.Attaching.{hosts_new, pipes, forsakes}
+use Rattle.strm_host_machine.specs.Consuming.{consumer_turn}
+use Rattle.strm_host_machine.specs.Courses.{Course, AHost, Calls, Turns, Reached, reaches, hears, answers_then, code_or_blocked, called_by, turn_across, with_progress, begins, course_by, report_at}
+use Rattle.strm_host_machine.specs.Courses as courses
+use Rattle.strm_host_machine.specs.Driving.{if_open, driven_by, drive_turn}
+use Rattle.strm_host_machine.specs.HostRefusals.{refusal_in}
+use Rattle.strm_host_machine.specs.Outcomes.{Outcome, Goes, Stops, Stuck, then_on, reacted}
+use Rattle.strm_host_machine.specs.Piping.{pipe_round}
+use Rattle.strm_host_machine.specs.Producing.{producer_turn}
+use Rattle.strm_host_machine.specs.Settling.{answered_with, answered}
+use Rattle.strm_host_machine.specs.Steps.{reacts, reads_from, writes_to, operates_by, drops_in, on_host, performs_in, unless_refused_in, outcome}
+use Rattle.strm_host_machine.specs.World.{World, stream_in, writer_at, reader_at, with_stream_in}
+use Rattle.strm_host_machine.proofs.OutcomeLemmas.{refusal_in-on_end}
+use Rattle.strm_host_machine.proofs.SettleLemmas.{delivered-owners}
+use Rattle.strm_host_machine.proofs.TouchLemmas.{names_none, refusal-none}
 use Rattle.strm_buffers.specs.Listing.{Item}
 use Rattle.strm_buffers.specs.declared.answers.ReaderSaid.{ReaderSaid}
 use Rattle.strm_host_laws.specs.HostLaws.{used}

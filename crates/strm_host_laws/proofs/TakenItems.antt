@@ -16,8 +16,8 @@ use Rattle.strm_machine.specs.declared.streams.Owner.TheVariants.{Host}
 use Rattle.strm_machine.specs.declared.streams.Side.TheVariants.{Writing, Reading}
 use Rattle.strm_machine.proofs.ArrivalLemmas.{decoded-items}
 use Rattle.strm_laws.specs.Laws.{AreSteps}
-use Rattle.strm_world.specs.Does.{start}
-use Rattle.strm_world.specs.World.{World, stream_in}
+use Rattle.strm_host_machine.specs.Does.{start}
+use Rattle.strm_host_machine.specs.World.{World, stream_in}
 use Rattle.strm_host_laws.specs.HostMoments.{HostMoment, first_moments}
 use Rattle.strm_host_laws.specs.HostLaws.{plain, taken_in, taken_from, taken_by, host_taken_in, all_taken}
 use Rattle.strm_host_laws.proofs.Chains.{Follows, Chain, first-chain}

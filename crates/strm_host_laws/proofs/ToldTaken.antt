@@ -26,10 +26,10 @@ use Rattle.strm_machine.specs.declared.streams.Side.TheVariants.{Writing, Readin
 use Rattle.strm_machine.proofs.ArrivalLemmas.{decoded-items}
 use Rattle.strm_machine.proofs.HostLemmas.{unless_host}
 use Rattle.strm_laws.specs.Laws.{AreSteps}
-use Rattle.strm_world.specs.Does.{start}
-use Rattle.strm_world.specs.Ends.{Reader}
-use Rattle.strm_world.specs.HostRefusals.{is_used}
-use Rattle.strm_world.specs.World.{World, stream_in, reader_at}
+use Rattle.strm_host_machine.specs.Does.{start}
+use Rattle.strm_host_machine.specs.Ends.{Reader}
+use Rattle.strm_host_machine.specs.HostRefusals.{is_used}
+use Rattle.strm_host_machine.specs.World.{World, stream_in, reader_at}
 use Rattle.strm_host_laws.specs.HostMoments.{Part, Acts, HostMoment, first_moments, last_of}
 use Rattle.strm_host_laws.specs.HostLaws.{plain, taken_in, taken_from, taken_by, host_taken_in, all_taken, is_piped_to, is_pipe_of, is_piped_in, TellsTaken}
 use Rattle.strm_host_laws.proofs.Chains.{Follows, Chain, first-chain}

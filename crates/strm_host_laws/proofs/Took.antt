@@ -24,11 +24,11 @@ use Rattle.strm_machine.proofs.HostLemmas.{unless_host}
 use Rattle.strm_machine.proofs.NamedEndLemmas.{named_itself}
 use Rattle.strm_machine.proofs.Shapes.{operating}
 use Rattle.strm_machine.proofs.TableLemmas.{set-keeps}
-use Rattle.strm_world.specs.Attaching.{piped, without_ends, forsaken, hosted_stream}
-use Rattle.strm_world.specs.Consuming.{lifted}
-use Rattle.strm_world.specs.Ends.{Reader, no_reader, polled_reader, granted_reader}
-use Rattle.strm_world.specs.Settling.{result_of}
-use Rattle.strm_world.specs.World.{World, stream_in, writer_at, reader_at, with_consumer}
+use Rattle.strm_host_machine.specs.Attaching.{piped, without_ends, forsaken, hosted_stream}
+use Rattle.strm_host_machine.specs.Consuming.{lifted}
+use Rattle.strm_host_machine.specs.Ends.{Reader, no_reader, polled_reader, granted_reader}
+use Rattle.strm_host_machine.specs.Settling.{result_of}
+use Rattle.strm_host_machine.specs.World.{World, stream_in, writer_at, reader_at, with_consumer}
 use Rattle.strm_host_laws.specs.HostMoments.{Acts, Turns, HostMoment}
 use Rattle.strm_host_laws.specs.HostLaws.{act_in, plain, source}
 use Rattle.strm_host_laws.proofs.Forms.{opened, called, reacted_to, stream_of, IsTurn, IsRound, IsCall, IsForsaking, IsPiping, Form, BySame, ByReacting, ByForsaking, ByHosting, ByFeeding, ByGranting, ByPiping, ByTurning, ByPassing, ByCalling}

@@ -18,9 +18,9 @@ use Rattle.strm_machine.specs.declared.streams.Side.TheVariants.{Writing, Readin
 use Rattle.strm_machine.specs.declared.streams.Stream.{Stream}
 use Rattle.strm_machine.specs.declared.replies.Reply.{Reply}
 use Rattle.strm_machine.proofs.StreamSteps.{reaction_streams}
-use Rattle.strm_world.specs.Ends.{Writer, no_writer, fed_writer, granted_reader}
-use Rattle.strm_world.specs.World.{World, stream_in, writer_at, reader_at, with_consumer, with_reader, with_stream_in}
-use Rattle.strm_world.specs.Attaching.{piped, is_dry, without_ends, forsaken, hosted_stream}
+use Rattle.strm_host_machine.specs.Ends.{Writer, no_writer, fed_writer, granted_reader}
+use Rattle.strm_host_machine.specs.World.{World, stream_in, writer_at, reader_at, with_consumer, with_reader, with_stream_in}
+use Rattle.strm_host_machine.specs.Attaching.{piped, is_dry, without_ends, forsaken, hosted_stream}
 use Rattle.strm_host_laws.specs.HostMoments.{Part}
 use Rattle.strm_machine.proofs.TableLemmas.{set-keeps}
 use Rattle.strm_host_laws.proofs.Forms.{opened, called, reacted_to, stream_of, IsTurn, IsRound, IsCall, IsForsaking, IsPiping, Form, BySame, ByReacting, ByForsaking, ByHosting, ByFeeding, ByGranting, ByPiping, ByTurning, ByPassing, ByCalling}

@@ -9,8 +9,8 @@ use Rattle.strm_machine.specs.declared.streams.Operation.{Operation}
 use Rattle.strm_machine.specs.declared.streams.Owner.{Owner}
 use Rattle.strm_machine.specs.declared.streams.Owner.TheVariants.{Held, Loose, Host, Gone}
 use Rattle.strm_machine.specs.declared.streams.Stream.{Stream}
-use Rattle.strm_world.specs.Courses.{Holder, AGuest, NoGuest, AHost, NoMore, Progress, CourseEnd, Course}
-use Rattle.strm_world.specs.World.{World, stream_in, held_of}
+use Rattle.strm_host_machine.specs.Courses.{Holder, AGuest, NoGuest, AHost, NoMore, Progress, CourseEnd, Course}
+use Rattle.strm_host_machine.specs.World.{World, stream_in, held_of}
 
 -- who has an end, a guest or a host end, and not which
 abbrev pub holder_of : Owner → Holder

@@ -19,27 +19,27 @@ use Rattle.strm_machine.specs.declared.streams.Side.{Side}
 use Rattle.strm_machine.specs.declared.streams.Side.TheVariants.{Writing, Reading}
 use Rattle.strm_machine.specs.declared.streams.Stream.{Stream}
 use Rattle.strm_machine.specs.declared.replies.Reply.{Reply}
-use Rattle.strm_world.specs.Ends.{Writer, Reader, no_writer, no_reader, polled_writer, given_writer, polled_reader}
-use Rattle.strm_world.specs.Attaching.{has_items}
-use Rattle.strm_world.specs.World.{World, stream_in, writer_at, reader_at, with_guests, with_producer, with_writer, with_reader, with_stream_in}
-use Rattle.strm_world.specs.Outcomes.{Outcome, Goes, Stops, Stuck, done}
-use Rattle.strm_world.specs.Settling.{result_of, since_after}
-use Rattle.strm_world.specs.Consuming.{lifted, consumer_turn}
+use Rattle.strm_host_machine.specs.Ends.{Writer, Reader, no_writer, no_reader, polled_writer, given_writer, polled_reader}
+use Rattle.strm_host_machine.specs.Attaching.{has_items}
+use Rattle.strm_host_machine.specs.World.{World, stream_in, writer_at, reader_at, with_guests, with_producer, with_writer, with_reader, with_stream_in}
+use Rattle.strm_host_machine.specs.Outcomes.{Outcome, Goes, Stops, Stuck, done}
+use Rattle.strm_host_machine.specs.Settling.{result_of, since_after}
+use Rattle.strm_host_machine.specs.Consuming.{lifted, consumer_turn}
 use Rattle.strm_buffers.specs.declared.answers.ReaderSaid.{ReaderSaid}
 use Rattle.strm_machine.specs.declared.streams.Owner.{Owner}
 use Rattle.strm_host_laws.specs.HostLaws.{used}
 use Rattle.strm_host_laws.proofs.Fed.{used_are}
 use Rattle.strm_host_laws.proofs.Rounds.{reader_there}
 use Rattle.strm_host_laws.proofs.TurnMoves.{moved-mine}
-use Rattle.strm_world.specs.Polls.{AfterWriter, is_failed, is_writer_poll, writer_says}
-use Rattle.strm_world.specs.Producing.{lowered, receives, is_last, with_answer, produced_result, produces, producer_turn}
-use Rattle.strm_world.proofs.SettleLemmas.{is_done_with, moved_on-owner}
-use Rattle.strm_world.proofs.WorldLemmas.{set-same}
+use Rattle.strm_host_machine.specs.Polls.{AfterWriter, is_failed, is_writer_poll, writer_says}
+use Rattle.strm_host_machine.specs.Producing.{lowered, receives, is_last, with_answer, produced_result, produces, producer_turn}
+use Rattle.strm_host_machine.proofs.SettleLemmas.{is_done_with, moved_on-owner}
+use Rattle.strm_host_machine.proofs.WorldLemmas.{set-same}
 use Rattle.strm_host_laws.proofs.Goings.{IfGoes}
 use Rattle.strm_host_laws.proofs.Turned.{turned, stream_moved, Turned, turn_is, taken_by, stream_taken, Taken, taking_is}
 use Rattle.strm_host_laws.proofs.WrittenBack.{back-coming, back-told, back-length}
-use Rattle.strm_world.specs.Courses.{Course, Poll, goes_on}
-use Rattle.strm_world.specs.Courses as courses
+use Rattle.strm_host_machine.specs.Courses.{Course, Poll, goes_on}
+use Rattle.strm_host_machine.specs.Courses as courses
 use Rattle.strm_host_laws.specs.StreamEvents.{poll_of, poll_of_reader}
 use Rattle.strm_host_laws.proofs.Tracing.{progress_of, held_for, over_for, seen, course_of}
 use Rattle.strm_host_laws.proofs.HostSteps.{back-course, back-unhosted}

@@ -12,9 +12,9 @@ use Rattle.strm_machine.specs.declared.streams.Owner.TheVariants.{Gone}
 use Rattle.strm_machine.specs.declared.streams.Side.{Side}
 use Rattle.strm_machine.specs.declared.streams.Side.TheVariants.{Writing, Reading}
 use Rattle.strm_machine.specs.declared.streams.Stream.{Stream}
-use Rattle.strm_world.specs.Settling.{went, settled, let_go, moved_on}
-use Rattle.strm_world.proofs.SettleLemmas.{is_done_with}
-use Rattle.strm_world.proofs.LoweredLemmas.{went-placed, settled-placed}
+use Rattle.strm_host_machine.specs.Settling.{went, settled, let_go, moved_on}
+use Rattle.strm_host_machine.proofs.SettleLemmas.{is_done_with}
+use Rattle.strm_host_machine.proofs.LoweredLemmas.{went-placed, settled-placed}
 
 -- what becomes of a stream of which the operation on a side moves n items, and is settled so, if it is
 pub record Moves (side : Side) (old new : Stream) (operation : Operation) (n : ℕ) (result : Option StreamResult) : Type 0 where

@@ -20,15 +20,15 @@ use Rattle.strm_machine.specs.declared.streams.Producer.{Producer}
 use Rattle.strm_machine.specs.declared.streams.Side.TheVariants.{Writing, Reading}
 use Rattle.strm_machine.specs.declared.streams.Stream.{Stream}
 use Rattle.strm_machine.specs.declared.replies.Reply.{Reply}
-use Rattle.strm_world.specs.Ends.{Writer, no_writer, polled_writer, given_writer, polled_reader}
-use Rattle.strm_world.specs.World.{World, stream_in, writer_at, reader_at, with_writer, with_reader, with_stream_in}
-use Rattle.strm_world.specs.Outcomes.{done}
-use Rattle.strm_world.specs.Polls.{AfterWriter, is_failed, is_writer_poll, writer_says, is_reader_poll, are_items, tells_truly, reader_says}
-use Rattle.strm_world.specs.Settling.{result_of, moved_on}
-use Rattle.strm_world.specs.Attaching.{has_items}
-use Rattle.strm_world.specs.Consuming.{lifted, with_taken, consumer_turn}
-use Rattle.strm_world.specs.Producing.{lowered, receives, is_last, with_answer, produced_result, produces, producer_turn}
-use Rattle.strm_world.proofs.WorldLemmas.{set-same}
+use Rattle.strm_host_machine.specs.Ends.{Writer, no_writer, polled_writer, given_writer, polled_reader}
+use Rattle.strm_host_machine.specs.World.{World, stream_in, writer_at, reader_at, with_writer, with_reader, with_stream_in}
+use Rattle.strm_host_machine.specs.Outcomes.{done}
+use Rattle.strm_host_machine.specs.Polls.{AfterWriter, is_failed, is_writer_poll, writer_says, is_reader_poll, are_items, tells_truly, reader_says}
+use Rattle.strm_host_machine.specs.Settling.{result_of, moved_on}
+use Rattle.strm_host_machine.specs.Attaching.{has_items}
+use Rattle.strm_host_machine.specs.Consuming.{lifted, with_taken, consumer_turn}
+use Rattle.strm_host_machine.specs.Producing.{lowered, receives, is_last, with_answer, produced_result, produces, producer_turn}
+use Rattle.strm_host_machine.proofs.WorldLemmas.{set-same}
 use Rattle.strm_host_laws.specs.HostLaws.{items_of}
 use Rattle.strm_host_laws.proofs.Goings.{gave_up, IfGoes}
 use Rattle.strm_host_laws.proofs.Rounds.{IsGoodSaid, one_said}

@@ -13,11 +13,11 @@ use Rattle.strm_machine.specs.declared.streams.Operation.{Operation}
 use Rattle.strm_machine.specs.declared.streams.Side.{Side}
 use Rattle.strm_machine.specs.declared.streams.Side.TheVariants.{Writing, Reading}
 use Rattle.strm_machine.specs.declared.streams.Stream.{Stream}
-use Rattle.strm_world.specs.Ends.{Reader, no_reader, closed_reader, Writer, no_writer, closed_writer}
-use Rattle.strm_world.specs.World.{World, stream_in, reader_at, writer_at, held_of, with_consumer, leaves_writer, leaves_reader, with_stream_in}
-use Rattle.strm_world.specs.Settling.{result_of, with_some_received}
-use Rattle.strm_world.specs.Producing.{lowered}
-use Rattle.strm_world.proofs.SettleLemmas.{is_done_with, moved_on-owner, leaves_writer-stays}
+use Rattle.strm_host_machine.specs.Ends.{Reader, no_reader, closed_reader, Writer, no_writer, closed_writer}
+use Rattle.strm_host_machine.specs.World.{World, stream_in, reader_at, writer_at, held_of, with_consumer, leaves_writer, leaves_reader, with_stream_in}
+use Rattle.strm_host_machine.specs.Settling.{result_of, with_some_received}
+use Rattle.strm_host_machine.specs.Producing.{lowered}
+use Rattle.strm_host_machine.proofs.SettleLemmas.{is_done_with, moved_on-owner, leaves_writer-stays}
 use Rattle.strm_machine.proofs.TableLemmas.{set-keeps}
 use Rattle.strm_host_laws.proofs.Goings.{with_state, some_received-end, written-streams, piped_to}
 use Rattle.strm_host_laws.proofs.Rounds.{Passed}
@@ -26,7 +26,7 @@ use Rattle.strm_machine.specs.declared.acts.NamedEnd.{NamedEnd}
 use Rattle.strm_machine.specs.Sides.{end_of, with_operation}
 use Rattle.strm_machine.specs.Endings.{delivered}
 use Rattle.strm_machine.specs.declared.streams.Duty.TheVariants.{Serves}
-use Rattle.strm_world.specs.Attaching.{piped, without_ends}
+use Rattle.strm_host_machine.specs.Attaching.{piped, without_ends}
 use Rattle.strm_host_laws.proofs.Forms.{HasTurned, IsCall, IsPiping, opened, called, stream_of}
 use Rattle.strm_host_laws.proofs.TurnMoves.{moved-mine}
 use Rattle.strm_host_laws.proofs.Turned.{turned, stream_moved, Turned, taken_by, stream_taken, Taken}

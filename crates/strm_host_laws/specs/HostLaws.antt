@@ -21,9 +21,9 @@ use Rattle.strm_machine.specs.declared.streams.Owner.{Owner}
 use Rattle.strm_machine.specs.declared.streams.Owner.TheVariants.{Host}
 use Rattle.strm_machine.specs.declared.streams.Side.{Side}
 use Rattle.strm_machine.specs.declared.streams.Side.TheVariants.{Writing, Reading}
-use Rattle.strm_world.specs.Ends.{Writer, Reader, writer_in, reader_in}
-use Rattle.strm_world.specs.World.{World, stream_in, writer_at, reader_at, held_of}
-use Rattle.strm_world.specs.Does.{is_ended, SaidFits}
+use Rattle.strm_host_machine.specs.Ends.{Writer, Reader, writer_in, reader_in}
+use Rattle.strm_host_machine.specs.World.{World, stream_in, writer_at, reader_at, held_of}
+use Rattle.strm_host_machine.specs.Does.{is_ended, SaidFits}
 use Rattle.strm_laws.specs.Conservation.{calls, writes, reads, all_reported, all_handed}
 use Rattle.strm_laws.specs.Laws.{total, moved_at, IsAsked}
 use Rattle.strm_host_laws.specs.HostMoments.{Part, Acts, Turns, HostMoment}

@@ -3,8 +3,8 @@
 use Rattle.std.specs.Prelude.{◌≡◌, ℕ, ◌<◌, List, [], length, All}
 use Rattle.strm_machine.specs.State.{producer_at, kept_at, consumer_at}
 use Rattle.strm_machine.specs.declared.streams.Owner.TheVariants.{Host}
-use Rattle.strm_world.specs.Courses.{codes_of}
-use Rattle.strm_world.specs.World.{World, stream_in, writer_at, reader_at}
+use Rattle.strm_host_machine.specs.Courses.{codes_of}
+use Rattle.strm_host_machine.specs.World.{World, stream_in, writer_at, reader_at}
 use Rattle.strm_host_laws.specs.HostMoments.{HostMoment}
 use Rattle.strm_host_laws.specs.StreamEvents.{events_in, events, answered}
 

@@ -22,8 +22,8 @@ use Rattle.strm_machine.specs.declared.streams.Owner.{Owner}
 use Rattle.strm_machine.specs.declared.streams.Owner.TheVariants.{Host}
 use Rattle.strm_machine.specs.declared.streams.Side.{Side}
 use Rattle.strm_machine.specs.declared.streams.Side.TheVariants.{Writing, Reading}
-use Rattle.strm_world.specs.World.{stream_in, writer_at}
-use Rattle.strm_world.specs.Courses.{AGuest, NoGuest, AHost, Poll, StreamEvent, Begins, Calls, Hears, Cancels, Drops, Moves, Turns}
+use Rattle.strm_host_machine.specs.World.{stream_in, writer_at}
+use Rattle.strm_host_machine.specs.Courses.{AGuest, NoGuest, AHost, Poll, StreamEvent, Begins, Calls, Hears, Cancels, Drops, Moves, Turns}
 use Rattle.strm_host_laws.specs.HostMoments.{Part, Acts, Turns as TurnsOf, HostMoment}
 use Rattle.strm_host_laws.specs.HostLaws.{used_in, used_by, act_in}
 

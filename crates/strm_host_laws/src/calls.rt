@@ -1,6 +1,6 @@
 //! What holds of every call that is a step of the machine with host ends.
 //!
-//! Meaning: `Releasing.antt` and `Does.antt` of `strm_world`. Ours.
+//! Meaning: `Releasing.antt` and `Does.antt` of `strm_host_machine`. Ours.
 
 ghost use Rattle.std.specs.Prelude.{◌≡◌, Ok};
 ghost use Rattle.strm_buffers.specs.Tells.{Tells};
@@ -8,9 +8,9 @@ ghost use Rattle.strm_machine.specs.State.{State};
 ghost use Rattle.strm_machine.specs.Reactions.{reaction};
 ghost use Rattle.strm_machine.specs.declared.acts.Act.{Act};
 ghost use Rattle.strm_machine.specs.declared.replies.Reply.{Reply};
-ghost use Rattle.strm_world.specs.Releasing.{KnowsHeld};
-ghost use Rattle.strm_world.specs.Steps.{outcome};
-ghost use Rattle.strm_world.specs.Does.{Does};
+ghost use Rattle.strm_host_machine.specs.Releasing.{KnowsHeld};
+ghost use Rattle.strm_host_machine.specs.Steps.{outcome};
+ghost use Rattle.strm_host_machine.specs.Does.{Does};
 
 /// A store that knows which of its host writers hold items knows it after every call that answers or
 /// refuses: one with host ends, and one that touches none. A store that a call trapped need not.

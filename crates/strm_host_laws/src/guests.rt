@@ -15,8 +15,8 @@ ghost use Rattle.strm_machine.specs.declared.steps.Step.{Step};
 ghost use Rattle.strm_machine.specs.declared.streams.Side.{Side};
 ghost use Rattle.strm_laws.specs.Conservation.{calls, got};
 ghost use Rattle.strm_laws.specs.Laws.{AreSteps, AreCounted, Conserves, Stands, HandlesHold, HandlesAreSingle, MembersAreLive, ContextsCount, waiting};
-ghost use Rattle.strm_world.specs.World.{stream_in};
-ghost use Rattle.strm_world.specs.Does.{start};
+ghost use Rattle.strm_host_machine.specs.World.{stream_in};
+ghost use Rattle.strm_host_machine.specs.Does.{start};
 ghost use Rattle.strm_host_laws.specs.HostMoments.{first_moments, last_of};
 ghost use Rattle.strm_host_laws.specs.HostLaws.{plains, is_hosted, is_piped, host_got, ConservesAmong, MovesByHosts};
 

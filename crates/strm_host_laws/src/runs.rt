@@ -1,6 +1,6 @@
 //! The laws, for whichever steps, of a run from an unused store among whichever host ends.
 //!
-//! Meaning: `HostLaws.antt`, `HostMoments.antt`, and `HostPlays.antt` and `Does.antt` of `strm_world`.
+//! Meaning: `HostLaws.antt`, `HostMoments.antt`, and `HostPlays.antt` and `Does.antt` of `strm_host_machine`.
 //! Ours.
 
 ghost use Rattle.std.specs.Prelude.{◌≡◌, ℕ, ◌≤◌, List, [], length};
@@ -9,10 +9,10 @@ ghost use Rattle.strm_machine.specs.declared.limits.Limits.{Limits};
 ghost use Rattle.strm_machine.specs.declared.replies.Reply.{Reply};
 ghost use Rattle.strm_machine.specs.declared.steps.Step.{Step};
 ghost use Rattle.strm_machine.specs.declared.stops.Stop.{Stop};
-ghost use Rattle.strm_world.specs.Ends.{Writer, Reader, writer_in, reader_in};
-ghost use Rattle.strm_world.specs.World.{World, writer_at, reader_at};
-ghost use Rattle.strm_world.specs.HostPlays.{Ends, Halts, play};
-ghost use Rattle.strm_world.specs.Does.{start};
+ghost use Rattle.strm_host_machine.specs.Ends.{Writer, Reader, writer_in, reader_in};
+ghost use Rattle.strm_host_machine.specs.World.{World, writer_at, reader_at};
+ghost use Rattle.strm_host_machine.specs.HostPlays.{Ends, Halts, play};
+ghost use Rattle.strm_host_machine.specs.Does.{start};
 ghost use Rattle.strm_laws.specs.Laws.{AreSteps};
 ghost use Rattle.strm_host_laws.specs.HostMoments.{host_moments, first_moments, last_of};
 ghost use Rattle.strm_host_laws.specs.Isolation.{AreIsolated};

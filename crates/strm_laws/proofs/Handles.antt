@@ -8,7 +8,7 @@ use Rattle.strm_machine.specs.declared.limits.Limits.{Limits}
 use Rattle.strm_machine.specs.declared.steps.Step.{Step}
 use Rattle.strm_handles.specs.Handles.{entry_at}
 use Rattle.strm_handles.specs.Lookups.{error_context_rep_of}
-use Rattle.strm_contexts.specs.Contexts.{Context, context_at, handles_of}
+use Rattle.strm_error_contexts.specs.Contexts.{Context, context_at, handles_of}
 use Rattle.strm_machine.specs.ErrorContexts.{context_number}
 use Rattle.strm_machine.proofs.AgreeLemmas.{Agree-single, Agree-unheld}
 use Rattle.strm_machine.proofs.EmptyLemmas.{IsSound-empty, StateIsHeld-empty}

@@ -25,7 +25,7 @@ use Rattle.strm_machine.specs.declared.replies.Reply.TheVariants as replies
 use Rattle.strm_machine.specs.Moments.{decoded}
 use Rattle.strm_laws.specs.Conservation.{moments, last, got, handed, all_handed, writes, reads}
 use Rattle.strm_laws.specs.Laws.{moved_at}
-use Rattle.strm_sets.specs.Sets.{no_sets}
+use Rattle.strm_waitable_sets.specs.Sets.{no_sets}
 use Rattle.strm_laws.proofs.Answered.{Answer, Answered, moments_by, last_state, AllGive, steps_of, moments-by, last-state}
 
 abbrev pub bytes : TransmitIndex

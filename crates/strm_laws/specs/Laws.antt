@@ -4,9 +4,9 @@ use Rattle.strm_codes.specs.Counts.{count_limit}
 use Rattle.strm_codes.specs.Layout.{scalars_of, item_size}
 use Rattle.strm_codes.specs.declared.codes.TransmitKind.{TransmitKind}
 use Rattle.strm_codes.specs.declared.payloads.Payload.{Payload}
-use Rattle.strm_sets.specs.Sets.{is_there, is_member}
-use Rattle.strm_contexts.specs.Contexts.{count_at}
-use Rattle.strm_contexts.specs.Contexts as contexts
+use Rattle.strm_waitable_sets.specs.Sets.{is_there, is_member}
+use Rattle.strm_error_contexts.specs.Contexts.{count_at}
+use Rattle.strm_error_contexts.specs.Contexts as contexts
 use Rattle.strm_machine.specs.State.{State, sets_in, stream_at, is_held}
 use Rattle.strm_machine.specs.WaitableSets.{set_named}
 use Rattle.strm_machine.specs.ErrorContexts.{all_handles_to, context_named, message_named}

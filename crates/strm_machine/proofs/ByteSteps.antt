@@ -4,7 +4,7 @@ use Rattle.std.proofs.lemmas.Bool.{cond_both}
 use Rattle.std.proofs.lemmas.List.Elements.{All-push, All-set}
 use Rattle.strm_memory.specs.Bytes.{IsBytes}
 use Rattle.strm_handles.specs.Handles.{inserted}
-use Rattle.strm_sets.specs.Sets.{left}
+use Rattle.strm_waitable_sets.specs.Sets.{left}
 use Rattle.strm_machine.specs.Words.{Guest, ReturnCode, Handles, Sets, Entry, removed, State, guest_in, memory_in, sets_in, with_table, opposite, same_side, end_of, carried, Turn, named, stream_named, Reaction, written_back, IsSound, Act, Side, Writing, Reading, Operation, Stream}
 use Rattle.strm_machine.specs.Making.{end_entry, with_stream}
 use Rattle.strm_machine.specs.Moments.{PutsBytes}

@@ -10,7 +10,7 @@ use Rattle.strm_handles.specs.Handles.{handle_limit, entry_at, next_index, inser
 use Rattle.strm_handles.specs.Lookups.{end_rep_in, error_context_rep_in}
 use Rattle.strm_handles.specs.declared.entries.Entry.TheVariants as entries
 use Rattle.strm_handles.proofs.HandleLemmas.{entry_at-next_index, entry_at-inserted-same, entry_at-inserted-other, entry_at-removed-same, entry_at-removed-other}
-use Rattle.strm_contexts.specs.Contexts.{Contexts, is_there, next_number, inserted as with_message, raised, dropped as less}
+use Rattle.strm_error_contexts.specs.Contexts.{Contexts, is_there, next_number, inserted as with_message, raised, dropped as less}
 use Rattle.strm_machine.specs.Words.{Handles, Entry, removed, State, guest_in, memory_in, sets_in, with_table, is_end, first_of, next_in, IsSound, Act, Make, Reply}
 use Rattle.strm_machine.specs.State.{handles_in_use, places_in_use}
 use Rattle.strm_machine.specs.Tests.{is_unknown_guest, is_no_handle, are_handles_full, are_places_full, are_bytes_out_of_bounds}

@@ -12,8 +12,8 @@ use Rattle.strm_handles.specs.Lookups.{end_rep_in, waitable_set_rep_in, error_co
 use Rattle.strm_handles.specs.declared.entries.Entry.TheVariants as entries
 use Rattle.strm_handles.proofs.HandleLemmas.{given, inserted_sum, sum_by-entries_with}
 use Rattle.strm_resources.proofs.SlotLemmas.{by_eq}
-use Rattle.strm_contexts.specs.Contexts.{Context, Contexts, no_contexts, context_at, is_there, handles_of as context_handles, count_at, next_number, new_context, inserted as with_message, with_handles as with_count, counted, raised, lowered, dropped, removed as without, AreKept}
-use Rattle.strm_contexts.proofs.KeptLemmas.{kept-none, next_is_free, context_at-inserted, kept-inserted, context_at-counted, kept-counted, context_at-removed, kept-dropped}
+use Rattle.strm_error_contexts.specs.Contexts.{Context, Contexts, no_contexts, context_at, is_there, handles_of as context_handles, count_at, next_number, new_context, inserted as with_message, with_handles as with_count, counted, raised, lowered, dropped, removed as without, AreKept}
+use Rattle.strm_error_contexts.proofs.KeptLemmas.{kept-none, next_is_free, context_at-inserted, kept-inserted, context_at-counted, kept-counted, context_at-removed, kept-dropped}
 use Rattle.strm_machine.specs.Words.{Guest, Handles, Entry, Sets, State, no_guest, no_handles, guest_in, with_table, removed}
 use Rattle.strm_machine.specs.State.{handles_in_use}
 use Rattle.strm_machine.specs.ErrorContexts.{leads_to, handles_to, all_handles_to, bytes_of_message}

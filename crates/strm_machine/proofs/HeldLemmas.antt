@@ -7,7 +7,7 @@ use Rattle.strm_codes.specs.declared.codes.TransmitIndex.TheVariants as index
 use Rattle.strm_handles.specs.Handles.{handle_limit, entry_at, next_index, inserted, IsTable}
 use Rattle.strm_handles.specs.Lookups.{end_rep_in, end_rep_of}
 use Rattle.strm_handles.proofs.HandleLemmas.{IsTable-inserted, IsTable-removed, entry_at-next_index, entry_at-inserted-same, entry_at-inserted-other, entry_at-removed-same, entry_at-removed-other}
-use Rattle.strm_sets.specs.Sets.{left}
+use Rattle.strm_waitable_sets.specs.Sets.{left}
 use Rattle.strm_machine.specs.State.{idle_end}
 use Rattle.strm_machine.specs.Making.{read_entry, write_entry, end_entry, with_read_end, made_stream, made_pair, with_stream}
 use Rattle.strm_machine.specs.Reactions.{reaction}

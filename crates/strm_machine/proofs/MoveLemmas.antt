@@ -9,7 +9,7 @@ use Rattle.strm_codes.specs.declared.payloads.Payload.TheVariants.{Nothing}
 use Rattle.std.specs.Prelude.{is_ok}
 use Rattle.strm_handles.specs.Handles.{inserted}
 use Rattle.strm_handles.specs.Lookups.{end_rep_in}
-use Rattle.strm_sets.specs.Sets.{left}
+use Rattle.strm_waitable_sets.specs.Sets.{left}
 use Rattle.strm_machine.specs.Making.{end_entry}
 use Rattle.strm_machine.specs.Soundness.{type_of, types_of, EntryIsNamed}
 use Rattle.strm_machine.proofs.EndLemmas.{Unchanged, with_end-type}

@@ -11,8 +11,8 @@ use Rattle.strm_handles.specs.Handles.{handle_limit, entry_at, next_index, inser
 use Rattle.strm_handles.specs.Lookups.{end_rep_in, end_rep_of, waitable_set_rep_in}
 use Rattle.strm_handles.specs.declared.entries.Entry.TheVariants as entries
 use Rattle.strm_handles.proofs.HandleLemmas.{entry_at-next_index, entry_at-inserted-same, entry_at-inserted-other, entry_at-removed-same, entry_at-removed-other}
-use Rattle.strm_sets.specs.Sets.{is_member, members, least_free, with_new_set, joined, left, without_set, HasMember, HasNoMember, IsLeastReady, NoneReady}
-use Rattle.strm_sets.proofs.SetLemmas.{among_members, found_member, least_found, none_found}
+use Rattle.strm_waitable_sets.specs.Sets.{is_member, members, least_free, with_new_set, joined, left, without_set, HasMember, HasNoMember, IsLeastReady, NoneReady}
+use Rattle.strm_waitable_sets.proofs.SetLemmas.{among_members, found_member, least_found, none_found}
 use Rattle.strm_machine.specs.State.{handles_in_use, places_in_use}
 use Rattle.strm_machine.specs.Endings.{delivered}
 use Rattle.strm_machine.specs.Tests.{is_unknown_guest, is_no_handle, are_handles_full, are_places_full, side_named}

@@ -5,9 +5,9 @@ use Rattle.strm_handles.specs.Handles.{handle_limit, next_index, inserted}
 use Rattle.strm_handles.specs.Lookups.{end_rep_of}
 use Rattle.strm_machine.specs.Meetings.{begun}
 use Rattle.strm_machine.specs.Making.{end_entry}
-use Rattle.strm_sets.specs.Sets.{left}
+use Rattle.strm_waitable_sets.specs.Sets.{left}
 use Rattle.strm_memory.specs.Bytes.{IsBytes}
-use Rattle.strm_contexts.specs.Contexts.{Contexts}
+use Rattle.strm_error_contexts.specs.Contexts.{Contexts}
 use Rattle.strm_machine.specs.State.{is_host, with_bytes}
 use Rattle.strm_machine.specs.Soundness.{type_of, types_of, AreNamed, HoldsContexts}
 use Rattle.strm_machine.specs.Turns.{turn}

@@ -12,8 +12,8 @@ use Rattle.strm_codes.specs.declared.codes.TransmitIndex.TheVariants as index
 use Rattle.strm_codes.specs.declared.payloads.Payload.TheVariants.{Nothing}
 use Rattle.strm_handles.specs.Handles.{handle_limit, entry_at, next_index, inserted, inserted_in, entries_with}
 use Rattle.strm_handles.specs.Lookups.{end_rep_in}
-use Rattle.strm_sets.specs.Sets.{left}
-use Rattle.strm_contexts.specs.Contexts.{Contexts}
+use Rattle.strm_waitable_sets.specs.Sets.{left}
+use Rattle.strm_error_contexts.specs.Contexts.{Contexts}
 use Rattle.strm_handles.specs.declared.entries.Entry.TheVariants as entries
 use Rattle.strm_handles.specs.declared.entries.TransmitEnd.{TransmitEnd}
 use Rattle.strm_handles.specs.Ends.{read_end, write_end}

@@ -10,7 +10,7 @@ use Rattle.strm_handles.specs.declared.entries.Entry.{Entry}
 use Rattle.strm_handles.specs.declared.entries.Entry.TheVariants as entries
 use Rattle.strm_handles.specs.declared.errors.HandleError.{HandleError}
 use Rattle.strm_memory.specs.Bytes.{bytes_at}
-use Rattle.strm_contexts.specs.Contexts.{Contexts, is_there, message_at, next_number, inserted as with_message, raised, dropped}
+use Rattle.strm_error_contexts.specs.Contexts.{Contexts, is_there, message_at, next_number, inserted as with_message, raised, dropped}
 use Rattle.strm_machine.specs.State.{State, Guest, guest_in, memory_in, with_handles}
 use Rattle.strm_machine.specs.WaitableSets.{number_named}
 

@@ -5,7 +5,7 @@
 use Rattle.std.specs.Prelude.{ℕ}
 use Rattle.strm_codes.specs.declared.codes.TransmitIndex.{TransmitIndex}
 use Rattle.strm_handles.specs.Handles.{next_index, inserted, removed}
-use Rattle.strm_sets.specs.Sets.{left}
+use Rattle.strm_waitable_sets.specs.Sets.{left}
 use Rattle.strm_machine.specs.State.{State, guest_in, with_handles, with_table}
 use Rattle.strm_machine.specs.Sides.{end_of, with_end}
 use Rattle.strm_machine.specs.Making.{end_entry}

@@ -8,8 +8,8 @@ use Rattle.strm_codes.specs.declared.codes.TransmitKind.TheVariants.{Stream as A
 use Rattle.strm_codes.specs.declared.payloads.Payload.TheVariants.{Nothing}
 use Rattle.strm_handles.specs.Handles.{Handles, no_handles, live_of}
 use Rattle.strm_memory.specs.Bytes.{put_at}
-use Rattle.strm_sets.specs.Sets.{Sets, no_sets}
-use Rattle.strm_contexts.specs.Contexts.{Contexts, no_contexts, len as contexts_there}
+use Rattle.strm_waitable_sets.specs.Sets.{Sets, no_sets}
+use Rattle.strm_error_contexts.specs.Contexts.{Contexts, no_contexts, len as contexts_there}
 use Rattle.strm_machine.specs.declared.limits.Limits.{Limits}
 use Rattle.strm_machine.specs.declared.streams.Owner.{Owner}
 use Rattle.strm_machine.specs.declared.streams.Owner.TheVariants.{Held, Loose, Host, Gone}

@@ -10,7 +10,7 @@ use Rattle.strm_handles.specs.Handles.{inserted, removed}
 use Rattle.strm_handles.specs.Lookups.{waitable_set_rep_of}
 use Rattle.strm_handles.specs.declared.entries.Entry.TheVariants as entries
 use Rattle.strm_handles.specs.declared.errors.HandleError.{HandleError}
-use Rattle.strm_sets.specs.Sets.{Sets, members, set_of, least_free, with_new_set, joined, left, without_set}
+use Rattle.strm_waitable_sets.specs.Sets.{Sets, members, set_of, least_free, with_new_set, joined, left, without_set}
 use Rattle.strm_machine.specs.State.{State, guest_in, sets_in, with_sets, with_table, stream_at}
 use Rattle.strm_machine.specs.Tests.{Name, end_named, side_of}
 use Rattle.strm_machine.specs.Endings.{report_on}

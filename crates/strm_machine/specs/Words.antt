@@ -38,4 +38,4 @@ pub use Rattle.strm_machine.specs.declared.streams.Side.TheVariants.{Reading, Wr
 pub use Rattle.strm_machine.specs.declared.streams.Stream.{Stream}
 pub use Rattle.strm_memory.specs.Bytes.{put_at}
 pub use Rattle.strm_memory.specs.Items.{items_at, stored_at}
-pub use Rattle.strm_sets.specs.Sets.{Sets, no_sets}
+pub use Rattle.strm_waitable_sets.specs.Sets.{Sets, no_sets}

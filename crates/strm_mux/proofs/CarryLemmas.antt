@@ -24,7 +24,7 @@ use Rattle.strm_frames.specs.Demuxes.{Heard, IsFed}
 use Rattle.strm_frames.specs.Muxes.{Written, Carries}
 use Rattle.strm_frames.proofs.ReadingLemmas.{one_split}
 use Rattle.strm_frames.proofs.DemuxLemmas.{nothing_part}
-use Rattle.strm_one_stream.specs.OneStream.{byte_stream, reads_of, piece_of, pieces_of, script_of, CanCarry, AreSettled}
+use Rattle.strm_carry_laws.specs.OneStream.{byte_stream, reads_of, piece_of, pieces_of, script_of, CanCarry, AreSettled}
 use Rattle.strm_mux.specs.Carrying.{Delivers, IsOneCount}
 
 -- THE SCRIPT

@@ -11,7 +11,7 @@ use Rattle.strm_frames.specs.declared.errors.Fault.{Fault}
 use Rattle.strm_frames.proofs.DemuxLemmas.{nothing_part}
 use Rattle.strm_frames.proofs.ReadingLemmas.{apart, stays}
 use Rattle.strm_machine.specs.declared.replies.Reply.{Reply}
-use Rattle.strm_one_stream.specs.OneStream.{dumped_in, dumped}
+use Rattle.strm_carry_laws.specs.OneStream.{dumped_in, dumped}
 use Rattle.strm_mux.specs.Hearing.{HearsOn}
 
 pub all_splits : (bytes : List ℕ) (w : AreWhole bytes) → Splits bytes w.frames []

@@ -3,7 +3,7 @@ use Rattle.std.proofs.Common.{◌≡◌, ℕ, zero, suc, ◌-◌, ◌<◌, ◌�
 use Rattle.std.proofs.lemmas.List.{append-nil, append_assoc, take_min, drop_min, nil_from_length}
 use Rattle.strm_machine.specs.declared.steps.Step.{Step}
 use Rattle.strm_machine.specs.declared.steps.Step.TheVariants as steps
-use Rattle.strm_one_stream.specs.OneStream.{byte_stream, reads_of, piece_of, pieces_of, script_of}
+use Rattle.strm_carry_laws.specs.OneStream.{byte_stream, reads_of, piece_of, pieces_of, script_of}
 
 -- it doesn't matter how many reads may come, if it's enough
 reads_enough : (f g r j : ℕ) → 0 < r → j ≤ f → j ≤ g → reads_of f r j ≡ reads_of g r j

@@ -5,12 +5,12 @@ use Rattle.strm_laws.specs.Conservation.{got, moments, last}
 use Rattle.strm_machine.specs.Moments.{received}
 use Rattle.strm_machine.specs.Plays.{play, Ends}
 use Rattle.strm_machine.specs.declared.replies.Reply.{Reply}
-use Rattle.strm_ports.specs.Faults.{Rose}
+use Rattle.strm_input_output.specs.Faults.{Rose}
 use Rattle.strm_lines.specs.Grammar.{IsBetween}
 use Rattle.strm_lines.specs.Lines.{lines_of}
 use Rattle.strm_lines.specs.Text.{bad_line_text, too_long_text, read_fault_text}
 use Rattle.strm_frames.specs.Frames.{Frame, spelling}
-use Rattle.strm_one_stream.specs.OneStream.{script_of, items_of}
+use Rattle.strm_carry_laws.specs.OneStream.{script_of, items_of}
 use Rattle.strm_session.specs.Runs.{start}
 use Rattle.strm_mux.specs.Lines.{Puts, IsFirstBad, IsTooLong}
 use Rattle.strm_mux.specs.Texts.{output_text, usage_text}

@@ -1,6 +1,6 @@
 //! Lanes carried from one guest to another, over one stream of bytes.
 //!
-//! Meaning: `OneStream.antt` of `strm_one_stream`, for the steps and what they bring; `Carrying.antt`, for the
+//! Meaning: `OneStream.antt` of `strm_carry_laws`, for the steps and what they bring; `Carrying.antt`, for the
 //! lanes. Ours.
 
 ghost use Rattle.std.specs.Prelude.{◌≡◌, ◌≤◌, ◌∷◌, [], List, ℕ, length, IfOk, IfErr};
@@ -12,7 +12,7 @@ ghost use Rattle.strm_machine.specs.Moments.{received};
 ghost use Rattle.strm_machine.specs.Plays.{play, Ends};
 ghost use Rattle.strm_memory.specs.Bytes.{IsBytes};
 ghost use Rattle.strm_mux.specs.Carrying.{Delivers, IsOneCount};
-ghost use Rattle.strm_one_stream.specs.OneStream.{script_of, items_of, AreSettled};
+ghost use Rattle.strm_carry_laws.specs.OneStream.{script_of, items_of, AreSettled};
 ghost use Rattle.strm_session.specs.Runs.{start, AreOfGuests, counts_of};
 
 use crate::hearing::heard;
@@ -24,7 +24,7 @@ use strm_frames::errors::MuxError;
 use strm_frames::muxes::Mux;
 use strm_lines::lists::{Replies, Steps};
 use strm_machine::steps::Step;
-use strm_one_stream::carries;
+use strm_carry_laws::carries;
 use strm_session::runs::{RunCause, Transcript, run};
 
 /// What was carried.

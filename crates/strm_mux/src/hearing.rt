@@ -1,12 +1,12 @@
 //! What the dumps of a run tell a demux.
 //!
-//! Meaning: `dumped` of `OneStream.antt` of `strm_one_stream`, and `Hearing.antt`. Ours.
+//! Meaning: `dumped` of `OneStream.antt` of `strm_carry_laws`, and `Hearing.antt`. Ours.
 
 ghost use Rattle.std.specs.Prelude.{◌≡◌, ◌++◌, List, ℕ, None, IfOk, IfErr, OnOk};
 ghost use Rattle.strm_frames.specs.Demuxes.{IsFed};
 ghost use Rattle.strm_frames.specs.Streams.{AreWhole};
 ghost use Rattle.strm_mux.specs.Hearing.{HearsOn};
-ghost use Rattle.strm_one_stream.specs.OneStream.{dumped, dumped_in};
+ghost use Rattle.strm_carry_laws.specs.OneStream.{dumped, dumped_in};
 
 use std::alloc::Global;
 use strm_frames::demuxes::Demux;

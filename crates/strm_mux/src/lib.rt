@@ -1,7 +1,7 @@
 //! Many lanes carried on one stream of bytes from one guest to another.
 //!
 //! The frames are those of `strm_frames`, which knows nothing of the store; what a stream brings is a law of
-//! `strm_one_stream`; the run is that of `strm_session`.
+//! `strm_carry_laws`; the run is that of `strm_session`.
 #![tactic(auto)]
 
 pub mod carrying;

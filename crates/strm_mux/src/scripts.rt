@@ -1,10 +1,10 @@
 //! The steps by which bytes are carried.
 //!
-//! Meaning: `OneStream.antt` of `strm_one_stream`. Ours.
+//! Meaning: `OneStream.antt` of `strm_carry_laws`. Ours.
 
 ghost use Rattle.std.specs.Prelude.{◌≡◌, ◌<◌, ◌≤◌, ◌++◌, ◌∷◌, [], length, IfOk, IfErr, OnOk};
 ghost use Rattle.strm_machine.specs.declared.steps.Step.TheVariants as step_of;
-ghost use Rattle.strm_one_stream.specs.OneStream.{byte_stream, reads_of, piece_of, script_of};
+ghost use Rattle.strm_carry_laws.specs.OneStream.{byte_stream, reads_of, piece_of, script_of};
 
 use std::alloc::Global;
 use strm_codes::codes::TransmitIndex;

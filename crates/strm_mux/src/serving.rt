@@ -7,7 +7,7 @@ ghost use Rattle.std.specs.Io.KnownBytes.{Appends, Consumes};
 ghost use Rattle.strm_frames.specs.Frames.{Frame};
 ghost use Rattle.strm_lines.specs.Lines.{lines_of};
 ghost use Rattle.strm_lines.specs.Reading.{number_within};
-ghost use Rattle.strm_ports.specs.Faults.{Rose, TakesPart};
+ghost use Rattle.strm_input_output.specs.Faults.{Rose, TakesPart};
 ghost use Rattle.strm_mux.specs.Answering.{AnswersInput};
 ghost use Rattle.strm_mux.specs.LineReading.{Holds};
 ghost use Rattle.strm_mux.specs.Lines.{Puts, IsFirstBad, IsTooLong};
@@ -22,8 +22,8 @@ use strm_frames::muxes::Mux;
 use strm_lines::lists::TextBytes;
 use strm_lines::texts::{bad_line_text, read_fault_text, too_long_text};
 use strm_lines::words::number_within;
-use strm_ports::ports::{Sink, Source};
-use strm_ports::whole::{InputError, read_within, write_whole};
+use strm_input_output::ports::{Sink, Source};
+use strm_input_output::whole::{InputError, read_within, write_whole};
 
 /// The lanes were carried and written.
 pub const DONE: u8 = 0;

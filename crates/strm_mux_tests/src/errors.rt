@@ -5,7 +5,7 @@ use std::fmt::Display;
 use std::process::Abort;
 use strm_frames::errors::{Fault, MuxError};
 use strm_lines::parsing::ParseError;
-use strm_ports::whole::InputError;
+use strm_input_output::whole::InputError;
 
 // What `{}` prints.
 fn prints<T: Display>(rt: &impl Abort, alloc: Global, value: &T, wanted: &str) {

@@ -7,7 +7,7 @@ use strm_frames::demuxes::Demux;
 use strm_frames::muxes::Mux;
 use strm_mux::carrying::carry;
 use strm_mux::serving::mux_serve;
-use strm_ports::in_memory::{BytesSink, BytesSource};
+use strm_input_output::in_memory::{BytesSink, BytesSource};
 
 const FULL: [u8; 255] = [90; 255];
 

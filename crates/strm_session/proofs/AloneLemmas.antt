@@ -11,8 +11,8 @@ use Rattle.strm_machine.specs.declared.replies.Reply.{Reply}
 use Rattle.strm_machine.specs.declared.streams.Side.TheVariants.{Writing, Reading}
 use Rattle.strm_machine.proofs.EmptyLemmas.{HostsHold-empty}
 use Rattle.strm_machine.proofs.HostLemmas.{serving_made}
-use Rattle.strm_world.specs.Steps.{touches}
-use Rattle.strm_world.specs.Does.{Fits}
+use Rattle.strm_host_machine.specs.Steps.{touches}
+use Rattle.strm_host_machine.specs.Does.{Fits}
 use Rattle.strm_transmit.specs.Hosted.{lone}
 use Rattle.strm_transmit.specs.Guests.{Unhosted, is_of_guests}
 use Rattle.strm_transmit.proofs.GuestLemmas.{reaction-unhosted, empty-unhosted, touches-none}

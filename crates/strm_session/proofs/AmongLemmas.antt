@@ -13,22 +13,22 @@ use Rattle.strm_machine.specs.declared.steps.Step.{Step}
 use Rattle.strm_machine.specs.declared.replies.Reply.{Reply}
 use Rattle.strm_machine.specs.declared.stops.Stop.{Stop}
 use Rattle.strm_machine.specs.declared.streams.HostEnd.{HostEnd}
-use Rattle.strm_world.specs.Outcomes.{Outcome}
-use Rattle.strm_world.specs.Steps.{step_of}
-use Rattle.strm_world.specs.HostPlays.{play, after_step, Ends, Halts}
-use Rattle.strm_world.specs.Ends.{Writer, Reader, writer_in}
-use Rattle.strm_world.specs.World.{World}
+use Rattle.strm_host_machine.specs.Outcomes.{Outcome}
+use Rattle.strm_host_machine.specs.Steps.{step_of}
+use Rattle.strm_host_machine.specs.HostPlays.{play, after_step, Ends, Halts}
+use Rattle.strm_host_machine.specs.Ends.{Writer, Reader, writer_in}
+use Rattle.strm_host_machine.specs.World.{World}
 use Rattle.strm_host_laws.specs.HostLaws.{EndsExactly}
-use Rattle.strm_world.specs.Asking.{GuestAsksBad, AsksBadItem, ByGuest, InCall, InDrive, stands_at}
-use Rattle.strm_world.proofs.AskingLemmas.{stops-asks, asks-stops}
+use Rattle.strm_host_machine.specs.Asking.{GuestAsksBad, AsksBadItem, ByGuest, InCall, InDrive, stands_at}
+use Rattle.strm_host_machine.proofs.AskingLemmas.{stops-asks, asks-stops}
 use Rattle.strm_machine.specs.Reactions.{Reaction}
 use Rattle.strm_machine.specs.declared.stops.Stop.TheVariants.{HostFailed, BadItem}
 use Rattle.strm_machine.proofs.AskedLemmas.{bad-traps}
 use Rattle.std.specs.Prelude.{slice_get}
 use Rattle.std.proofs.lemmas.Option.{slice_get_within, slice_get-get_or}
-use Rattle.strm_world.specs.Does.{Logs, saids, Extends, is_ended, first_duty, first_log, writer_of, writers_from, world_of, spent, faults_of, Caused, Does, RunsTo, StopsWith, AreSuppliedSince}
-use Rattle.strm_world.proofs.DoesLemmas.{rose_more, extends_self}
-use Rattle.strm_world.proofs.GrowLemmas.{supplied_since_itself}
+use Rattle.strm_host_machine.specs.Does.{Logs, saids, Extends, is_ended, first_duty, first_log, writer_of, writers_from, world_of, spent, faults_of, Caused, Does, RunsTo, StopsWith, AreSuppliedSince}
+use Rattle.strm_host_machine.proofs.DoesLemmas.{rose_more, extends_self}
+use Rattle.strm_host_machine.proofs.GrowLemmas.{supplied_since_itself}
 use Rattle.strm_session.specs.Records.{HostsGoOn}
 use Rattle.strm_session.specs.Runs.{start, start_among, stop_of, halted_in, HaltsBy, Raised, StaysThere, StopsAsking, WantsUnmet, StopsAmong, WantsThere, Before, Behind, InPoll, BeforeOffer, StopsWanting, WantsStep, Polling, Untouched, Unkept, LeavesWanting}
 use Rattle.strm_transmit.specs.Hosted.{lone}

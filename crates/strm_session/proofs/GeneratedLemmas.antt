@@ -20,12 +20,12 @@ use Rattle.strm_machine.specs.Refusals.{refusal, region_reasons, handle_reasons,
 use Rattle.strm_machine.specs.Soundness.{IsSound}
 use Rattle.strm_buffers.specs.Tells.{Tells}
 use Rattle.strm_machine.specs.declared.streams.Side.TheVariants.{Writing}
-use Rattle.strm_world.specs.World.{World, stream_in}
-use Rattle.strm_world.specs.HostPlays.{Played, play, Ends}
-use Rattle.strm_world.specs.HostRefusals.{refusal_in}
-use Rattle.strm_world.specs.Asking.{AsksBadItem, ByGuest, InCall, InDrive, asked_by, with_write}
-use Rattle.strm_world.proofs.AskingLemmas.{opened-payload}
-use Rattle.strm_world.proofs.OutcomeLemmas.{refusal_in-on_end}
+use Rattle.strm_host_machine.specs.World.{World, stream_in}
+use Rattle.strm_host_machine.specs.HostPlays.{Played, play, Ends}
+use Rattle.strm_host_machine.specs.HostRefusals.{refusal_in}
+use Rattle.strm_host_machine.specs.Asking.{AsksBadItem, ByGuest, InCall, InDrive, asked_by, with_write}
+use Rattle.strm_host_machine.proofs.AskingLemmas.{opened-payload}
+use Rattle.strm_host_machine.proofs.OutcomeLemmas.{refusal_in-on_end}
 use Rattle.strm_host_laws.specs.HostMoments.{host_moments, last_of}
 use Rattle.strm_machine.specs.Acts.{act_of}
 use Rattle.strm_machine.specs.declared.acts.NamedEnd.{NamedEnd}

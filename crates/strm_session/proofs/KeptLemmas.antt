@@ -8,12 +8,12 @@ use Rattle.strm_laws.proofs.LawfulRuns.{AreSteps-take}
 use Rattle.strm_machine.specs.State.{State}
 use Rattle.strm_machine.specs.declared.steps.Step.{Step}
 use Rattle.strm_machine.specs.declared.replies.Reply.{Reply}
-use Rattle.strm_world.specs.World.{World, writer_at, reader_at}
+use Rattle.strm_host_machine.specs.World.{World, writer_at, reader_at}
 use Rattle.strm_machine.specs.declared.stops.Stop.{Stop}
-use Rattle.strm_world.specs.Ends.{Writer, Reader, writer_in, reader_in}
-use Rattle.strm_world.specs.HostPlays.{play, Ends, Halts}
+use Rattle.strm_host_machine.specs.Ends.{Writer, Reader, writer_in, reader_in}
+use Rattle.strm_host_machine.specs.HostPlays.{play, Ends, Halts}
 use Rattle.strm_host_laws.specs.HostLaws.{ClosesExactly, WriterStops, ReadersCloseExactly, ReaderStops}
-use Rattle.strm_world.specs.Does.{AreSuppliedSince, spent}
+use Rattle.strm_host_machine.specs.Does.{AreSuppliedSince, spent}
 use Rattle.strm_host_laws.specs.HostMoments.{HostMoment, host_moments, last_of}
 use Rattle.strm_session.specs.Runs.{start_among, HasLawsAmong, HasLawsFirst, IsKeptAmong, IsKeptBefore, DeliversEach, HaltsBy, StopCloses, StopUses, StopsAmong}
 use Rattle.strm_session.specs.declared.runs.RunCause.{RunCause}

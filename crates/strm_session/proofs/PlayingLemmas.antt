@@ -13,11 +13,11 @@ use Rattle.strm_machine.specs.Untouched.{StaysAside, LieThere}
 use Rattle.strm_machine.specs.declared.steps.Step.{Step}
 use Rattle.strm_machine.specs.declared.replies.Reply.{Reply}
 use Rattle.strm_transmit.specs.Hosted.{lone}
-use Rattle.strm_world.specs.World.{World}
-use Rattle.strm_world.specs.Steps.{step_of, touches}
-use Rattle.strm_world.specs.Does.{Fits, Does}
-use Rattle.strm_world.specs.Asking.{GuestAsksBad}
-use Rattle.strm_world.specs.HostPlays.{play as play_among}
+use Rattle.strm_host_machine.specs.World.{World}
+use Rattle.strm_host_machine.specs.Steps.{step_of, touches}
+use Rattle.strm_host_machine.specs.Does.{Fits, Does}
+use Rattle.strm_host_machine.specs.Asking.{GuestAsksBad}
+use Rattle.strm_host_machine.specs.HostPlays.{play as play_among}
 use Rattle.strm_machine.specs.Hosting.{HostsHold}
 use Rattle.strm_session.specs.declared.playing.Ended.{Ended}
 use Rattle.strm_session.specs.declared.runs.RunCause.{RunCause}
@@ -26,7 +26,7 @@ use Rattle.strm_session.specs.Records.{StopsByRecord, StopRules}
 use Rattle.strm_session.specs.Runs.{start, start_among, AreOfGuests, counts_of, stop_of, StopsAmong, StopsWanting, LeavesWanting, Before, StopsStep, StopsAt, HasStopped}
 use Rattle.strm_session.specs.Playing.{IsPlayed, HasRun}
 use Rattle.strm_session.proofs.PlayLemmas.{IsAt, stops, stopped_before}
-use Rattle.strm_world.proofs.DoesLemmas.{extends_self}
+use Rattle.strm_host_machine.proofs.DoesLemmas.{extends_self}
 use Rattle.strm_session.proofs.AmongLemmas.{WritersGone, LedAmong, led_none, led_more, begins_among, runs_to, stops_among, stops_behind, wanting_there}
 use Rattle.strm_session.proofs.KeptLemmas.{LawsAmong, LeadsAmong, WritersClose, ReadersClose, WritersStop, ReadersStop, are_first, kept_among, stop_kept, stop_closes, stop_uses, delivers_each}
 use Rattle.strm_session.proofs.LawLemmas.{LawsHold, StepHolds, run_kept, front_kept}

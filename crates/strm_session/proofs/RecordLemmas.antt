@@ -10,19 +10,19 @@ use Rattle.strm_machine.specs.declared.stops.Stop.{Stop}
 use Rattle.strm_machine.specs.declared.stops.Stop.TheVariants.{HostFailed, HostBroke, BadItem, StoreTrapped}
 use Rattle.strm_machine.specs.declared.streams.Side.TheVariants.{Writing, Reading}
 use Rattle.strm_machine.specs.declared.steps.Step.{Step}
-use Rattle.strm_world.specs.World.{World, writer_at, reader_at}
-use Rattle.strm_world.specs.Ends.{no_writer, no_reader}
+use Rattle.strm_host_machine.specs.World.{World, writer_at, reader_at}
+use Rattle.strm_host_machine.specs.Ends.{no_writer, no_reader}
 use Rattle.strm_buffers.specs.Tells.{WriterTells, ReaderTells, Tells, no_tells, no_reader_tells, told_by, told_by_reader}
 use Rattle.strm_machine.specs.declared.streams.Producer.{Producer}
-use Rattle.strm_world.specs.Does.{AllBegin, Extends, saids, writers_from, readers_from, world_of, spent, Logs, Fits, Does}
-use Rattle.strm_world.specs.HostPlays.{play, Ends}
-use Rattle.strm_world.proofs.DoesLemmas.{extends_self}
-use Rattle.strm_world.proofs.LaterLemmas.{Used, UsedLast}
-use Rattle.strm_world.proofs.StepRecordLemmas.{Halts, act-halts}
-use Rattle.strm_world.proofs.LastRecordLemmas.{writer-coming, writer-spent, writer-kind, reader-coming, reader-spent, reader-kind, AreServing, ends_fit, halts_by_record}
-use Rattle.strm_world.specs.LastRecord.{SaysFailed, SaysBroken, ReaderSaysFailed, ReaderSaysBroken, SaysLast, HaltsByRecord, KeepsRules, ReaderKeepsRules, SaysWhy, ReaderSaysWhy}
+use Rattle.strm_host_machine.specs.Does.{AllBegin, Extends, saids, writers_from, readers_from, world_of, spent, Logs, Fits, Does}
+use Rattle.strm_host_machine.specs.HostPlays.{play, Ends}
+use Rattle.strm_host_machine.proofs.DoesLemmas.{extends_self}
+use Rattle.strm_host_machine.proofs.LaterLemmas.{Used, UsedLast}
+use Rattle.strm_host_machine.proofs.StepRecordLemmas.{Halts, act-halts}
+use Rattle.strm_host_machine.proofs.LastRecordLemmas.{writer-coming, writer-spent, writer-kind, reader-coming, reader-spent, reader-kind, AreServing, ends_fit, halts_by_record}
+use Rattle.strm_host_machine.specs.LastRecord.{SaysFailed, SaysBroken, ReaderSaysFailed, ReaderSaysBroken, SaysLast, HaltsByRecord, KeepsRules, ReaderKeepsRules, SaysWhy, ReaderSaysWhy}
 use Rattle.strm_machine.specs.Acts.{act_of}
-use Rattle.strm_world.specs.Steps.{step_of}
+use Rattle.strm_host_machine.specs.Steps.{step_of}
 use Rattle.strm_session.specs.Records.{StopsByRecord, AddsKept, AddsWhy, WriterKeeps, WriterTellsWhy, ReaderKeeps, ReaderTellsWhy, RulesKept, RulesKeptBut, StopRules}
 use Rattle.strm_session.specs.Runs.{start_among}
 use Rattle.strm_machine.specs.Hosting.{HostsHold}

@@ -32,19 +32,19 @@ use Rattle.strm_machine.specs.declared.streams.Owner.TheVariants.{Host, Gone}
 use Rattle.strm_machine.specs.declared.streams.Side.{Side}
 use Rattle.strm_machine.specs.declared.streams.Side.TheVariants.{Writing, Reading}
 use Rattle.strm_machine.specs.declared.streams.Stream.{Stream}
-use Rattle.strm_world.specs.World.{World, stream_in, writer_at, reader_at, held_of, with_kept, with_writer, with_reader, leaves_writer, leaves_reader, with_stream_in}
-use Rattle.strm_world.specs.Ends.{polled_writer, polled_reader}
-use Rattle.strm_world.specs.Outcomes.{Outcome, Goes, Stops, Stuck, stops, done, then_on, of_reply}
-use Rattle.strm_world.specs.Polls.{AfterWriter, is_failed, is_writer_poll, writer_judged, writer_says, polls_writer, AfterReader, is_reader_poll, tells_truly, reader_judged, reader_says, polls_reader}
-use Rattle.strm_world.specs.Producing.{receives, with_answer, produced_result, is_produced, produces, producer_turn}
-use Rattle.strm_world.specs.Consuming.{lifted, with_taken, gives_up, consumer_turn}
-use Rattle.strm_world.specs.Settling.{answered_with}
-use Rattle.strm_world.specs.Piping.{wants_items, fetches, gathered, passed_on, offers, is_done_with, is_run_dry, both_gone, ends_if_done, pipe_round}
-use Rattle.strm_world.specs.Driving.{if_open, driven_by, drive_turn, driven}
-use Rattle.strm_world.specs.Attaching.{has_items, hosts_new, is_dry, piped, without_ends, piped_by, pipes, forsakes}
-use Rattle.strm_world.specs.HostRefusals.{refusal_in}
-use Rattle.strm_world.specs.Steps.{reacts, operates_by, drops_in, on_host, performs_by, performs_in, unless_refused_in, outcome, step_of}
-use Rattle.strm_world.proofs.TouchLemmas.{touch-by}
+use Rattle.strm_host_machine.specs.World.{World, stream_in, writer_at, reader_at, held_of, with_kept, with_writer, with_reader, leaves_writer, leaves_reader, with_stream_in}
+use Rattle.strm_host_machine.specs.Ends.{polled_writer, polled_reader}
+use Rattle.strm_host_machine.specs.Outcomes.{Outcome, Goes, Stops, Stuck, stops, done, then_on, of_reply}
+use Rattle.strm_host_machine.specs.Polls.{AfterWriter, is_failed, is_writer_poll, writer_judged, writer_says, polls_writer, AfterReader, is_reader_poll, tells_truly, reader_judged, reader_says, polls_reader}
+use Rattle.strm_host_machine.specs.Producing.{receives, with_answer, produced_result, is_produced, produces, producer_turn}
+use Rattle.strm_host_machine.specs.Consuming.{lifted, with_taken, gives_up, consumer_turn}
+use Rattle.strm_host_machine.specs.Settling.{answered_with}
+use Rattle.strm_host_machine.specs.Piping.{wants_items, fetches, gathered, passed_on, offers, is_done_with, is_run_dry, both_gone, ends_if_done, pipe_round}
+use Rattle.strm_host_machine.specs.Driving.{if_open, driven_by, drive_turn, driven}
+use Rattle.strm_host_machine.specs.Attaching.{has_items, hosts_new, is_dry, piped, without_ends, piped_by, pipes, forsakes}
+use Rattle.strm_host_machine.specs.HostRefusals.{refusal_in}
+use Rattle.strm_host_machine.specs.Steps.{reacts, operates_by, drops_in, on_host, performs_by, performs_in, unless_refused_in, outcome, step_of}
+use Rattle.strm_host_machine.proofs.TouchLemmas.{touch-by}
 use Rattle.strm_machine.specs.declared.steps.Step.{Step}
 use Rattle.strm_session.proofs.PlayLemmas.{RunsOn, reaction-runs}
 

@@ -4,13 +4,13 @@ use Rattle.std.proofs.Common.{◌≡◌, ◌≢◌, ◌⊎◌, ℕ, ◌≤◌, L
 use Rattle.std.proofs.lemmas.Bool.{cases_eq}
 use Rattle.std.specs.Prelude.{codes}
 use Rattle.strm_machine.specs.declared.steps.Step.{Step}
-use Rattle.strm_ports.specs.Faults.{Rose}
+use Rattle.strm_input_output.specs.Faults.{Rose}
 use Rattle.strm_lines.specs.Grammar.{IsU32}
 use Rattle.strm_lines.specs.Lines.{lines_of, Spells, IsFirstBad, IsTooLong}
 use Rattle.strm_session.specs.Serving.{IsRun, IsGen, IsStop, IsStatusOf, PlaysOn, HaltsWith, StandsFor, IsOfInput, IsOutput, IsComplete, EndsOrStops, WasRun, LeavesUnwritten}
-use Rattle.strm_world.specs.Ends.{Writer, Reader}
-use Rattle.strm_world.specs.World.{World}
-use Rattle.strm_world.specs.HostPlays.{Played, play, Ends, Halts}
+use Rattle.strm_host_machine.specs.Ends.{Writer, Reader}
+use Rattle.strm_host_machine.specs.World.{World}
+use Rattle.strm_host_machine.specs.HostPlays.{Played, play, Ends, Halts}
 use Rattle.std.specs.Io.KnownBytes.{IsAtEnd}
 use Rattle.strm_lines.proofs.LineLemmas.{one_spelling, spelled_not_bad}
 use Rattle.strm_machine.specs.declared.replies.Reply.{Reply}

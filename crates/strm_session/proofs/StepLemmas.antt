@@ -9,12 +9,12 @@ use Rattle.strm_machine.specs.declared.steps.Step.{Step}
 use Rattle.strm_machine.specs.declared.replies.Reply.{Reply}
 use Rattle.strm_machine.specs.declared.replies.Reply.TheVariants as replies
 use Rattle.strm_machine.specs.declared.stops.Stop.TheVariants as stops
-use Rattle.strm_world.specs.World.{World}
-use Rattle.strm_world.specs.Outcomes.{Outcome}
-use Rattle.strm_world.specs.Steps.{step_of, may_poll}
-use Rattle.strm_world.specs.Asking.{GuestAsksBad, ByGuest}
-use Rattle.strm_world.proofs.AskingLemmas.{asks-stops}
-use Rattle.strm_world.specs.Does.{Answered, saids, world_of, Does}
+use Rattle.strm_host_machine.specs.World.{World}
+use Rattle.strm_host_machine.specs.Outcomes.{Outcome}
+use Rattle.strm_host_machine.specs.Steps.{step_of, may_poll}
+use Rattle.strm_host_machine.specs.Asking.{GuestAsksBad, ByGuest}
+use Rattle.strm_host_machine.proofs.AskingLemmas.{asks-stops}
+use Rattle.strm_host_machine.specs.Does.{Answered, saids, world_of, Does}
 use Rattle.strm_transmit.specs.Meets.{Meets, act_takes_memory, takes_memory}
 use Rattle.strm_transmit.specs.Hosted.{answered, lone, Wanting, Leaves}
 use Rattle.strm_transmit.specs.declared.errors.StoreError.{StoreError}
@@ -24,7 +24,7 @@ use Rattle.strm_session.specs.declared.runs.RunCause.{RunCause}
 use Rattle.strm_session.specs.declared.runs.RunCause.TheVariants as causes
 use Rattle.strm_session.proofs.PlayLemmas.{goes_on_done}
 use Rattle.strm_session.proofs.RunningLemmas.{Running, step-runs}
-use Rattle.strm_world.proofs.DoesLemmas.{extends_self}
+use Rattle.strm_host_machine.proofs.DoesLemmas.{extends_self}
 
 -- a step that was answered leaves the store untrapped
 pub does_runs : (old new : State) (tells told : Tells) (reply : Reply) (step : Step) → old.trapped ≡ false → Does old new tells told (Ok reply) (λ w. step_of w step) → new.trapped ≡ false

@@ -10,14 +10,14 @@ use Rattle.strm_machine.specs.declared.steps.Step.{Step}
 use Rattle.strm_machine.specs.declared.replies.Reply.{Reply}
 use Rattle.strm_machine.specs.declared.stops.Stop.{Stop}
 use Rattle.strm_machine.specs.declared.stops.Stop.TheVariants.{BadItem}
-use Rattle.strm_world.specs.Ends.{Writer, Reader}
-use Rattle.strm_world.specs.World.{World}
-use Rattle.strm_world.specs.Outcomes.{Outcome, Goes, Stops, Stuck, stops}
-use Rattle.strm_world.specs.Steps.{step_of}
-use Rattle.strm_world.specs.HostPlays.{play, after_step, Ends, Halts}
-use Rattle.strm_world.specs.Asking.{GuestAsksBad, AsksBadItem, ByGuest, InCall, InDrive, stands_at}
-use Rattle.strm_world.specs.Does.{RunsTo}
-use Rattle.strm_world.proofs.AskingLemmas.{asks-stops}
+use Rattle.strm_host_machine.specs.Ends.{Writer, Reader}
+use Rattle.strm_host_machine.specs.World.{World}
+use Rattle.strm_host_machine.specs.Outcomes.{Outcome, Goes, Stops, Stuck, stops}
+use Rattle.strm_host_machine.specs.Steps.{step_of}
+use Rattle.strm_host_machine.specs.HostPlays.{play, after_step, Ends, Halts}
+use Rattle.strm_host_machine.specs.Asking.{GuestAsksBad, AsksBadItem, ByGuest, InCall, InDrive, stands_at}
+use Rattle.strm_host_machine.specs.Does.{RunsTo}
+use Rattle.strm_host_machine.proofs.AskingLemmas.{asks-stops}
 use Rattle.strm_machine.specs.declared.streams.HostEnd.TheVariants as ends
 use Rattle.strm_session.specs.Records.{NoneRose, ObeyRules}
 use Rattle.strm_session.specs.Runs.{start_among, AsksBad, AsksItems, WantsBy, WantsUnmet, StopsAmong, StopsIn, HasStopped, IsDecided}

@@ -12,9 +12,9 @@ use Rattle.strm_machine.specs.State.{State}
 use Rattle.strm_machine.specs.declared.streams.Duty.{Duty}
 use Rattle.strm_machine.specs.declared.streams.Duty.TheVariants.{Unused, Serves, Ended}
 use Rattle.strm_machine.specs.declared.streams.Producer.{Producer}
-use Rattle.strm_world.specs.Ends.{Writer, no_writer}
-use Rattle.strm_world.specs.World.{writer_at}
-use Rattle.strm_world.specs.Does.{held_while, first_duty, writer_of, writers_from, SaidFits, IsSuppliedSince, AreSuppliedSince, spent}
+use Rattle.strm_host_machine.specs.Ends.{Writer, no_writer}
+use Rattle.strm_host_machine.specs.World.{writer_at}
+use Rattle.strm_host_machine.specs.Does.{held_while, first_duty, writer_of, writers_from, SaidFits, IsSuppliedSince, AreSuppliedSince, spent}
 use Rattle.strm_host_laws.specs.HostLaws.{Supplies}
 use Rattle.strm_session.specs.Runs.{start_among}
 

@@ -6,10 +6,10 @@ use Rattle.strm_machine.specs.Acts.{act_of}
 use Rattle.strm_machine.specs.declared.steps.Step.{Step}
 use Rattle.strm_machine.specs.declared.replies.Reply.{Reply}
 use Rattle.strm_machine.specs.declared.stops.Stop.TheVariants as stops
-use Rattle.strm_world.specs.Steps.{step_of}
-use Rattle.strm_world.specs.Does.{saids, world_of, Does}
-use Rattle.strm_world.proofs.OutcomeLemmas.{outcome-trapped}
-use Rattle.strm_world.proofs.DoesLemmas.{extends_self}
+use Rattle.strm_host_machine.specs.Steps.{step_of}
+use Rattle.strm_host_machine.specs.Does.{saids, world_of, Does}
+use Rattle.strm_host_machine.proofs.OutcomeLemmas.{outcome-trapped}
+use Rattle.strm_host_machine.proofs.DoesLemmas.{extends_self}
 use Rattle.strm_session.proofs.StepLemmas.{does_runs, never_trapped}
 
 -- a store that answers was not trapped

@@ -8,5 +8,5 @@ pub use Rattle.strm_lines.specs.Lines
 pub use Rattle.strm_lines.specs.Reading
 pub use Rattle.strm_lines.specs.Text
 pub use Rattle.strm_lines.specs.Generator
-pub use Rattle.strm_ports.specs.Faults
-pub use Rattle.strm_ports.specs.InMemory
+pub use Rattle.strm_input_output.specs.Faults
+pub use Rattle.strm_input_output.specs.InMemory

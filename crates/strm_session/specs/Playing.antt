@@ -6,7 +6,7 @@ use Rattle.strm_machine.specs.declared.steps.Step.{Step}
 use Rattle.strm_machine.specs.declared.replies.Reply.{Reply}
 use Rattle.strm_laws.specs.Laws.{HasBytes}
 use Rattle.strm_buffers.specs.Tells.{Tells}
-use Rattle.strm_world.specs.Does.{RunsTo}
+use Rattle.strm_host_machine.specs.Does.{RunsTo}
 use Rattle.strm_session.specs.declared.playing.Ended.{Ended}
 use Rattle.strm_session.specs.declared.runs.RunCause.{RunCause}
 use Rattle.strm_session.specs.Records.{StopsByRecord, RulesKept, StopRules, HostsGoOn}

@@ -6,8 +6,8 @@ use Rattle.strm_buffers.specs.declared.answers.ReaderSaid.{ReaderSaid}
 use Rattle.strm_buffers.specs.HostRules.{breaks_as_writer, breaks_as_reader}
 use Rattle.strm_machine.specs.declared.stops.Stop.{Stop}
 use Rattle.strm_machine.specs.declared.streams.HostEnd.{HostEnd}
-use Rattle.strm_world.specs.LastRecord.{HaltsByRecord, KeepsRules, ReaderKeepsRules, SaysWhy, ReaderSaysWhy}
-use Rattle.strm_world.specs.Does.{saids, faults_of, Extends, AreSuppliedSince}
+use Rattle.strm_host_machine.specs.LastRecord.{HaltsByRecord, KeepsRules, ReaderKeepsRules, SaysWhy, ReaderSaysWhy}
+use Rattle.strm_host_machine.specs.Does.{saids, faults_of, Extends, AreSuppliedSince}
 
 -- THE LAST RECORD
 

@@ -21,14 +21,14 @@ use Rattle.strm_machine.specs.declared.stops.Stop.{Stop}
 use Rattle.strm_machine.specs.declared.stops.Stop.TheVariants as stops
 use Rattle.strm_buffers.specs.Tells.{Tells, Rose}
 use Rattle.strm_machine.specs.Hosting.{HostsHold}
-use Rattle.strm_world.specs.World.{World, writer_at, reader_at, stream_in}
-use Rattle.strm_world.specs.HostPlays.{play as play_among}
-use Rattle.strm_world.specs.HostPlays as world_plays
+use Rattle.strm_host_machine.specs.World.{World, writer_at, reader_at, stream_in}
+use Rattle.strm_host_machine.specs.HostPlays.{play as play_among}
+use Rattle.strm_host_machine.specs.HostPlays as world_plays
 use Rattle.strm_transmit.specs.WantsMemory.{FailsOnce, HoldsBefore, WantsIn, up_to_offer}
-use Rattle.strm_world.specs.Outcomes.{Goes}
-use Rattle.strm_world.specs.Steps.{step_of}
-use Rattle.strm_world.specs.Asking.{GuestAsksBad, AsksBadItem, ByGuest, stands_at}
-use Rattle.strm_world.specs.Does.{saids, spent, world_of, faults_of, Does, RunsTo, StopsWith}
+use Rattle.strm_host_machine.specs.Outcomes.{Goes}
+use Rattle.strm_host_machine.specs.Steps.{step_of}
+use Rattle.strm_host_machine.specs.Asking.{GuestAsksBad, AsksBadItem, ByGuest, stands_at}
+use Rattle.strm_host_machine.specs.Does.{saids, spent, world_of, faults_of, Does, RunsTo, StopsWith}
 use Rattle.strm_transmit.specs.Guests.{is_of_guests}
 use Rattle.strm_host_laws.specs.HostMoments.{HostMoment, host_moments, first_moments, last_of}
 use Rattle.strm_host_laws.specs.Isolation.{AreIsolated}

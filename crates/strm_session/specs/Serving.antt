@@ -7,11 +7,11 @@ use Rattle.strm_machine.specs.declared.replies.Reply.{Reply}
 use Rattle.strm_machine.specs.declared.stops.Stop.{Stop}
 use Rattle.strm_machine.specs.declared.stops.Stop.TheVariants as stops
 use Rattle.strm_buffers.specs.Tells.{Tells}
-use Rattle.strm_world.specs.Ends.{Writer, Reader}
-use Rattle.strm_world.specs.World.{World}
-use Rattle.strm_world.specs.HostPlays.{play as play_among}
-use Rattle.strm_world.specs.HostPlays as world_plays
-use Rattle.strm_ports.specs.Faults.{Rose}
+use Rattle.strm_host_machine.specs.Ends.{Writer, Reader}
+use Rattle.strm_host_machine.specs.World.{World}
+use Rattle.strm_host_machine.specs.HostPlays.{play as play_among}
+use Rattle.strm_host_machine.specs.HostPlays as world_plays
+use Rattle.strm_input_output.specs.Faults.{Rose}
 use Rattle.strm_lines.specs.Grammar.{IsU32}
 use Rattle.strm_lines.specs.Generator.{generated}
 use Rattle.strm_lines.specs.Lines.{lines_of, Spells, IsFirstBad, IsTooLong}

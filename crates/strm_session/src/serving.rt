@@ -6,7 +6,7 @@ ghost use Rattle.std.specs.Prelude.{◌≡◌, ◌≢◌, ◌≤◌, ◌+◌, �
 ghost use Rattle.std.specs.Io.KnownBytes.{Appends, Consumes};
 ghost use Rattle.strm_buffers.specs.AllTells.{tells_of};
 ghost use Rattle.strm_session.specs.Records.{HostsGoOn};
-ghost use Rattle.strm_ports.specs.Faults.{Rose, TakesPart};
+ghost use Rattle.strm_input_output.specs.Faults.{Rose, TakesPart};
 ghost use Rattle.strm_lines.specs.Lines.{lines_of, Spells, IsTooLong};
 ghost use Rattle.strm_lines.specs.Generator.{generated};
 ghost use Rattle.strm_session.specs.Serving.{IsRun, IsGen, IsOfInput, IsOfNumbers, IsSummary, IsStop, IsOutput, IsStatus, IsStatusOf, IsComplete, IsTranscript, IsStopped, WasRun, LeavesUnwritten};
@@ -24,8 +24,8 @@ use strm_lines::parsing::{MAX_BYTES, ParseError, number_of, parse_onto};
 use strm_lines::replies::{ReplyCounts, ReplyLines};
 use strm_lines::rows::StepRows;
 use strm_machine::stops::Stop;
-use strm_ports::ports::{Sink, Source};
-use strm_ports::whole::{InputError, read_all, write_whole};
+use strm_input_output::ports::{Sink, Source};
+use strm_input_output::whole::{InputError, read_all, write_whole};
 
 /// The run came to its end.
 pub const DONE: u8 = 0;

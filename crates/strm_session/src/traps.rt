@@ -10,8 +10,8 @@ ghost use Rattle.strm_machine.specs.State.{State};
 ghost use Rattle.strm_machine.specs.declared.replies.Reply.{Reply};
 ghost use Rattle.strm_machine.specs.declared.steps.Step.{Step};
 ghost use Rattle.strm_machine.specs.declared.stops.Stop.TheVariants as stops;
-ghost use Rattle.strm_world.specs.Steps.{step_of};
-ghost use Rattle.strm_world.specs.Does.{Does};
+ghost use Rattle.strm_host_machine.specs.Steps.{step_of};
+ghost use Rattle.strm_host_machine.specs.Does.{Does};
 
 /// A call that answers or refuses found its store untrapped, and leaves it so; one that answers
 /// StoreTrapped found it trapped. By the clause `does` of each call's `MeetsHosted`.

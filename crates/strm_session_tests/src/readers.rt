@@ -10,7 +10,7 @@ use strm_buffers::hosts::Hosts;
 use strm_codes::codes::TransmitKind;
 use strm_codes::payloads::Payload;
 use strm_codes::scalars::Scalar;
-use strm_ends::scripted_reader::{ReaderTurn, ScriptedReader};
+use strm_program_ends::scripted_reader::{ReaderTurn, ScriptedReader};
 
 const CHAR: Payload = Payload::One(Scalar::Char);
 

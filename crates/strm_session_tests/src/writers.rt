@@ -14,7 +14,7 @@ use strm_buffers::answers::Answer;
 use strm_buffers::hosts::Hosts;
 use strm_buffers::items::Items;
 use strm_codes::codes::TransmitKind;
-use strm_ends::scripted_writer::{ScriptedWriter, WriterTurn};
+use strm_program_ends::scripted_writer::{ScriptedWriter, WriterTurn};
 
 // What one poll produces, and what it answers.
 type Turn = (&'static [u8], Answer);

@@ -12,7 +12,7 @@ use Rattle.strm_machine.specs.declared.acts.Act.TheVariants.{OnEnd, OnLoose, OnH
 use Rattle.strm_machine.specs.declared.acts.EndAct.TheVariants.{Operate, Drop, Lift}
 use Rattle.strm_machine.specs.declared.replies.Reply.TheVariants as replies
 use Rattle.strm_machine.specs.declared.steps.Step.{Step}
-use Rattle.strm_world.specs.Steps.{touches}
+use Rattle.strm_host_machine.specs.Steps.{touches}
 use Rattle.std.specs.Prelude.{Err}
 use Rattle.strm_machine.specs.declared.streams.HostEnd.{HostEnd}
 use Rattle.strm_transmit.specs.Hosted.{lone}

@@ -5,8 +5,8 @@ use Rattle.std.specs.Prelude.{◌==◌}
 use Rattle.std.proofs.lemmas.Bool.{cases_eq, cond_both}
 use Rattle.std.proofs.lemmas.List.{get_or_append_left}
 use Rattle.strm_codes.specs.declared.codes.ReturnCode.{ReturnCode}
-use Rattle.strm_sets.specs.Sets.{Sets, is_member, left, joined}
-use Rattle.strm_sets.proofs.SetLemmas.{is_member-left_same, is_member-left_other, is_member-joined_other}
+use Rattle.strm_waitable_sets.specs.Sets.{Sets, is_member, left, joined}
+use Rattle.strm_waitable_sets.proofs.SetLemmas.{is_member-left_same, is_member-left_other, is_member-joined_other}
 use Rattle.strm_handles.specs.Handles.{Handles}
 use Rattle.strm_machine.specs.State.{State, Guest, guest_in, sets_in, no_guest, no_stream, stream_at, is_gone, is_loose, with_handles}
 use Rattle.strm_machine.specs.Sides.{opposite, same_side, end_of, with_end, with_operation}
@@ -41,7 +41,7 @@ use Rattle.strm_machine.specs.Making.{with_stream, with_read_end}
 use Rattle.strm_machine.specs.WaitableSets.{ready_in, set_named, number_named, sets_joined}
 use Rattle.strm_machine.specs.Reactions.{member_told}
 use Rattle.strm_machine.specs.State.{with_memory}
-use Rattle.strm_sets.specs.Sets.{without_set}
+use Rattle.strm_waitable_sets.specs.Sets.{without_set}
 use Rattle.strm_machine.specs.declared.acts.NamedEnd.{NamedEnd}
 use Rattle.strm_machine.specs.declared.acts.Act.{Act}
 use Rattle.strm_machine.specs.declared.acts.Act.TheVariants.{Make, OnEnd, Transfer, OnLoose, OnHost, Drive, Event, OnSet, OnContext, OnMemory}

@@ -5,7 +5,7 @@ use Rattle.strm_machine.specs.declared.steps.Step.TheVariants as steps
 use Rattle.strm_machine.specs.declared.replies.Reply.{Reply}
 use Rattle.std.specs.Prelude.{Option, None}
 use Rattle.std.proofs.lemmas.Bool.{and_parts, eqb-true, and_from}
-use Rattle.strm_sets.specs.Sets.{is_number, set_of}
+use Rattle.strm_waitable_sets.specs.Sets.{is_number, set_of}
 use Rattle.strm_machine.specs.Acts.{act_of}
 use Rattle.strm_machine.specs.State.{State, empty, sets_in}
 use Rattle.strm_machine.specs.Reactions.{Reaction, goes, react}

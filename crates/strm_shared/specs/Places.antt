@@ -3,7 +3,7 @@
 use Rattle.std.specs.Prelude.{◌≡◌, ℕ, Bool, true, false, Option, Some, None}
 use Rattle.strm_codes.specs.declared.codes.ReturnCode.TheVariants as codes
 use Rattle.strm_codes.specs.declared.refusals.Refusal.TheVariants as refusals
-use Rattle.strm_sets.specs.Sets.{is_member}
+use Rattle.strm_waitable_sets.specs.Sets.{is_member}
 use Rattle.strm_machine.specs.Acts.{act_of}
 use Rattle.strm_machine.specs.Moments.{is_end}
 use Rattle.strm_machine.specs.State.{State, sets_in, stream_at}

@@ -32,8 +32,8 @@ pub struct LoneStore {
 impl Model for LoneStore {
     ghost use Rattle.strm_machine.specs.State.{State};
     ghost use Rattle.std.specs.Coded.{codes};
-    ghost use Rattle.strm_contexts.specs.Contexts.{contexts_code};
-    ghost use Rattle.strm_sets.specs.Sets.{sets_code};
+    ghost use Rattle.strm_error_contexts.specs.Contexts.{contexts_code};
+    ghost use Rattle.strm_waitable_sets.specs.Sets.{sets_code};
 
     ghost Value = { State };
 

@@ -1,7 +1,7 @@
 //! The rounds on a store of one owner, which keeps no history.
 
 ghost use Rattle.strm_buffers.specs.AllTells.{tells_of};
-ghost use Rattle.strm_world.specs.Does.{Fits};
+ghost use Rattle.strm_host_machine.specs.Does.{Fits};
 
 use crate::rounds::{GUEST, LIMITS, event, items, new, read, write};
 use std::alloc::Global;

@@ -7,9 +7,9 @@ use Rattle.strm_buffers.specs.Windows.{Lent, room_of}
 use Rattle.strm_buffers.specs.Said.{in_room, past_room}
 use Rattle.strm_buffers.specs.Tells.{PollsWriter, Rises, writer_record}
 use Rattle.strm_buffers.specs.declared.answers.Answer.{Answer}
-use Rattle.strm_ends.specs.Scripts.{faults_in, faults_of}
+use Rattle.strm_program_ends.specs.Scripts.{faults_in, faults_of}
 use Rattle.strm_buffers.specs.Said.{WriterSaid}
-use Rattle.strm_ends.proofs.ScriptLemmas.{said_of, room_parts, more_faults}
+use Rattle.strm_program_ends.proofs.ScriptLemmas.{said_of, room_parts, more_faults}
 use Rattle.strm_tape_ends.specs.Replays.{replay_tells}
 use Rattle.strm_tape_ends.specs.declared.replay_writer.ReplayWriter.{ReplayWriter}
 

@@ -2,8 +2,8 @@
 use Rattle.std.specs.Prelude.{ℕ, ◌+◌, ◌-◌, ◌^◌, min, Bool, true, false, List}
 use Rattle.strm_buffers.specs.declared.answers.ReaderSaid.{ReaderSaid}
 use Rattle.strm_buffers.specs.Tells.{ReaderTells}
-use Rattle.strm_ends.specs.Takings.{scripted_reader_tells}
-use Rattle.strm_ends.specs.declared.scripted_reader.ReaderTurn.{ReaderTurn}
+use Rattle.strm_program_ends.specs.Takings.{scripted_reader_tells}
+use Rattle.strm_program_ends.specs.declared.scripted_reader.ReaderTurn.{ReaderTurn}
 use Rattle.strm_tape_ends.specs.declared.replay_reader.ReplayReader.{ReplayReader}
 
 -- one item more is asked for where one was none

@@ -5,7 +5,7 @@ use Rattle.strm_buffers.specs.declared.answers.Answer.TheVariants.{Pending}
 use Rattle.strm_buffers.specs.Listing.{Item}
 use Rattle.strm_buffers.specs.Said.{WriterSaid}
 use Rattle.strm_buffers.specs.Tells.{WriterTells}
-use Rattle.strm_ends.specs.Scripts.{faults_in}
+use Rattle.strm_program_ends.specs.Scripts.{faults_in}
 use Rattle.strm_tape_ends.specs.declared.replay_writer.ReplayWriter.{ReplayWriter}
 
 -- the items of the next record of a plan: none behind the last

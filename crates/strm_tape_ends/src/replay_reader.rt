@@ -4,7 +4,7 @@
 
 ghost use Rattle.std.specs.Prelude.{◌≡◌, ◌<◌, ◌++◌, ◌∷◌, [], length, map, IfOk, OnOk, Some, slice_get};
 ghost use Rattle.strm_codes.specs.Types.{kind_of, payload_of};
-ghost use Rattle.strm_ends.specs.Takings.{unpolled_discarding};
+ghost use Rattle.strm_program_ends.specs.Takings.{unpolled_discarding};
 ghost use Rattle.strm_tape_ends.specs.ReaderPlans.{turn_for};
 
 use std::alloc::Global;
@@ -14,7 +14,7 @@ use strm_buffers::readers::HostReader;
 use strm_codes::codes::TransmitKind;
 use strm_codes::counts::OutOfMemory;
 use strm_codes::payloads::Payload;
-use strm_ends::scripted_reader::{ReaderTurn, ScriptedReader};
+use strm_program_ends::scripted_reader::{ReaderTurn, ScriptedReader};
 use strm_tape::tape::Tape;
 
 /// A host reader whose polls are the records of a host reader of a tape, in order: each takes as many items
@@ -84,7 +84,7 @@ impl HostReader for ReplayReader {
     ghost use Rattle.strm_buffers.specs.Offers.{after_taking, IsBadNext};
     ghost use Rattle.strm_buffers.specs.Said.{IfAnswered, IfNoMemory};
     ghost use Rattle.strm_buffers.specs.Tells.{PollsReader, KeepsReader, SameOffer, reader_record, first_lent, closed_reader, granted};
-    ghost use Rattle.strm_ends.specs.Takings.{turn_after};
+    ghost use Rattle.strm_program_ends.specs.Takings.{turn_after};
     ghost use Rattle.strm_tape_ends.specs.ReaderPlans.{plan_of_reader, replay_reader_tells};
 
     ghost reader_tells = { replay_reader_tells };

@@ -4,7 +4,7 @@
 
 ghost use Rattle.std.specs.Prelude.{◌≡◌, ◌<◌, ◌≤◌, ◌-◌, ◌∷◌, ◌++◌, [], All, length, vec_len, vec_capacity, take, drop, reverse, IfOk, OnOk};
 ghost use Rattle.strm_codes.specs.Types.{kind_of, payload_of};
-ghost use Rattle.strm_ends.specs.Scripts.{unpolled_writer};
+ghost use Rattle.strm_program_ends.specs.Scripts.{unpolled_writer};
 
 use std::alloc::Global;
 use strm_buffers::answers::{Answer, HostTurn, Turn};

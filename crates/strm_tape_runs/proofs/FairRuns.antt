@@ -11,11 +11,11 @@ use Rattle.strm_machine.specs.declared.replies.Reply.{Reply}
 use Rattle.strm_machine.specs.declared.limits.Limits.{Limits}
 use Rattle.strm_machine.specs.declared.steps.Step.{Step}
 use Rattle.strm_machine.specs.declared.stops.Stop.{Stop}
-use Rattle.strm_world.specs.Ends.{Writer, Reader, writer_in, reader_in}
-use Rattle.strm_world.specs.World.{World, stream_in, writer_at}
-use Rattle.strm_world.specs.HostPlays.{Played, play, after_step, Ends, Halts, Hangs}
-use Rattle.strm_world.specs.Outcomes.{Outcome, Goes, Stops, Stuck}
-use Rattle.strm_world.specs.Steps.{step_of}
+use Rattle.strm_host_machine.specs.Ends.{Writer, Reader, writer_in, reader_in}
+use Rattle.strm_host_machine.specs.World.{World, stream_in, writer_at}
+use Rattle.strm_host_machine.specs.HostPlays.{Played, play, after_step, Ends, Halts, Hangs}
+use Rattle.strm_host_machine.specs.Outcomes.{Outcome, Goes, Stops, Stuck}
+use Rattle.strm_host_machine.specs.Steps.{step_of}
 use Rattle.strm_host_laws.specs.HostMoments.{HostMoment, host_moments, first_moments, last_of}
 use Rattle.strm_host_laws.specs.HostLaws.{WriterGoesOn, WriterStops}
 use Rattle.strm_machine.specs.Hosting.{HostsHold}
@@ -23,11 +23,11 @@ use Rattle.strm_machine.specs.declared.streams.Duty.{Duty}
 use Rattle.strm_machine.specs.declared.streams.Duty.TheVariants.{Serves}
 use Rattle.strm_machine.specs.declared.streams.Side.TheVariants.{Writing, Reading}
 use Rattle.strm_machine.specs.declared.streams.Producer.{Producer}
-use Rattle.strm_world.specs.Does.{AllBegin, saids, writers_from, readers_from, spent}
+use Rattle.strm_host_machine.specs.Does.{AllBegin, saids, writers_from, readers_from, spent}
 use Rattle.strm_session.specs.declared.runs.RunStop.{RunStop}
 use Rattle.strm_session.specs.declared.runs.Transcript.{Transcript}
 use Rattle.strm_session.specs.Runs.{start, start_among, halted_in, HaltsBy}
-use Rattle.strm_world.proofs.LaterLemmas.{Used}
+use Rattle.strm_host_machine.proofs.LaterLemmas.{Used}
 use Rattle.strm_tape_runs.specs.declared.marks.Mark.{Mark}
 use Rattle.strm_tape_runs.specs.Marks.{FairRoom, FairTaking, mark_of, reader_mark_of, IsTapable, ReaderTapable}
 use Rattle.strm_tape_runs.specs.Playing.{IsRunOf, FoundMemory}

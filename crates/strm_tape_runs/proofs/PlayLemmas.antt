@@ -3,8 +3,8 @@ use Rattle.std.proofs.Common.{◌≡◌, List, Option, Some, None, Result, Ok, E
 use Rattle.strm_machine.specs.declared.replies.Reply.{Reply}
 use Rattle.strm_machine.specs.declared.stops.Stop.{Stop}
 use Rattle.strm_machine.specs.declared.stops.Stop.TheVariants as stops
-use Rattle.strm_world.specs.World.{World}
-use Rattle.strm_world.specs.HostPlays.{Played, Ends, Halts, Hangs}
+use Rattle.strm_host_machine.specs.World.{World}
+use Rattle.strm_host_machine.specs.HostPlays.{Played, Ends, Halts, Hangs}
 use Rattle.strm_session.specs.declared.runs.RunCause.{RunCause}
 use Rattle.strm_session.specs.declared.runs.RunCause.TheVariants as causes
 use Rattle.strm_session.specs.declared.runs.RunStop.{RunStop}

@@ -19,19 +19,19 @@ use Rattle.strm_machine.specs.declared.stops.Stop.{Stop}
 use Rattle.strm_machine.specs.declared.streams.Duty.{Duty}
 use Rattle.strm_machine.specs.declared.streams.Duty.TheVariants.{Ended}
 use Rattle.strm_machine.specs.declared.streams.Producer.{Producer}
-use Rattle.strm_world.specs.Ends.{Writer, Reader}
-use Rattle.strm_world.specs.World.{World}
-use Rattle.strm_world.specs.HostPlays.{Played, play, Ends, Halts, Hangs}
-use Rattle.strm_world.proofs.GrowLemmas.{supplied_since_itself}
-use Rattle.strm_world.specs.Does.{Begins, AllBegin, held_while, first_duty, writer_of, writers_from, reader_of, readers_from, spent}
-use Rattle.strm_alike.specs.Alike.{bare_writer, bare_reader, AreAlike, ComeOutAlike}
+use Rattle.strm_host_machine.specs.Ends.{Writer, Reader}
+use Rattle.strm_host_machine.specs.World.{World}
+use Rattle.strm_host_machine.specs.HostPlays.{Played, play, Ends, Halts, Hangs}
+use Rattle.strm_host_machine.proofs.GrowLemmas.{supplied_since_itself}
+use Rattle.strm_host_machine.specs.Does.{Begins, AllBegin, held_while, first_duty, writer_of, writers_from, reader_of, readers_from, spent}
+use Rattle.strm_record_laws.specs.Alike.{bare_writer, bare_reader, AreAlike, ComeOutAlike}
 use Rattle.strm_session.specs.declared.runs.RunCause.{RunCause}
 use Rattle.strm_session.specs.declared.runs.RunCause.TheVariants as causes
 use Rattle.strm_session.specs.declared.runs.RunStop.{RunStop}
 use Rattle.strm_session.specs.declared.runs.Transcript.{Transcript}
 use Rattle.strm_session.specs.Records.{HostsGoOn}
 use Rattle.strm_session.specs.Runs.{start, start_among, stop_of, counts_of, halted_in, HaltsBy}
-use Rattle.strm_world.proofs.DoesLemmas.{extends_self}
+use Rattle.strm_host_machine.proofs.DoesLemmas.{extends_self}
 use Rattle.strm_tape.specs.Spelling.{WriterTape, ReaderTape}
 use Rattle.strm_codes.specs.declared.codes.TransmitIndex.{TransmitIndex}
 use Rattle.strm_tape.specs.declared.errors.TapeError.{TapeError}

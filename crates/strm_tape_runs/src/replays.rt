@@ -14,7 +14,7 @@ use crate::differing::{Difference, first_difference};
 use crate::marks::Marks;
 use crate::runs::wanted_memory;
 use std::alloc::Global;
-use strm_alike::runs_are_alike;
+use strm_record_laws::runs_are_alike;
 use strm_buffers::hosts::Hosts;
 use strm_session::runs::{RunStop, Transcript, run};
 use strm_tape::errors::TapeError;

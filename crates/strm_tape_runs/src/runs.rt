@@ -13,7 +13,7 @@ ghost use Rattle.strm_tape_runs.specs.Playing.{IsRunOf, WasRun, FoundMemory, IsP
 use crate::marks::{Marks, first_holding};
 use crate::taking::tape_behind;
 use std::alloc::Global;
-use strm_alike::runs_are_alike;
+use strm_record_laws::runs_are_alike;
 use strm_buffers::hosts::Hosts;
 use strm_codes::counts::OutOfMemory;
 use strm_host_laws::guests::{states_are_sound, totals_are_counts};

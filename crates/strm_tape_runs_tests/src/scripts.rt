@@ -11,8 +11,8 @@ use strm_buffers::items::Items;
 use strm_codes::codes::TransmitKind;
 use strm_codes::payloads::Payload;
 use strm_codes::scalars::Scalar;
-use strm_ends::scripted_reader::{ReaderTurn, ScriptedReader};
-use strm_ends::scripted_writer::{ScriptedWriter, WriterTurn};
+use strm_program_ends::scripted_reader::{ReaderTurn, ScriptedReader};
+use strm_program_ends::scripted_writer::{ScriptedWriter, WriterTurn};
 
 const BYTE: Payload = Payload::One(Scalar::U8);
 

@@ -6,8 +6,8 @@ use Rattle.strm_machine.specs.State.{State}
 use Rattle.strm_machine.specs.Reactions.{Reaction}
 use Rattle.strm_machine.specs.declared.acts.Act.{Act}
 use Rattle.strm_machine.specs.declared.replies.Reply.{Reply}
-use Rattle.strm_world.specs.Does.{Answered, Does}
-use Rattle.strm_world.specs.Steps.{outcome}
+use Rattle.strm_host_machine.specs.Does.{Answered, Does}
+use Rattle.strm_host_machine.specs.Steps.{outcome}
 use Rattle.strm_transmit.specs.Meets.{Meets, refused_too}
 use Rattle.strm_transmit.specs.Hosted.{answered, MayBeDone, Leaves, ErrsByRecord, MeetsAlone, MeetsHosted}
 use Rattle.strm_transmit.specs.declared.errors.StoreError.{StoreError}

@@ -5,7 +5,7 @@ use Rattle.std.specs.Prelude.{OnOk, OnErr}
 use Rattle.strm_codes.specs.declared.refusals.Refusal.{Refusal}
 use Rattle.strm_handles.specs.Counters.{counted}
 use Rattle.strm_handles.specs.Handles.{Handles}
-use Rattle.strm_contexts.specs.Contexts.{Contexts, count_at, message_at}
+use Rattle.strm_error_contexts.specs.Contexts.{Contexts, count_at, message_at}
 use Rattle.strm_machine.specs.State.{State, sets_in, with_handles}
 use Rattle.strm_machine.specs.ErrorContexts.{message_named, context_given, message_limit, bytes_of_message}
 use Rattle.strm_machine.specs.Refusals.{refusal, first_of, lower_context_reasons}
@@ -19,7 +19,7 @@ use Rattle.strm_machine.proofs.SoundLemmas.{sizes_of-with_handles}
 use Rattle.strm_machine.proofs.TurnLemmas.{all_kept}
 use Rattle.strm_machine.proofs.ErrorContextLemmas.{count-live}
 use Rattle.strm_machine.proofs.ContextStepLemmas.{NamesContext, context_names}
-use Rattle.strm_turns.specs.Guests.{seen, live_in, sets_among, with_context_in}
+use Rattle.strm_channels.specs.Guests.{seen, live_in, sets_among, with_context_in}
 use Rattle.strm_transmit.specs.Inside.{state_of, IsStore}
 use Rattle.strm_transmit.specs.Meets.{Meets, admitted, or_found}
 use Rattle.strm_transmit.specs.declared.store.Store.TheInside.{Inside}

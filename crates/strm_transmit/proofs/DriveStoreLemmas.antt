@@ -18,16 +18,16 @@ use Rattle.strm_machine.specs.declared.streams.Side.{Side}
 use Rattle.strm_machine.specs.declared.streams.Side.TheVariants.{Writing, Reading}
 use Rattle.strm_machine.specs.declared.streams.Stream.{Stream}
 use Rattle.strm_machine.proofs.HostLemmas.{host_number}
-use Rattle.strm_world.specs.World.{World, stream_in}
-use Rattle.strm_world.specs.Outcomes.{done}
-use Rattle.strm_world.specs.Piping.{fetches, pipe_round}
-use Rattle.strm_world.specs.Driving.{drive_turn, driven, round_of}
-use Rattle.strm_world.specs.Steps.{performs_in, outcome}
-use Rattle.strm_world.specs.Does.{Logs, world_of, Answered, Fits, Does}
-use Rattle.strm_world.proofs.DoesLemmas.{Does-then, Does-untold, Does-as}
-use Rattle.strm_world.proofs.OutcomeLemmas.{outcome-performs, refusal_in-drive}
-use Rattle.strm_world.proofs.DriveLemmas.{drive_turn-alone, drive_turn-due, waits_open, drive_turn-idle, drive_turn-due_write, drive_turn-idle_write, drive_turn-piped, drives_first, EndsDone, Does-drives_alone, Does-drives_one, Does-drives_stop}
-use Rattle.strm_world.proofs.FitsLemmas.{are_alone}
+use Rattle.strm_host_machine.specs.World.{World, stream_in}
+use Rattle.strm_host_machine.specs.Outcomes.{done}
+use Rattle.strm_host_machine.specs.Piping.{fetches, pipe_round}
+use Rattle.strm_host_machine.specs.Driving.{drive_turn, driven, round_of}
+use Rattle.strm_host_machine.specs.Steps.{performs_in, outcome}
+use Rattle.strm_host_machine.specs.Does.{Logs, world_of, Answered, Fits, Does}
+use Rattle.strm_host_machine.proofs.DoesLemmas.{Does-then, Does-untold, Does-as}
+use Rattle.strm_host_machine.proofs.OutcomeLemmas.{outcome-performs, refusal_in-drive}
+use Rattle.strm_host_machine.proofs.DriveLemmas.{drive_turn-alone, drive_turn-due, waits_open, drive_turn-idle, drive_turn-due_write, drive_turn-idle_write, drive_turn-piped, drives_first, EndsDone, Does-drives_alone, Does-drives_one, Does-drives_stop}
+use Rattle.strm_host_machine.proofs.FitsLemmas.{are_alone}
 use Rattle.strm_transmit.specs.Meets.{replied}
 use Rattle.strm_transmit.specs.Hosted.{answered, IsStop, MeetsHosted}
 use Rattle.strm_transmit.specs.Inside.{AreServed}

@@ -22,14 +22,14 @@ use Rattle.strm_machine.specs.declared.streams.Side.{Side}
 use Rattle.strm_machine.specs.declared.streams.Side.TheVariants.{Writing, Reading}
 use Rattle.strm_machine.specs.declared.streams.Stream.{Stream}
 use Rattle.strm_machine.proofs.ReactionLemmas.{performs-on_end}
-use Rattle.strm_world.specs.World.{World, with_stream_in}
-use Rattle.strm_world.specs.Outcomes.{Goes, done, then_on, reacted}
-use Rattle.strm_world.specs.Attaching.{forsaken, forsakes}
-use Rattle.strm_world.specs.Steps.{reacts, drops_in, performs_in, touches}
-use Rattle.strm_world.specs.Does.{Logs, world_of, Fits, Does}
-use Rattle.strm_world.proofs.DoesLemmas.{Does-untold, Does-then}
-use Rattle.strm_world.proofs.OutcomeLemmas.{refusal_in-on_end, refusal_in-on_loose}
-use Rattle.strm_world.proofs.ReactedLemmas.{world_of-state}
+use Rattle.strm_host_machine.specs.World.{World, with_stream_in}
+use Rattle.strm_host_machine.specs.Outcomes.{Goes, done, then_on, reacted}
+use Rattle.strm_host_machine.specs.Attaching.{forsaken, forsakes}
+use Rattle.strm_host_machine.specs.Steps.{reacts, drops_in, performs_in, touches}
+use Rattle.strm_host_machine.specs.Does.{Logs, world_of, Fits, Does}
+use Rattle.strm_host_machine.proofs.DoesLemmas.{Does-untold, Does-then}
+use Rattle.strm_host_machine.proofs.OutcomeLemmas.{refusal_in-on_end, refusal_in-on_loose}
+use Rattle.strm_host_machine.proofs.ReactedLemmas.{world_of-state}
 use Rattle.strm_transmit.specs.Inside.{AreServed}
 use Rattle.strm_transmit.specs.Hosted.{lone, forsaken_in, MeetsHosted, MayBeDone}
 use Rattle.strm_transmit.proofs.StepLemmas.{IsAdmitted, reacts as reacts_to}

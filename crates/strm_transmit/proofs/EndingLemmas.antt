@@ -28,7 +28,7 @@ use Rattle.strm_machine.proofs.NamedEndLemmas.{on_end-found, is_end-ok}
 use Rattle.strm_machine.proofs.RefusalLemmas.{LeaveFits, named_ok}
 use Rattle.strm_machine.proofs.SideLemmas.{same_side_is, StreamKeeps}
 use Rattle.strm_machine.proofs.SoundLemmas.{placed_at}
-use Rattle.strm_turns.specs.Guests.{seen, removable}
+use Rattle.strm_channels.specs.Guests.{seen, removable}
 use Rattle.strm_transmit.specs.Inside.{state_of, IsStore}
 use Rattle.strm_transmit.specs.Telling.{Retells}
 use Rattle.strm_transmit.specs.declared.store.Store.TheInside.{Inside}

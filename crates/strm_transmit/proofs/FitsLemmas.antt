@@ -19,11 +19,11 @@ use Rattle.strm_machine.specs.declared.streams.Side.{Side}
 use Rattle.strm_machine.specs.declared.streams.Side.TheVariants.{Writing, Reading}
 use Rattle.strm_machine.proofs.StreamSteps.{reaction_streams}
 use Rattle.strm_machine.proofs.TableLemmas.{set-keeps}
-use Rattle.strm_world.specs.Does.{Fits}
-use Rattle.strm_world.proofs.CloseLemmas.{ended_producer, ended_in}
-use Rattle.strm_world.proofs.ReaderLemmas.{ended_consumer, ended_reader_in}
-use Rattle.strm_world.proofs.FitsLemmas.{KeepsKind}
-use Rattle.strm_world.proofs.PollLemmas.{IsServing}
+use Rattle.strm_host_machine.specs.Does.{Fits}
+use Rattle.strm_host_machine.proofs.CloseLemmas.{ended_producer, ended_in}
+use Rattle.strm_host_machine.proofs.ReaderLemmas.{ended_consumer, ended_reader_in}
+use Rattle.strm_host_machine.proofs.FitsLemmas.{KeepsKind}
+use Rattle.strm_host_machine.proofs.PollLemmas.{IsServing}
 use Rattle.strm_machine.proofs.ShapeLemmas.{reaction-producers, reaction-consumers}
 use Rattle.strm_transmit.specs.Inside.{AreServed}
 use Rattle.strm_transmit.proofs.ServedLemmas.{at_set, serving_kept, reading_kept, ended_no}

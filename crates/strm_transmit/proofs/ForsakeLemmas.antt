@@ -8,16 +8,16 @@ use Rattle.strm_machine.specs.declared.replies.Reply.TheVariants as replies
 use Rattle.strm_machine.specs.declared.streams.Owner.TheVariants.{Gone}
 use Rattle.strm_machine.specs.declared.streams.Side.{Side}
 use Rattle.strm_machine.specs.declared.streams.Side.TheVariants.{Writing, Reading}
-use Rattle.strm_world.specs.World.{with_stream_in}
-use Rattle.strm_world.specs.Outcomes.{Goes, done}
-use Rattle.strm_world.specs.Attaching.{forsaken}
-use Rattle.strm_world.specs.Does.{Logs, world_of, Fits, Does}
-use Rattle.strm_world.proofs.GrowLemmas.{grows-closed, Does-told}
-use Rattle.strm_world.proofs.CloseLemmas.{ended_in}
-use Rattle.strm_world.proofs.ReaderLemmas.{grows-same_reader, Does-told_reader, ended_reader_in}
-use Rattle.strm_world.proofs.SettleLemmas.{with_stream_in-left, with_reader_closed, with_stream_in-left_by_reader}
-use Rattle.strm_world.proofs.FitsLemmas.{Fits-stream}
-use Rattle.strm_world.proofs.PollLemmas.{IsServing}
+use Rattle.strm_host_machine.specs.World.{with_stream_in}
+use Rattle.strm_host_machine.specs.Outcomes.{Goes, done}
+use Rattle.strm_host_machine.specs.Attaching.{forsaken}
+use Rattle.strm_host_machine.specs.Does.{Logs, world_of, Fits, Does}
+use Rattle.strm_host_machine.proofs.GrowLemmas.{grows-closed, Does-told}
+use Rattle.strm_host_machine.proofs.CloseLemmas.{ended_in}
+use Rattle.strm_host_machine.proofs.ReaderLemmas.{grows-same_reader, Does-told_reader, ended_reader_in}
+use Rattle.strm_host_machine.proofs.SettleLemmas.{with_stream_in-left, with_reader_closed, with_stream_in-left_by_reader}
+use Rattle.strm_host_machine.proofs.FitsLemmas.{Fits-stream}
+use Rattle.strm_host_machine.proofs.PollLemmas.{IsServing}
 use Rattle.strm_transmit.specs.Hosted.{forsaken_in}
 use Rattle.strm_transmit.proofs.FitsLemmas.{keeps-closed, Fits-told, Fits-told_reader, Fits-ended, Fits-reader_ended, HasWriter, serving, HasReader, IsReading, reading}
 use Rattle.strm_transmit.proofs.HostStepLemmas.{Does-after, Fits-after}

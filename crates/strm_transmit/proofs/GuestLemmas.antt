@@ -25,8 +25,8 @@ use Rattle.strm_machine.proofs.SoundStepLemmas.{operate-keeps, reaction-sound}
 use Rattle.strm_machine.proofs.TableLemmas.{OwnersStay, with_end-owners, owner_in}
 use Rattle.strm_machine.proofs.Shapes.{turn_on, Shape, ByTurn, BySetting, ByOwner, ByTable, ByPair, ByGuest, ByPut, ByRest}
 use Rattle.strm_machine.proofs.ShapeLemmas.{reaction-shape}
-use Rattle.strm_world.specs.Steps.{touches_by, touches}
-use Rattle.strm_world.proofs.TouchLemmas.{touch-by}
+use Rattle.strm_host_machine.specs.Steps.{touches_by, touches}
+use Rattle.strm_host_machine.proofs.TouchLemmas.{touch-by}
 use Rattle.strm_transmit.specs.Hosted.{lone}
 use Rattle.strm_transmit.specs.Guests.{AreUnhosted, Unhosted, is_of_guests}
 

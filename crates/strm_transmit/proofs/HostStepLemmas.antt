@@ -15,14 +15,14 @@ use Rattle.strm_machine.specs.declared.replies.Reply.{Reply}
 use Rattle.strm_machine.specs.declared.replies.Reply.TheVariants as replies
 use Rattle.strm_machine.specs.declared.stops.Stop.TheVariants as stops
 use Rattle.strm_machine.proofs.ReactionLemmas.{reaction-trapped, reaction-refused}
-use Rattle.strm_world.specs.World.{World}
-use Rattle.strm_world.specs.Outcomes.{Outcome, Goes, stops as stops_in}
-use Rattle.strm_world.specs.HostRefusals.{refusal_in}
-use Rattle.strm_world.specs.Steps.{Touch, Drops, Hosts, touch_of, performs_in, unless_refused_in, outcome, polls_by, may_poll, touches_by, touches}
-use Rattle.strm_world.specs.Does.{Logs, world_of, Answered, Fits, Does}
-use Rattle.strm_world.proofs.DoesLemmas.{Does-untold, Does-as}
-use Rattle.strm_world.proofs.OutcomeLemmas.{outcome-trapped, outcome-performs}
-use Rattle.strm_world.proofs.ReactedLemmas.{refusal-reacted, touches-state, answer_of, lifted}
+use Rattle.strm_host_machine.specs.World.{World}
+use Rattle.strm_host_machine.specs.Outcomes.{Outcome, Goes, stops as stops_in}
+use Rattle.strm_host_machine.specs.HostRefusals.{refusal_in}
+use Rattle.strm_host_machine.specs.Steps.{Touch, Drops, Hosts, touch_of, performs_in, unless_refused_in, outcome, polls_by, may_poll, touches_by, touches}
+use Rattle.strm_host_machine.specs.Does.{Logs, world_of, Answered, Fits, Does}
+use Rattle.strm_host_machine.proofs.DoesLemmas.{Does-untold, Does-as}
+use Rattle.strm_host_machine.proofs.OutcomeLemmas.{outcome-trapped, outcome-performs}
+use Rattle.strm_host_machine.proofs.ReactedLemmas.{refusal-reacted, touches-state, answer_of, lifted}
 use Rattle.strm_transmit.specs.Meets.{is_done, Meets, admitted, or_found}
 use Rattle.strm_transmit.specs.Hosted.{answered, lone, MayBeDone, Stays, Leaves, ErrsByRecord, MeetsHosted}
 use Rattle.strm_transmit.specs.declared.errors.StoreError.{StoreError}

@@ -17,17 +17,17 @@ use Rattle.strm_machine.specs.declared.replies.Reply.TheVariants as replies
 use Rattle.strm_machine.specs.declared.streams.Duty.{Duty}
 use Rattle.strm_machine.specs.declared.streams.Duty.TheVariants.{Unused, Serves, Ended}
 use Rattle.strm_machine.specs.declared.streams.Producer.{Producer}
-use Rattle.strm_world.specs.Ends.{Reader, no_reader}
-use Rattle.strm_world.specs.World.{World}
-use Rattle.strm_world.specs.Attaching.{hosts_new}
-use Rattle.strm_world.specs.HostRefusals.{is_unknown_host, is_used, type_read, refusal_in}
-use Rattle.strm_world.specs.Steps.{on_host, performs_in, outcome}
-use Rattle.strm_world.specs.Does.{Logs, readers_from, world_of, FitsWriter, FitsReader, Fits, Does}
-use Rattle.strm_world.proofs.DoesLemmas.{Does-untold}
-use Rattle.strm_world.proofs.WorldLemmas.{length-writers_from}
-use Rattle.strm_world.proofs.ReaderLemmas.{reader_at-from, length-readers_from}
-use Rattle.strm_world.proofs.PipeAttachLemmas.{Does-grant}
-use Rattle.strm_world.proofs.AttachLemmas.{hosted_by, hosting_by, hosted_in, Does-hosts_new, Does-feed}
+use Rattle.strm_host_machine.specs.Ends.{Reader, no_reader}
+use Rattle.strm_host_machine.specs.World.{World}
+use Rattle.strm_host_machine.specs.Attaching.{hosts_new}
+use Rattle.strm_host_machine.specs.HostRefusals.{is_unknown_host, is_used, type_read, refusal_in}
+use Rattle.strm_host_machine.specs.Steps.{on_host, performs_in, outcome}
+use Rattle.strm_host_machine.specs.Does.{Logs, readers_from, world_of, FitsWriter, FitsReader, Fits, Does}
+use Rattle.strm_host_machine.proofs.DoesLemmas.{Does-untold}
+use Rattle.strm_host_machine.proofs.WorldLemmas.{length-writers_from}
+use Rattle.strm_host_machine.proofs.ReaderLemmas.{reader_at-from, length-readers_from}
+use Rattle.strm_host_machine.proofs.PipeAttachLemmas.{Does-grant}
+use Rattle.strm_host_machine.proofs.AttachLemmas.{hosted_by, hosting_by, hosted_in, Does-hosts_new, Does-feed}
 use Rattle.strm_transmit.specs.Meets.{admitted, replied, or_found}
 use Rattle.strm_transmit.specs.Hosted.{MayBeDone, MeetsHosted}
 use Rattle.strm_transmit.specs.declared.errors.StoreError.{StoreError}
@@ -54,7 +54,7 @@ use Rattle.strm_machine.proofs.HostLemmas.{no_host}
 use Rattle.strm_machine.proofs.SoundLemmas.{AreNamed-more}
 use Rattle.strm_machine.proofs.TableLemmas.{at_push}
 use Rattle.strm_machine.proofs.TurnLemmas.{all_kept}
-use Rattle.strm_turns.specs.Guests.{seen}
+use Rattle.strm_channels.specs.Guests.{seen}
 use Rattle.strm_transmit.specs.Inside.{state_of, padded, AreServed, IsStore}
 use Rattle.strm_transmit.specs.Keeping.{HasGrown, PlaceMade}
 use Rattle.strm_transmit.proofs.KeptLemmas.{have_grown, have_hosted, view_made}

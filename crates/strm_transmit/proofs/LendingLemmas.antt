@@ -4,9 +4,9 @@ use Rattle.std.specs.List.{refill, length_refill}
 use Rattle.std.specs.Vec.{with_item}
 use Rattle.strm_memory.specs.Linear.{with_contents}
 use Rattle.strm_machine.specs.State.{with_memory}
-use Rattle.strm_turns.specs.Guests.{seen}
-use Rattle.strm_turns.specs.declared.guests.Guest.{Guest}
-use Rattle.strm_turns.proofs.GuestLemmas.{seen-with_memory, memory_in-seen}
+use Rattle.strm_channels.specs.Guests.{seen}
+use Rattle.strm_channels.specs.declared.guests.Guest.{Guest}
+use Rattle.strm_channels.proofs.GuestLemmas.{seen-with_memory, memory_in-seen}
 use Rattle.strm_transmit.specs.Inside.{state_of, IsStore}
 use Rattle.strm_transmit.specs.Lending.{with_bytes_in}
 use Rattle.strm_transmit.specs.declared.store.Store.TheInside.{Inside}

@@ -5,7 +5,7 @@ use Rattle.std.proofs.lemmas.Bool.{cases_lt}
 use Rattle.std.proofs.lemmas.List.{get_or_past, get_or-set_same, length-set}
 use Rattle.strm_codes.specs.declared.codes.TransmitIndex.{TransmitIndex}
 use Rattle.strm_handles.specs.Counters.{counted, uncounted}
-use Rattle.strm_sets.specs.Sets.{left, set_of}
+use Rattle.strm_waitable_sets.specs.Sets.{left, set_of}
 use Rattle.strm_machine.specs.State.{State, sets_in, no_stream, stream_at, is_loose, is_held, is_host, is_live, sets_in_use}
 use Rattle.strm_machine.specs.Sides.{end_of}
 use Rattle.strm_machine.specs.Moves.{without_handle, next_in, with_owner}
@@ -29,7 +29,7 @@ use Rattle.strm_machine.proofs.ReactionLemmas.{reaction-performs}
 use Rattle.strm_machine.proofs.RefusalLemmas.{move_fits, lower_fits, close_fits}
 use Rattle.strm_machine.proofs.SoundLemmas.{IsSound-set, IsSound-freed, sizes_of-with_table, sizes_of-with_handles}
 use Rattle.strm_machine.proofs.SoundStepLemmas.{reaction-sound}
-use Rattle.strm_turns.specs.Guests.{seen, live_in, sets_among, without_handle_in, with_end_in}
+use Rattle.strm_channels.specs.Guests.{seen, live_in, sets_among, without_handle_in, with_end_in}
 use Rattle.strm_transmit.specs.Inside.{state_of, AreServed, HavePlaces, IsStore}
 use Rattle.strm_transmit.specs.declared.store.Store.TheInside.{Inside}
 use Rattle.strm_transmit.proofs.ServedLemmas.{ComesNoHost, AreServed-set}

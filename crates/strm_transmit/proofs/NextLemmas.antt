@@ -16,7 +16,7 @@ use Rattle.strm_machine.specs.declared.streams.Side.TheVariants.{Writing, Readin
 use Rattle.strm_machine.specs.declared.streams.Stream.{Stream}
 use Rattle.strm_machine.specs.Tests.{same_kind}
 use Rattle.strm_machine.proofs.RefusalLemmas.{same_kind_is}
-use Rattle.strm_world.specs.Does.{FitsWriter, FitsReader, Fits}
+use Rattle.strm_host_machine.specs.Does.{FitsWriter, FitsReader, Fits}
 use Rattle.strm_transmit.specs.Hosted.{FitsAt}
 use Rattle.strm_transmit.specs.Inside.{AreServed}
 use Rattle.strm_transmit.specs.Turning.{least_of, next_of, IsNextAmong, NextAmong, NextServed}

@@ -18,9 +18,9 @@ use Rattle.strm_machine.specs.declared.streams.Side.TheVariants.{Writing, Readin
 use Rattle.strm_machine.specs.declared.streams.Operation.{Operation}
 use Rattle.strm_machine.specs.declared.streams.Stream.{Stream}
 use Rattle.strm_machine.proofs.Shapes.{operating, begun_on}
-use Rattle.strm_world.specs.World.{World}
-use Rattle.strm_world.specs.Steps.{operates_by, reads_from, writes_to, performs_in, outcome, may_poll, touches}
-use Rattle.strm_world.specs.Does.{world_of, Fits, Does, Answered}
+use Rattle.strm_host_machine.specs.World.{World}
+use Rattle.strm_host_machine.specs.Steps.{operates_by, reads_from, writes_to, performs_in, outcome, may_poll, touches}
+use Rattle.strm_host_machine.specs.Does.{world_of, Fits, Does, Answered}
 use Rattle.strm_transmit.specs.Meets.{replied}
 use Rattle.strm_transmit.specs.Hosted.{answered, lone, MayBeDone, Leaves, IsHandedOver, IsStop, ErrsByRecord, MeetsHosted}
 use Rattle.strm_transmit.specs.Inside.{AreServed}
@@ -34,12 +34,12 @@ use Rattle.strm_machine.specs.Reactions.{Reaction, goes, tells as tells_end, wit
 use Rattle.strm_machine.specs.declared.replies.Reply.TheVariants as replies
 use Rattle.strm_machine.specs.declared.stops.Stop.{Stop}
 use Rattle.strm_machine.specs.declared.stops.Stop.TheVariants as stops
-use Rattle.strm_world.specs.Settling.{answered as answers_at}
-use Rattle.strm_world.proofs.FitsLemmas.{KeepsKind, Fits-stream}
-use Rattle.strm_world.proofs.ReadLemmas.{Does-read, Does-read_stop}
-use Rattle.strm_world.proofs.WriteLemmas.{Does-write, Does-write_stop}
-use Rattle.strm_world.proofs.LastRecordLemmas.{AreServing, halts_by_record}
-use Rattle.strm_world.proofs.OutcomeLemmas.{refusal_in-on_end}
+use Rattle.strm_host_machine.specs.Settling.{answered as answers_at}
+use Rattle.strm_host_machine.proofs.FitsLemmas.{KeepsKind, Fits-stream}
+use Rattle.strm_host_machine.proofs.ReadLemmas.{Does-read, Does-read_stop}
+use Rattle.strm_host_machine.proofs.WriteLemmas.{Does-write, Does-write_stop}
+use Rattle.strm_host_machine.proofs.LastRecordLemmas.{AreServing, halts_by_record}
+use Rattle.strm_host_machine.proofs.OutcomeLemmas.{refusal_in-on_end}
 use Rattle.strm_transmit.proofs.WantsLemmas.{wanting_result}
 use Rattle.strm_transmit.proofs.HostStepLemmas.{PerformsAs, does_admitted, Settles, unpolled}
 

@@ -39,17 +39,17 @@ use Rattle.strm_machine.proofs.RefusalLemmas.{same_kind_is}
 use Rattle.strm_machine.proofs.SideLemmas.{StreamKeeps, with_end-keeps}
 use Rattle.strm_machine.proofs.SoundLemmas.{IsSound-set}
 use Rattle.strm_machine.proofs.TurnLemmas.{all_kept}
-use Rattle.strm_turns.specs.Guests.{seen}
-use Rattle.strm_world.specs.World.{World}
-use Rattle.strm_world.specs.Attaching.{withdrawn, piped, has_items, is_dry, without_ends, pipes}
-use Rattle.strm_world.specs.HostRefusals.{is_unknown_host, is_used}
-use Rattle.strm_world.specs.Steps.{performs_in}
-use Rattle.strm_world.specs.Does.{Logs, world_of, FitsReader, Fits, Does}
-use Rattle.strm_world.proofs.CloseLemmas.{ended_in}
-use Rattle.strm_world.proofs.FitsLemmas.{Fits-stream}
-use Rattle.strm_world.proofs.PipeAttachLemmas.{reading_in, piped_in, is_dry_told, is_dry-told, IsWritten, MayPipe, Does-pipes, dry_in, Does-pipes_gone, Does-pipes_dry}
-use Rattle.strm_world.proofs.ReaderLemmas.{ended_reader_in}
-use Rattle.strm_world.proofs.SettleLemmas.{AreBothLeft}
+use Rattle.strm_channels.specs.Guests.{seen}
+use Rattle.strm_host_machine.specs.World.{World}
+use Rattle.strm_host_machine.specs.Attaching.{withdrawn, piped, has_items, is_dry, without_ends, pipes}
+use Rattle.strm_host_machine.specs.HostRefusals.{is_unknown_host, is_used}
+use Rattle.strm_host_machine.specs.Steps.{performs_in}
+use Rattle.strm_host_machine.specs.Does.{Logs, world_of, FitsReader, Fits, Does}
+use Rattle.strm_host_machine.proofs.CloseLemmas.{ended_in}
+use Rattle.strm_host_machine.proofs.FitsLemmas.{Fits-stream}
+use Rattle.strm_host_machine.proofs.PipeAttachLemmas.{reading_in, piped_in, is_dry_told, is_dry-told, IsWritten, MayPipe, Does-pipes, dry_in, Does-pipes_gone, Does-pipes_dry}
+use Rattle.strm_host_machine.proofs.ReaderLemmas.{ended_reader_in}
+use Rattle.strm_host_machine.proofs.SettleLemmas.{AreBothLeft}
 use Rattle.strm_transmit.specs.Hosted.{MayBeDone, MeetsHosted}
 use Rattle.strm_transmit.specs.Inside.{state_of, AreServed, HavePlaces, IsStore}
 use Rattle.strm_transmit.specs.Piping.{report_withdrawn, handed_to, unread_in, reader_closed, PipeFits, WriterEnds, EndsPipe}

@@ -15,17 +15,17 @@ use Rattle.strm_machine.specs.declared.streams.Owner.{Owner}
 use Rattle.strm_machine.specs.declared.streams.Owner.TheVariants.{Host, Gone}
 use Rattle.strm_machine.specs.declared.streams.Producer.{Producer}
 use Rattle.strm_machine.specs.declared.streams.Stream.{Stream}
-use Rattle.strm_world.specs.Producing.{producer_turn}
-use Rattle.strm_world.specs.Does.{Answered, Fits, Does}
-use Rattle.strm_world.proofs.CloseLemmas.{ended_in}
-use Rattle.strm_world.proofs.FitsLemmas.{Fits-stream}
-use Rattle.strm_world.proofs.PollLemmas.{IsServing}
-use Rattle.strm_world.proofs.SettleLemmas.{IsLeft}
-use Rattle.strm_world.proofs.TurnLemmas.{turned_but}
-use Rattle.strm_producing.specs.Turning.{Scene, Polled, TurnsEmpty, TurnsHolding}
-use Rattle.strm_producing.specs.declared.turns.TurnError.{TurnError}
-use Rattle.strm_producing.specs.declared.turns.TurnError.TheVariants.{Failed, OutOfMemory, Broke}
-use Rattle.strm_producing.proofs.StepLemmas.{scene_in, told_in, turned_in, stop_of, turn_stays, turn_left, turn_stops}
+use Rattle.strm_host_machine.specs.Producing.{producer_turn}
+use Rattle.strm_host_machine.specs.Does.{Answered, Fits, Does}
+use Rattle.strm_host_machine.proofs.CloseLemmas.{ended_in}
+use Rattle.strm_host_machine.proofs.FitsLemmas.{Fits-stream}
+use Rattle.strm_host_machine.proofs.PollLemmas.{IsServing}
+use Rattle.strm_host_machine.proofs.SettleLemmas.{IsLeft}
+use Rattle.strm_host_machine.proofs.TurnLemmas.{turned_but}
+use Rattle.strm_host_turns.specs.Turning.{Scene, Polled, TurnsEmpty, TurnsHolding}
+use Rattle.strm_host_turns.specs.declared.turns.TurnError.{TurnError}
+use Rattle.strm_host_turns.specs.declared.turns.TurnError.TheVariants.{Failed, OutOfMemory, Broke}
+use Rattle.strm_host_turns.proofs.StepLemmas.{scene_in, told_in, turned_in, stop_of, turn_stays, turn_left, turn_stops}
 use Rattle.strm_transmit.specs.Inside.{AreServed}
 use Rattle.strm_transmit.specs.Hosted.{answered, IsStop}
 use Rattle.strm_transmit.specs.Turning.{TurnsStream, stops_by}

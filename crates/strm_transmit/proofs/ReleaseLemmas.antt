@@ -9,10 +9,10 @@ use Rattle.strm_machine.specs.declared.streams.Owner.TheVariants.{Held, Host, Lo
 use Rattle.strm_machine.specs.declared.streams.Side.TheVariants.{Writing, Reading}
 use Rattle.strm_machine.specs.declared.streams.Side.{Side}
 use Rattle.strm_machine.specs.Sides.{end_of}
-use Rattle.strm_world.specs.Attaching.{has_items, without_ends}
-use Rattle.strm_world.specs.Releasing.{KnowsHeld, released_by, released_among, released, released_in, after_release}
-use Rattle.strm_world.specs.Does.{Fits}
-use Rattle.strm_world.proofs.FitsLemmas.{Fits-stream}
+use Rattle.strm_host_machine.specs.Attaching.{has_items, without_ends}
+use Rattle.strm_host_machine.specs.Releasing.{KnowsHeld, released_by, released_among, released, released_in, after_release}
+use Rattle.strm_host_machine.specs.Does.{Fits}
+use Rattle.strm_host_machine.proofs.FitsLemmas.{Fits-stream}
 use Rattle.strm_transmit.specs.Inside.{AreServed}
 use Rattle.strm_transmit.proofs.ServedLemmas.{at_set, serving_kept}
 use Rattle.strm_transmit.proofs.FitsLemmas.{Fits-ended}

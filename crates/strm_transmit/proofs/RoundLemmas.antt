@@ -20,23 +20,23 @@ use Rattle.strm_machine.specs.declared.streams.Producer.{Producer}
 use Rattle.strm_machine.specs.declared.streams.Side.{Side}
 use Rattle.strm_machine.specs.declared.streams.Side.TheVariants.{Writing, Reading}
 use Rattle.strm_machine.specs.declared.streams.Stream.{Stream}
-use Rattle.strm_world.specs.Attaching.{has_items, without_ends}
-use Rattle.strm_world.specs.Piping.{fetches, ends_if_done, pipe_round}
-use Rattle.strm_world.specs.Does.{Answered, Fits, Does}
-use Rattle.strm_world.proofs.CloseLemmas.{ended_in}
-use Rattle.strm_world.proofs.FitsLemmas.{Fits-stream}
-use Rattle.strm_world.proofs.GrowLemmas.{follows-told, follows-then, grows-same, grows-kept, Does-follows}
-use Rattle.strm_world.proofs.PollLemmas.{IsServing}
-use Rattle.strm_world.proofs.ReaderLemmas.{ended_reader_in, grows-same_reader, follows-told_reader}
-use Rattle.strm_world.proofs.SettleLemmas.{AreBothLeft}
-use Rattle.strm_world.proofs.PipeLemmas.{gathered_in, IsFetched, Does-fetches_none, Does-fetches, Does-fetches_failed, Does-fetches_broke, IsOffered, offered_tells, passed_in, Does-round, Does-round_stop}
-use Rattle.strm_world.proofs.PipeRoundLemmas.{Does-offers_none, Does-offers, Does-offers_failed, Does-offers_bad, Does-offers_broke, Does-ends_not, Does-ends}
-use Rattle.strm_producing.specs.Piping.{Fetching, Fetches, Offering, offering, Ungathered, Unoffered, OfferWants, Offers}
-use Rattle.strm_producing.specs.declared.taking.TakeError.{TakeError}
-use Rattle.strm_producing.specs.declared.taking.TakeError.TheVariants as takes
-use Rattle.strm_producing.specs.declared.turns.TurnError.{TurnError}
-use Rattle.strm_producing.specs.declared.turns.TurnError.TheVariants.{Failed, OutOfMemory, Broke}
-use Rattle.strm_producing.proofs.StepLemmas.{stop_of}
+use Rattle.strm_host_machine.specs.Attaching.{has_items, without_ends}
+use Rattle.strm_host_machine.specs.Piping.{fetches, ends_if_done, pipe_round}
+use Rattle.strm_host_machine.specs.Does.{Answered, Fits, Does}
+use Rattle.strm_host_machine.proofs.CloseLemmas.{ended_in}
+use Rattle.strm_host_machine.proofs.FitsLemmas.{Fits-stream}
+use Rattle.strm_host_machine.proofs.GrowLemmas.{follows-told, follows-then, grows-same, grows-kept, Does-follows}
+use Rattle.strm_host_machine.proofs.PollLemmas.{IsServing}
+use Rattle.strm_host_machine.proofs.ReaderLemmas.{ended_reader_in, grows-same_reader, follows-told_reader}
+use Rattle.strm_host_machine.proofs.SettleLemmas.{AreBothLeft}
+use Rattle.strm_host_machine.proofs.PipeLemmas.{gathered_in, IsFetched, Does-fetches_none, Does-fetches, Does-fetches_failed, Does-fetches_broke, IsOffered, offered_tells, passed_in, Does-round, Does-round_stop}
+use Rattle.strm_host_machine.proofs.PipeRoundLemmas.{Does-offers_none, Does-offers, Does-offers_failed, Does-offers_bad, Does-offers_broke, Does-ends_not, Does-ends}
+use Rattle.strm_host_turns.specs.Piping.{Fetching, Fetches, Offering, offering, Ungathered, Unoffered, OfferWants, Offers}
+use Rattle.strm_host_turns.specs.declared.taking.TakeError.{TakeError}
+use Rattle.strm_host_turns.specs.declared.taking.TakeError.TheVariants as takes
+use Rattle.strm_host_turns.specs.declared.turns.TurnError.{TurnError}
+use Rattle.strm_host_turns.specs.declared.turns.TurnError.TheVariants.{Failed, OutOfMemory, Broke}
+use Rattle.strm_host_turns.proofs.StepLemmas.{stop_of}
 use Rattle.strm_transmit.specs.Hosted.{answered, IsStop}
 use Rattle.strm_transmit.specs.Inside.{AreServed}
 use Rattle.strm_transmit.specs.Piping.{unread_in, reader_closed, WriterEnds, EndsPipe}
@@ -50,7 +50,7 @@ use Rattle.strm_transmit.proofs.ProduceLemmas.{stop-is}
 use Rattle.strm_transmit.proofs.TakeLemmas.{cause_of, cause-is}
 use Rattle.strm_transmit.specs.WantsMemory.{writer_failed, reader_failed, FailsOnce, WantsInPoll, WantsAt, InPoll, BeforeOffer, WantsInOffer, Polled, Unpolled, IfWanting}
 use Rattle.strm_transmit.proofs.WantsLemmas.{set_again, none_from, none_to, fails_polled, fails_offered, fails_writer, fails_reader}
-use Rattle.strm_world.proofs.TurnLemmas.{told-same}
+use Rattle.strm_host_machine.proofs.TurnLemmas.{told-same}
 use Rattle.strm_machine.specs.declared.stops.Stop.TheVariants.{HostFailed}
 use Rattle.strm_machine.specs.declared.streams.HostEnd.TheVariants as ends
 

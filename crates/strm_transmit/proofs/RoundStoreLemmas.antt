@@ -23,12 +23,12 @@ use Rattle.strm_machine.specs.declared.streams.Stream.{Stream}
 use Rattle.strm_machine.proofs.SoundLemmas.{type_of-same, IsSound-stream, placed_at}
 use Rattle.strm_machine.proofs.TableLemmas.{set-keeps}
 use Rattle.strm_machine.proofs.TurnLemmas.{all_kept}
-use Rattle.strm_turns.specs.Guests.{seen}
-use Rattle.strm_world.specs.Attaching.{has_items}
-use Rattle.strm_world.specs.Does.{FitsWriter, FitsReader}
-use Rattle.strm_producing.specs.Piping.{fetching, Fetches, offering, Offers}
-use Rattle.strm_producing.specs.declared.taking.TakeError.{TakeError}
-use Rattle.strm_producing.specs.declared.turns.TurnError.{TurnError}
+use Rattle.strm_channels.specs.Guests.{seen}
+use Rattle.strm_host_machine.specs.Attaching.{has_items}
+use Rattle.strm_host_machine.specs.Does.{FitsWriter, FitsReader}
+use Rattle.strm_host_turns.specs.Piping.{fetching, Fetches, offering, Offers}
+use Rattle.strm_host_turns.specs.declared.taking.TakeError.{TakeError}
+use Rattle.strm_host_turns.specs.declared.turns.TurnError.{TurnError}
 use Rattle.strm_transmit.specs.Inside.{state_of, padded, nothing_kept, HasPlace, AreServed, HavePlaces, IsStore}
 use Rattle.strm_transmit.specs.Rounds.{IsPipe, FetchesStream, OffersStream}
 use Rattle.strm_transmit.specs.declared.store.Store.TheInside.{Inside}

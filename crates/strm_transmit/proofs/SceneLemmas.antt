@@ -15,14 +15,14 @@ use Rattle.strm_machine.specs.declared.streams.Side.{Side}
 use Rattle.strm_machine.specs.declared.streams.Side.TheVariants.{Writing, Reading}
 use Rattle.strm_machine.specs.declared.streams.Stream.{Stream}
 use Rattle.strm_machine.proofs.TurnLemmas.{GuestsKeep}
-use Rattle.strm_world.specs.Settling.{went, settled, let_go, moved_on}
-use Rattle.strm_world.specs.Attaching.{has_items}
-use Rattle.strm_world.specs.Producing.{lowered}
+use Rattle.strm_host_machine.specs.Settling.{went, settled, let_go, moved_on}
+use Rattle.strm_host_machine.specs.Attaching.{has_items}
+use Rattle.strm_host_machine.specs.Producing.{lowered}
 use Rattle.strm_transmit.proofs.FitsLemmas.{KeepsType, keeps-polled}
-use Rattle.strm_world.proofs.LoweredLemmas.{lowered-keeps, went-placed, settled-placed}
-use Rattle.strm_producing.specs.Turning.{Scene, received, Polled, TurnsEmpty, TurnsHolding, Turns}
-use Rattle.strm_producing.specs.declared.turns.TurnError.{TurnError}
-use Rattle.strm_producing.specs.declared.turns.TurnError.TheVariants.{Failed, OutOfMemory, Broke}
+use Rattle.strm_host_machine.proofs.LoweredLemmas.{lowered-keeps, went-placed, settled-placed}
+use Rattle.strm_host_turns.specs.Turning.{Scene, received, Polled, TurnsEmpty, TurnsHolding, Turns}
+use Rattle.strm_host_turns.specs.declared.turns.TurnError.{TurnError}
+use Rattle.strm_host_turns.specs.declared.turns.TurnError.TheVariants.{Failed, OutOfMemory, Broke}
 
 -- ## The stream
 

@@ -15,12 +15,12 @@ use Rattle.strm_machine.specs.declared.streams.Side.TheVariants.{Writing, Readin
 use Rattle.strm_machine.specs.declared.streams.Stream.{Stream}
 use Rattle.strm_machine.proofs.SoundLemmas.{type_of-same, IsSound-guests, IsSound-stream}
 use Rattle.strm_buffers.specs.Tells.{WriterTells, ReaderTells, Tells}
-use Rattle.strm_turns.specs.Guests.{seen}
-use Rattle.strm_producing.specs.Turning.{Scene, scene}
-use Rattle.strm_producing.specs.Taking.{Taking, taking}
+use Rattle.strm_channels.specs.Guests.{seen}
+use Rattle.strm_host_turns.specs.Turning.{Scene, scene}
+use Rattle.strm_host_turns.specs.Taking.{Taking, taking}
 use Rattle.strm_transmit.specs.Inside.{state_of, AreServed, HavePlaces, IsStore}
 use Rattle.strm_transmit.specs.declared.store.Store.TheInside.{Inside}
-use Rattle.strm_world.specs.Does.{FitsWriter, FitsReader, Fits}
+use Rattle.strm_host_machine.specs.Does.{FitsWriter, FitsReader, Fits}
 use Rattle.strm_transmit.proofs.ServedLemmas.{same_stream, same_host, not_unused, gone_no_host, serving_kept, reading_kept, duty_known, serves_only, keeps_readers, keeps_writers, writer_now, reader_now, AreServed-turned}
 use Rattle.strm_transmit.proofs.KeptLemmas.{have_set, have_producer}
 use Rattle.strm_transmit.proofs.SceneLemmas.{SceneKeeps}

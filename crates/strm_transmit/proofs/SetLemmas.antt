@@ -3,12 +3,12 @@ use Rattle.std.proofs.Common.{◌≡◌, ◌≢◌, ℕ, ◌+◌, ◌-◌, ◌<�
 use Rattle.std.specs.Prelude.{nat_eq, ◌==◌, IfSome, IfNone}
 use Rattle.std.specs.List.{list_any}
 use Rattle.std.specs.Option.{option_map}
-use Rattle.strm_sets.specs.Ready.{is_in}
+use Rattle.strm_waitable_sets.specs.Ready.{is_in}
 use Rattle.strm_handles.specs.Counters.{counted, uncounted}
 use Rattle.strm_handles.specs.Handles.{entry_at}
-use Rattle.strm_sets.specs.Sets.{Sets, is_there, is_member, set_of, members, joined, left, HasNoMember, IsLeastReady, NoneReady}
-use Rattle.strm_sets.proofs.SetLemmas.{among_members}
-use Rattle.strm_sets.proofs.TieLemmas.{eq-other}
+use Rattle.strm_waitable_sets.specs.Sets.{Sets, is_there, is_member, set_of, members, joined, left, HasNoMember, IsLeastReady, NoneReady}
+use Rattle.strm_waitable_sets.proofs.SetLemmas.{among_members}
+use Rattle.strm_waitable_sets.proofs.TieLemmas.{eq-other}
 use Rattle.strm_machine.specs.State.{Guest, State, no_guest, guest_in, sets_in, with_sets}
 use Rattle.strm_machine.specs.Tests.{end_named}
 use Rattle.strm_machine.specs.WaitableSets.{set_named, number_named, has_some, has_member, is_ready, ready_member, sets_changed}
@@ -21,7 +21,7 @@ use Rattle.strm_machine.proofs.RefusalLemmas.{none_of_both}
 use Rattle.strm_machine.proofs.SoundLemmas.{sizes_of-with_table}
 use Rattle.strm_machine.proofs.SetStepLemmas.{set_fits, on_set_fits, set_found, set_drop_fits, ready_member-least, ready_member-none}
 use Rattle.strm_machine.proofs.SoundStepLemmas.{on_set-sound, with_set-sound}
-use Rattle.strm_turns.specs.Guests.{seen, live_in, sets_among, with_set_in, without_set_in}
+use Rattle.strm_channels.specs.Guests.{seen, live_in, sets_among, with_set_in, without_set_in}
 use Rattle.strm_transmit.specs.Inside.{state_of, IsStore}
 use Rattle.strm_transmit.specs.declared.store.Store.TheInside.{Inside}
 use Rattle.strm_transmit.proofs.StoreLemmas.{SameBut, how_many, sets-with_table, live-with_sets, kept_counted, more_counted, less_counted, fits_below, CountsTables, kept_streams, Agrees, IsStore-counted}

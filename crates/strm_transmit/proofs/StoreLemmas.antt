@@ -17,8 +17,8 @@ use Rattle.strm_handles.proofs.HandleLemmas.{live_of-no_handles}
 use Rattle.strm_machine.specs.State as machine
 use Rattle.strm_memory.specs.Bytes.{put_at}
 use Rattle.strm_memory.specs.Linear.{untold}
-use Rattle.strm_sets.specs.Sets.{Sets, no_sets, is_member}
-use Rattle.strm_contexts.specs.Contexts.{len as contexts_there}
+use Rattle.strm_waitable_sets.specs.Sets.{Sets, no_sets, is_member}
+use Rattle.strm_error_contexts.specs.Contexts.{len as contexts_there}
 use Rattle.strm_machine.specs.State.{State, guest_in, no_guest, sets_in, no_stream, stream_at, memory_in, with_memory, with_sets, with_table, is_live, handles_in_use, sets_in_use, bytes_in_use}
 use Rattle.strm_machine.specs.Bases.{with_base, with_base_in}
 use Rattle.strm_machine.proofs.BaseLemmas.{with_base-keeps}
@@ -39,9 +39,9 @@ use Rattle.strm_machine.proofs.TurnLemmas.{GuestsKeep, TurnKeeps, all_kept, with
 use Rattle.strm_codes.specs.declared.codes.TransmitIndex.{TransmitIndex}
 use Rattle.strm_machine.specs.Making.{with_read_end, with_ends, made_stream, made_pair, with_stream}
 use Rattle.strm_machine.specs.declared.replies.Pair.{Pair}
-use Rattle.strm_turns.specs.Guests.{guest_of, seen, live_in, sets_among}
+use Rattle.strm_channels.specs.Guests.{guest_of, seen, live_in, sets_among}
 use Rattle.strm_transmit.specs.Inside.{state_of, AreServed, HavePlaces, IsStore}
-use Rattle.strm_turns.specs.declared.guests.Guest as ours
+use Rattle.strm_channels.specs.declared.guests.Guest as ours
 use Rattle.strm_transmit.specs.declared.store.Store.TheInside.{Inside}
 use Rattle.strm_transmit.proofs.ServedLemmas.{AreServed-set, AreServed-push, same_owners}
 use Rattle.strm_transmit.proofs.KeptLemmas.{have_set, have_push}

@@ -19,21 +19,21 @@ use Rattle.strm_machine.specs.declared.streams.Owner.{Owner}
 use Rattle.strm_machine.specs.declared.streams.Owner.TheVariants.{Host, Gone}
 use Rattle.strm_machine.specs.declared.streams.Side.TheVariants.{Writing, Reading}
 use Rattle.strm_machine.specs.declared.streams.Stream.{Stream}
-use Rattle.strm_world.specs.World.{World}
-use Rattle.strm_world.specs.Outcomes.{Outcome}
-use Rattle.strm_world.specs.Consuming.{consumer_turn}
-use Rattle.strm_world.specs.Does.{Answered, Fits, Does}
-use Rattle.strm_world.proofs.BackLemmas.{Does-stays, Does-left_by_reader}
-use Rattle.strm_world.proofs.ConsumeLemmas.{IsPolledWith, next_items, turn-consumed, turn-reader_failed, turn-bad_item, turn-reader_broke, turn-reader_wanting}
-use Rattle.strm_world.proofs.FitsLemmas.{Fits-stream}
-use Rattle.strm_world.proofs.GrowLemmas.{Follows}
-use Rattle.strm_producing.proofs.ReaderPollLemmas.{bad_behind}
-use Rattle.strm_world.proofs.ReaderLemmas.{grows-polled_reader, follows-told_reader, ended_reader_in}
-use Rattle.strm_world.proofs.SettleLemmas.{IsLeftByReader, with_reader_closed}
-use Rattle.strm_world.proofs.TurnLemmas.{WritesBack}
-use Rattle.strm_producing.specs.Taking.{Taking, taking, IsOffered, Consumes, Takes}
-use Rattle.strm_producing.specs.declared.taking.TakeError.{TakeError}
-use Rattle.strm_producing.specs.declared.taking.TakeError.TheVariants.{Failed, OutOfMemory, BadItem, Broke}
+use Rattle.strm_host_machine.specs.World.{World}
+use Rattle.strm_host_machine.specs.Outcomes.{Outcome}
+use Rattle.strm_host_machine.specs.Consuming.{consumer_turn}
+use Rattle.strm_host_machine.specs.Does.{Answered, Fits, Does}
+use Rattle.strm_host_machine.proofs.BackLemmas.{Does-stays, Does-left_by_reader}
+use Rattle.strm_host_machine.proofs.ConsumeLemmas.{IsPolledWith, next_items, turn-consumed, turn-reader_failed, turn-bad_item, turn-reader_broke, turn-reader_wanting}
+use Rattle.strm_host_machine.proofs.FitsLemmas.{Fits-stream}
+use Rattle.strm_host_machine.proofs.GrowLemmas.{Follows}
+use Rattle.strm_host_turns.proofs.ReaderPollLemmas.{bad_behind}
+use Rattle.strm_host_machine.proofs.ReaderLemmas.{grows-polled_reader, follows-told_reader, ended_reader_in}
+use Rattle.strm_host_machine.proofs.SettleLemmas.{IsLeftByReader, with_reader_closed}
+use Rattle.strm_host_machine.proofs.TurnLemmas.{WritesBack}
+use Rattle.strm_host_turns.specs.Taking.{Taking, taking, IsOffered, Consumes, Takes}
+use Rattle.strm_host_turns.specs.declared.taking.TakeError.{TakeError}
+use Rattle.strm_host_turns.specs.declared.taking.TakeError.TheVariants.{Failed, OutOfMemory, BadItem, Broke}
 use Rattle.strm_transmit.specs.Inside.{AreServed}
 use Rattle.strm_transmit.specs.Hosted.{answered, IsStop}
 use Rattle.strm_transmit.specs.Turning.{TakesStream, stops_taking}

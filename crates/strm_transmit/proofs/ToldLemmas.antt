@@ -7,7 +7,7 @@ use Rattle.std.specs.FinMap.{get-empty}
 use Rattle.std.specs.Ordering.{nat_cmp}
 use Rattle.std.proofs.lemmas.Bool.{cases_eq, and_parts, eqb-true}
 use Rattle.std.proofs.lemmas.List.{get_or-set_same, get_or-set_other, get_or_past, get_or_push}
-use Rattle.strm_sets.specs.Sets.{Sets, is_member, is_number}
+use Rattle.strm_waitable_sets.specs.Sets.{Sets, is_member, is_number}
 use Rattle.strm_machine.specs.Words.{Guest, State, Handles, no_stream, stream_at, sets_in, guest_in, with_table, end_of, opposite, same_side, is_end, Name, end_named, is_held, IsSound}
 use Rattle.strm_machine.specs.declared.streams.Owner.{Owner}
 use Rattle.strm_machine.specs.declared.streams.Owner.TheVariants.{Held}
@@ -24,9 +24,9 @@ use Rattle.strm_machine.proofs.TableLemmas.{owner_in, set-keeps, at_push, owner-
 use Rattle.strm_machine.proofs.TurnLemmas.{sets_of}
 use Rattle.strm_machine.specs.State.{no_guest}
 use Rattle.std.proofs.Math.ListN.{get_or-map}
-use Rattle.strm_sets.specs.Sets.{no_sets, set_of, left, joined}
-use Rattle.strm_sets.proofs.SetLemmas.{is_member-left_same, is_member-left_other, is_member-joined_same, is_member-joined_other}
-use Rattle.strm_sets.proofs.TieLemmas.{eq-other}
+use Rattle.strm_waitable_sets.specs.Sets.{no_sets, set_of, left, joined}
+use Rattle.strm_waitable_sets.proofs.SetLemmas.{is_member-left_same, is_member-left_other, is_member-joined_same, is_member-joined_other}
+use Rattle.strm_waitable_sets.proofs.TieLemmas.{eq-other}
 use Rattle.strm_transmit.specs.Telling.{Ready, SaysOf, member_of, has_report, AreTold, Retells, Leaves}
 
 pub never : true ≡ false → ⊥

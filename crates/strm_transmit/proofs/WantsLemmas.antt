@@ -13,19 +13,19 @@ use Rattle.strm_machine.specs.State.{State, producer_at, consumer_at}
 use Rattle.strm_machine.specs.declared.stops.Stop.TheVariants.{HostFailed}
 use Rattle.strm_machine.specs.declared.streams.HostEnd.TheVariants as ends
 use Rattle.strm_machine.specs.declared.streams.Operation.{Operation}
-use Rattle.strm_world.specs.World.{World}
-use Rattle.strm_world.specs.Outcomes.{Outcome}
-use Rattle.strm_world.specs.Producing.{producer_turn}
-use Rattle.strm_world.specs.Consuming.{consumer_turn}
-use Rattle.strm_world.specs.Does.{Logs, world_of}
-use Rattle.strm_world.proofs.ConsumeLemmas.{IsPolledWith, turn-reader_failed}
-use Rattle.strm_world.proofs.DoesLemmas.{rose_more, Does-as}
-use Rattle.strm_world.proofs.PollLemmas.{IsServing}
-use Rattle.strm_world.proofs.TurnLemmas.{IsPolledFor, turn-failed}
-use Rattle.strm_producing.specs.Turning.{Scene, Wants, TurnsEmpty, TurnsHolding, Turns}
-use Rattle.strm_producing.specs.declared.turns.TurnError.{TurnError}
-use Rattle.strm_producing.specs.declared.turns.TurnError.TheVariants.{Failed, OutOfMemory, Broke}
-use Rattle.strm_producing.proofs.StepLemmas.{scene_in, told_in}
+use Rattle.strm_host_machine.specs.World.{World}
+use Rattle.strm_host_machine.specs.Outcomes.{Outcome}
+use Rattle.strm_host_machine.specs.Producing.{producer_turn}
+use Rattle.strm_host_machine.specs.Consuming.{consumer_turn}
+use Rattle.strm_host_machine.specs.Does.{Logs, world_of}
+use Rattle.strm_host_machine.proofs.ConsumeLemmas.{IsPolledWith, turn-reader_failed}
+use Rattle.strm_host_machine.proofs.DoesLemmas.{rose_more, Does-as}
+use Rattle.strm_host_machine.proofs.PollLemmas.{IsServing}
+use Rattle.strm_host_machine.proofs.TurnLemmas.{IsPolledFor, turn-failed}
+use Rattle.strm_host_turns.specs.Turning.{Scene, Wants, TurnsEmpty, TurnsHolding, Turns}
+use Rattle.strm_host_turns.specs.declared.turns.TurnError.{TurnError}
+use Rattle.strm_host_turns.specs.declared.turns.TurnError.TheVariants.{Failed, OutOfMemory, Broke}
+use Rattle.strm_host_turns.proofs.StepLemmas.{scene_in, told_in}
 use Rattle.strm_transmit.specs.Turning.{stops_by}
 use Rattle.strm_transmit.specs.WantsMemory.{ProducesNone, TakesNone, writer_failed, reader_failed, FailsOnce, WantsInPoll, IfWanting}
 use Rattle.strm_transmit.specs.declared.errors.StoreError.{StoreError}

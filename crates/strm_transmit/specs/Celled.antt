@@ -1,7 +1,7 @@
 -- The cell of the end that a guest's handle names. Ours.
 use Rattle.std.specs.Prelude.{ℕ, if◌then◌else◌, Option, Some, None, Ok, Err}
 use Rattle.strm_events.specs.Cells.{Cell}
-use Rattle.strm_turns.specs.Channels.{cell_of}
+use Rattle.strm_channels.specs.Channels.{cell_of}
 use Rattle.strm_machine.specs.State.{State, stream_at}
 use Rattle.strm_machine.specs.Tests.{Name, end_named, side_of, is_unknown_guest}
 

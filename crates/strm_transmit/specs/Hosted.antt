@@ -15,13 +15,13 @@ use Rattle.strm_machine.specs.declared.streams.Owner.TheVariants.{Host}
 use Rattle.strm_machine.specs.declared.streams.Side.{Side}
 use Rattle.strm_machine.specs.declared.streams.Side.TheVariants.{Writing, Reading}
 use Rattle.strm_machine.specs.declared.stops.Stop.TheVariants as stops
-use Rattle.strm_world.specs.World.{World, stream_in, with_stream_in}
-use Rattle.strm_world.specs.Attaching.{forsaken}
-use Rattle.strm_world.specs.Releasing.{KnowsHeld}
-use Rattle.strm_world.specs.HostRefusals.{refusal_in}
-use Rattle.strm_world.specs.LastRecord.{HaltsByRecord}
-use Rattle.strm_world.specs.Steps.{outcome, may_poll, touches}
-use Rattle.strm_world.specs.Does.{Logs, world_of, Answered, FitsWriter, FitsReader, Fits, Does}
+use Rattle.strm_host_machine.specs.World.{World, stream_in, with_stream_in}
+use Rattle.strm_host_machine.specs.Attaching.{forsaken}
+use Rattle.strm_host_machine.specs.Releasing.{KnowsHeld}
+use Rattle.strm_host_machine.specs.HostRefusals.{refusal_in}
+use Rattle.strm_host_machine.specs.LastRecord.{HaltsByRecord}
+use Rattle.strm_host_machine.specs.Steps.{outcome, may_poll, touches}
+use Rattle.strm_host_machine.specs.Does.{Logs, world_of, Answered, FitsWriter, FitsReader, Fits, Does}
 use Rattle.strm_transmit.specs.Meets.{Meets}
 use Rattle.strm_transmit.specs.WantsMemory.{WantsIn}
 use Rattle.strm_transmit.specs.declared.errors.StoreError.{StoreError}

@@ -14,7 +14,7 @@ use Rattle.strm_machine.specs.declared.streams.Producer.{Producer}
 use Rattle.strm_machine.specs.declared.streams.Side.{Side}
 use Rattle.strm_machine.specs.declared.streams.Stream.{Stream}
 use Rattle.strm_machine.proofs.HeldLemmas.{StateIsHeld}
-use Rattle.strm_turns.specs.Guests.{seen}
+use Rattle.strm_channels.specs.Guests.{seen}
 use Rattle.strm_transmit.specs.Telling.{AreTold}
 use Rattle.strm_transmit.specs.declared.store.Store.TheInside.{Inside}
 

@@ -10,7 +10,7 @@ use Rattle.strm_machine.specs.declared.streams.Owner.{Owner}
 use Rattle.strm_machine.specs.declared.streams.Owner.TheVariants.{Host}
 use Rattle.strm_machine.specs.declared.streams.Side.TheVariants.{Reading}
 use Rattle.strm_machine.specs.declared.streams.Stream.{Stream}
-use Rattle.strm_world.specs.Attaching.{withdrawn, without_ends}
+use Rattle.strm_host_machine.specs.Attaching.{withdrawn, without_ends}
 
 -- a loose read end of the type that host reader r reads, which was not used
 pub record PipeFits (state : State) (tells : Tells) (s r : ℕ) : Type 0 where

@@ -7,14 +7,14 @@ use Rattle.strm_machine.specs.State.{State, producer_at, kept_at, consumer_at, s
 use Rattle.strm_machine.specs.declared.streams.Owner.{Owner}
 use Rattle.strm_machine.specs.declared.streams.Owner.TheVariants.{Host}
 use Rattle.strm_machine.specs.declared.streams.Stream.{Stream}
-use Rattle.strm_world.specs.World.{World}
-use Rattle.strm_world.specs.Outcomes.{Outcome}
-use Rattle.strm_world.specs.Attaching.{has_items}
-use Rattle.strm_world.specs.Piping.{offers, is_done_with, ends_if_done}
-use Rattle.strm_world.specs.Does.{Fits}
-use Rattle.strm_producing.specs.Piping.{Fetching, fetching, Fetches, Offering, offering, Offers}
-use Rattle.strm_producing.specs.declared.taking.TakeError.{TakeError}
-use Rattle.strm_producing.specs.declared.turns.TurnError.{TurnError}
+use Rattle.strm_host_machine.specs.World.{World}
+use Rattle.strm_host_machine.specs.Outcomes.{Outcome}
+use Rattle.strm_host_machine.specs.Attaching.{has_items}
+use Rattle.strm_host_machine.specs.Piping.{offers, is_done_with, ends_if_done}
+use Rattle.strm_host_machine.specs.Does.{Fits}
+use Rattle.strm_host_turns.specs.Piping.{Fetching, fetching, Fetches, Offering, offering, Offers}
+use Rattle.strm_host_turns.specs.declared.taking.TakeError.{TakeError}
+use Rattle.strm_host_turns.specs.declared.turns.TurnError.{TurnError}
 
 -- the host writer and the host reader of a stream from one to the other
 abbrev pub ends_by : Owner → Owner → Option (ℕ × ℕ)

@@ -1,8 +1,8 @@
 -- What the store knows of which members of sets are ready: a guest's handle is said to be among those
 -- of a set where it is in that set and its end has a report. Ours.
 use Rattle.std.specs.Prelude.{◌≡◌, ◌≢◌, ℕ, Bool, true, false, List, [], slice_index_or, Option, Some, is_some}
-use Rattle.strm_sets.specs.Ready.{Says}
-use Rattle.strm_sets.specs.Sets.{is_member}
+use Rattle.strm_waitable_sets.specs.Ready.{Says}
+use Rattle.strm_waitable_sets.specs.Sets.{is_member}
 use Rattle.strm_machine.specs.State.{Guest, no_stream, sets_in}
 use Rattle.strm_machine.specs.Sides.{opposite, end_of}
 use Rattle.strm_machine.specs.Endings.{report_on}

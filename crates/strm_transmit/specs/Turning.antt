@@ -13,17 +13,17 @@ use Rattle.strm_machine.specs.declared.streams.Side.{Side}
 use Rattle.strm_machine.specs.declared.streams.Side.TheVariants.{Writing, Reading}
 use Rattle.strm_machine.specs.declared.streams.Stream.{Stream}
 use Rattle.strm_machine.specs.declared.streams.Owner.TheVariants.{Host}
-use Rattle.strm_world.specs.World.{World}
-use Rattle.strm_world.specs.Outcomes.{Outcome}
-use Rattle.strm_world.specs.Producing.{producer_turn}
-use Rattle.strm_world.specs.Consuming.{consumer_turn}
-use Rattle.strm_world.specs.Steps.{reads_from, writes_to}
-use Rattle.strm_producing.specs.Turning.{Scene, scene, Turns}
-use Rattle.strm_producing.specs.Taking.{Taking, taking, Takes}
-use Rattle.strm_producing.specs.declared.taking.TakeError.{TakeError}
-use Rattle.strm_producing.specs.declared.taking.TakeError.TheVariants as takes
-use Rattle.strm_producing.specs.declared.turns.TurnError.{TurnError}
-use Rattle.strm_producing.specs.declared.turns.TurnError.TheVariants.{Failed, OutOfMemory, Broke}
+use Rattle.strm_host_machine.specs.World.{World}
+use Rattle.strm_host_machine.specs.Outcomes.{Outcome}
+use Rattle.strm_host_machine.specs.Producing.{producer_turn}
+use Rattle.strm_host_machine.specs.Consuming.{consumer_turn}
+use Rattle.strm_host_machine.specs.Steps.{reads_from, writes_to}
+use Rattle.strm_host_turns.specs.Turning.{Scene, scene, Turns}
+use Rattle.strm_host_turns.specs.Taking.{Taking, taking, Takes}
+use Rattle.strm_host_turns.specs.declared.taking.TakeError.{TakeError}
+use Rattle.strm_host_turns.specs.declared.taking.TakeError.TheVariants as takes
+use Rattle.strm_host_turns.specs.declared.turns.TurnError.{TurnError}
+use Rattle.strm_host_turns.specs.declared.turns.TurnError.TheVariants.{Failed, OutOfMemory, Broke}
 use Rattle.strm_transmit.specs.declared.errors.StoreError.{StoreError}
 use Rattle.strm_transmit.specs.declared.errors.StoreError.TheVariants as errors
 

@@ -14,12 +14,12 @@ use Rattle.strm_machine.specs.declared.stops.Stop.TheVariants.{HostFailed}
 use Rattle.strm_machine.specs.declared.streams.HostEnd.{HostEnd}
 use Rattle.strm_machine.specs.declared.streams.HostEnd.TheVariants as ends
 use Rattle.strm_machine.specs.declared.streams.Owner.TheVariants.{Host}
-use Rattle.strm_world.specs.World.{World}
-use Rattle.strm_world.specs.Outcomes.{Outcome, then_on}
-use Rattle.strm_world.specs.Piping.{fetches}
-use Rattle.strm_world.specs.Driving.{drive_turn, driven, numbers_from, round_of}
-use Rattle.strm_world.specs.Steps.{outcome}
-use Rattle.strm_world.specs.Does.{Does}
+use Rattle.strm_host_machine.specs.World.{World}
+use Rattle.strm_host_machine.specs.Outcomes.{Outcome, then_on}
+use Rattle.strm_host_machine.specs.Piping.{fetches}
+use Rattle.strm_host_machine.specs.Driving.{drive_turn, driven, numbers_from, round_of}
+use Rattle.strm_host_machine.specs.Steps.{outcome}
+use Rattle.strm_host_machine.specs.Does.{Does}
 use Rattle.strm_transmit.specs.declared.errors.StoreError.{StoreError}
 use Rattle.strm_transmit.specs.declared.errors.StoreError.TheVariants.{OutOfMemory}
 

@@ -2,9 +2,9 @@
 //!
 //! Each call is a step of the machine of `strm_machine`, by one form of clause (`Meets`): its
 //! answer is the machine's, and so is the store afterwards. One that may touch a host end is a step
-//! of the machine of `strm_world`, among the host ends that it is handed (`MeetsHosted`). It stands
+//! of the machine of `strm_host_machine`, among the host ends that it is handed (`MeetsHosted`). It stands
 //! on the handle tables of `strm_handles`, the memories of `strm_memory`, the waitable sets of
-//! `strm_sets` and the turns of `strm_turns` and `strm_producing`.
+//! `strm_waitable_sets` and the turns of `strm_channels` and `strm_host_turns`.
 #![tactic(auto)]
 
 pub mod errors;

@@ -1,6 +1,6 @@
 //! One step, done on a store and its host ends.
 //!
-//! Meaning: `step_of` of `Steps.antt` of `strm_world`. Ours.
+//! Meaning: `step_of` of `Steps.antt` of `strm_host_machine`. Ours.
 
 ghost use Rattle.std.specs.Prelude.{◌≡◌, ◌≢◌, ◌≤◌, false, Err, IfOk, IfErr, IfSome, IsTrue};
 ghost use Rattle.strm_codes.specs.declared.refusals.Refusal.{Refusal};
@@ -13,8 +13,8 @@ ghost use Rattle.strm_machine.specs.declared.acts.SetAct.TheVariants as set_acts
 ghost use Rattle.strm_machine.specs.declared.replies.Reply.TheVariants as replies;
 ghost use Rattle.strm_machine.specs.declared.acts.EndAct.TheVariants as end_acts;
 ghost use Rattle.strm_machine.specs.declared.acts.LooseAct.TheVariants as loose_acts;
-ghost use Rattle.strm_world.specs.Steps.{step_of, may_poll, touches};
-ghost use Rattle.strm_world.specs.Does.{Fits, Does};
+ghost use Rattle.strm_host_machine.specs.Steps.{step_of, may_poll, touches};
+ghost use Rattle.strm_host_machine.specs.Does.{Fits, Does};
 ghost use Rattle.strm_transmit.specs.Meets.{Meets, replied, refused_too, is_settled, act_takes_memory, takes_memory};
 ghost use Rattle.strm_transmit.specs.Hosted.{answered, lone, MayBeDone, Leaves, IsHandedOver, MeetsAlone, MeetsHosted};
 

@@ -31,14 +31,14 @@ use strm_buffers::items::Items;
 use strm_codes::codes::{TransmitIndex, TransmitKind};
 use strm_codes::payloads::Payload;
 use strm_codes::refusals::Refusal;
-use strm_contexts::contexts::ErrorContexts;
+use strm_error_contexts::contexts::ErrorContexts;
 use strm_handles::counters::HandleCounter;
 use strm_machine::limits::Limits;
 use strm_machine::streams::{Consumer, Duty, Producer};
-use strm_sets::ready::ReadySets;
-use strm_turns::channels::Channel;
-use strm_turns::guests::Guest;
-use strm_turns::owners::is_live;
+use strm_waitable_sets::ready::ReadySets;
+use strm_channels::channels::Channel;
+use strm_channels::guests::Guest;
+use strm_channels::owners::is_live;
 
 /// A host writer that was never used.
 const NO_PRODUCER: Producer = Producer {
@@ -109,8 +109,8 @@ pub struct Store {
 impl Model for Store {
     ghost use Rattle.strm_machine.specs.State.{State};
     ghost use Rattle.std.specs.Coded.{codes};
-    ghost use Rattle.strm_contexts.specs.Contexts.{contexts_code};
-    ghost use Rattle.strm_sets.specs.Sets.{sets_code};
+    ghost use Rattle.strm_error_contexts.specs.Contexts.{contexts_code};
+    ghost use Rattle.strm_waitable_sets.specs.Sets.{sets_code};
 
     ghost Value = { State };
 
@@ -126,8 +126,8 @@ impl Model for Store {
 impl Store {
     ghost use Rattle.strm_buffers.specs.Tells.{Tells};
     ghost use Rattle.strm_machine.specs.Soundness.{IsSound};
-    ghost use Rattle.strm_world.specs.Releasing.{KnowsHeld};
-    ghost use Rattle.strm_world.specs.Does.{Fits};
+    ghost use Rattle.strm_host_machine.specs.Releasing.{KnowsHeld};
+    ghost use Rattle.strm_host_machine.specs.Does.{Fits};
     ghost use Rattle.strm_transmit.specs.Inside.{AreServed};
     ghost use Rattle.strm_transmit.specs.Meets.{admitted};
 

@@ -1,22 +1,22 @@
 //! Which members of waitable sets are ready, kept as ends get reports and lose them, so that a poll
 //! asks no member. Nothing is kept until an end joins a set.
 //!
-//! Meaning: `Telling.antt`, and `Ready.antt` of `strm_sets`. Source: Component Model,
+//! Meaning: `Telling.antt`, and `Ready.antt` of `strm_waitable_sets`. Source: Component Model,
 //! `Waitable.has_pending_event`. Ours: that it is kept. No memory is taken but by a join.
 
 ghost use Rattle.std.specs.Prelude.{◌≡◌, ◌≢◌, ℕ, Bool, true, false, nat_eq, ◌<◌, length, [], slice_index_or, Some, is_some};
-ghost use Rattle.strm_sets.specs.Sets.{set_of, is_number};
+ghost use Rattle.strm_waitable_sets.specs.Sets.{set_of, is_number};
 ghost use Rattle.strm_machine.specs.State.{sets_in};
 ghost use Rattle.strm_machine.specs.Sides.{end_of};
 ghost use Rattle.strm_machine.specs.declared.streams.Owner.TheVariants.{Held};
-ghost use Rattle.strm_turns.specs.Guests.{seen};
+ghost use Rattle.strm_channels.specs.Guests.{seen};
 ghost use Rattle.strm_transmit.specs.Telling.{SaysOf, member_of, has_report, Retells, Leaves};
 
 use std::alloc::Global;
 use strm_machine::streams::{Owner, Side};
-use strm_sets::ready::ReadySets;
-use strm_turns::channels::Channel;
-use strm_turns::guests::Guest;
+use strm_waitable_sets::ready::ReadySets;
+use strm_channels::channels::Channel;
+use strm_channels::guests::Guest;
 
 // The set that a guest's handle is in.
 pub(crate) fn home_of(guests: &Vec<Guest>, guest: usize, handle: u32) -> Option<u32>

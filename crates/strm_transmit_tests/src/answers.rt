@@ -1,7 +1,7 @@
 //! What a call is to answer, a function for each type of answer; codes are told by their words.
 
 ghost use Rattle.strm_buffers.specs.AllTells.{tells_of};
-ghost use Rattle.strm_world.specs.Does.{Fits};
+ghost use Rattle.strm_host_machine.specs.Does.{Fits};
 
 use std::alloc::Global;
 use std::process::Abort;

@@ -20,7 +20,7 @@ use Rattle.strm_machine.specs.declared.steps.Step.TheVariants as steps
 use Rattle.strm_machine.specs.declared.replies.Pair.{Pair}
 use Rattle.strm_machine.specs.declared.replies.Reply.{Reply}
 use Rattle.strm_machine.specs.declared.replies.Reply.TheVariants as replies
-use Rattle.strm_world.specs.Steps.{touches}
+use Rattle.strm_host_machine.specs.Steps.{touches}
 use Rattle.strm_transmit.specs.Hosted.{lone}
 
 abbrev bytes_type : TransmitIndex

@@ -10,8 +10,8 @@ use strm_codes::codes::{ReturnCode, TransmitIndex};
 use strm_codes::payloads::Payload;
 use strm_codes::refusals::Refusal;
 use strm_codes::scalars::Scalar;
-use strm_embed::guest_store::GuestStore;
-use strm_embed::{Chunk, Limits, StoreError};
+use strm_guest_store::guest_store::GuestStore;
+use strm_guest_store::{Chunk, Limits, StoreError};
 
 const BYTES: Payload = Payload::One(Scalar::U8);
 

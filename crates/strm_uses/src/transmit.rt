@@ -4,7 +4,7 @@ ghost use Rattle.std.specs.Prelude.{◌≡◌, take, length, Some, Ok, Err, IfOk
 ghost use Rattle.strm_buffers.specs.AllTells.{tells_of};
 ghost use Rattle.strm_codes.specs.declared.codes.ReturnCode.TheVariants.{Completed};
 ghost use Rattle.strm_machine.specs.State.{memory_in, stream_at};
-ghost use Rattle.strm_world.specs.Does.{Fits};
+ghost use Rattle.strm_host_machine.specs.Does.{Fits};
 
 use std::alloc::Global;
 use strm_buffers::hosts::Hosts;

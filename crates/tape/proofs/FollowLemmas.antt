@@ -8,8 +8,8 @@ use Rattle.strm_codes.specs.declared.codes.TransmitIndex.{TransmitIndex}
 use Rattle.strm_codes.specs.declared.codes.TransmitIndex.TheVariants as index
 use Rattle.strm_codes.specs.Types.{kind_of, payload_of}
 use Rattle.strm_buffers.specs.Tells.{Tells}
-use Rattle.strm_ends.specs.Scripts.{unpolled_writer}
-use Rattle.strm_ends.specs.Takings.{unpolled_discarding}
+use Rattle.strm_program_ends.specs.Scripts.{unpolled_writer}
+use Rattle.strm_program_ends.specs.Takings.{unpolled_discarding}
 use Rattle.strm_tape.specs.Spelling.{WriterTape, ReaderTape, TapeOf}
 use Rattle.strm_tape_runs.specs.Taking.{writer_type, reader_type, HoldsNone}
 use Rattle.strm_tape_runs.specs.Playing.{AreEndsOf}

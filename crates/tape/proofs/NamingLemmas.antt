@@ -1,8 +1,8 @@
 -- Words that name a mode name no other, and not none.
 use Rattle.std.proofs.Common.{◌≡◌, ◌↔◌, ℕ, List, Result, Ok}
-use Rattle.strm_tape_serving.specs.declared.modes.Mode.{Mode}
-use Rattle.strm_tape_serving.specs.declared.modes.Mode.TheVariants.{Take, Play}
-use Rattle.strm_tape_serving.specs.Modes.{Names, NamesNone}
+use Rattle.strm_tape_program.specs.declared.modes.Mode.{Mode}
+use Rattle.strm_tape_program.specs.declared.modes.Mode.TheVariants.{Take, Play}
+use Rattle.strm_tape_program.specs.Modes.{Names, NamesNone}
 
 -- the mode that was answered is the one that the words name
 module _ (answer : Result Mode ℕ) (words : List (List ℕ)) (named : (mode : Mode) → (answer ≡ Ok mode) ↔ Names words mode) (mode : Mode) (is : answer ≡ Ok mode) where

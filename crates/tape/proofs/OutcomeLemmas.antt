@@ -1,10 +1,10 @@
 -- What the program does, put together.
 use Rattle.std.proofs.Common.{◌≡◌, ◌⊎◌, inl, inr, ℕ, ◌<◌, ◌≤◌, List, length, map, Option, Result, Ok, Err, IfSome, refl, sym, ap, ◌∙◌, subst, arith}
 use Rattle.strm_buffers.specs.Tells.{WriterTells, ReaderTells, Tells}
-use Rattle.strm_ports.specs.Faults.{Rose}
+use Rattle.strm_input_output.specs.Faults.{Rose}
 use Rattle.strm_tape.specs.Spelling.{TapeOf, IsTape, tape_spelling}
 use Rattle.strm_tape_runs.proofs.RunLemmas.{hosts_stay}
-use Rattle.strm_tape_serving.specs.Reading.{IsReadable, most_bytes}
+use Rattle.strm_tape_program.specs.Reading.{IsReadable, most_bytes}
 use Rattle.tape.specs.HostEnds.{writers, readers, unused, following, following_reader, followers}
 use Rattle.tape.specs.Outcomes.{Port, IsRead, TakesAmong, PlaysAmong, Plays, ReadsTape, PlaysRead}
 

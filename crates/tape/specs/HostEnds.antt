@@ -5,10 +5,10 @@ use Rattle.strm_codes.specs.declared.payloads.Payload.TheVariants.{Nothing, One,
 use Rattle.strm_codes.specs.declared.scalars.Scalar.TheVariants.{U8, U32, Char}
 use Rattle.strm_codes.specs.Types.{kind_of, payload_of}
 use Rattle.strm_buffers.specs.Tells.{WriterTells, ReaderTells, Tells}
-use Rattle.strm_ends.specs.Credits.{ungranted}
-use Rattle.strm_ends.specs.QueueTells.{unfed_writer}
-use Rattle.strm_ends.specs.Scripts.{unpolled_writer}
-use Rattle.strm_ends.specs.Takings.{unpolled_discarding}
+use Rattle.strm_program_ends.specs.Credits.{ungranted}
+use Rattle.strm_program_ends.specs.QueueTells.{unfed_writer}
+use Rattle.strm_program_ends.specs.Scripts.{unpolled_writer}
+use Rattle.strm_program_ends.specs.Takings.{unpolled_discarding}
 use Rattle.strm_host.specs.Erasing.{unpolled}
 use Rattle.strm_tape.specs.Spelling.{WriterTape, ReaderTape, TapeOf}
 

@@ -3,7 +3,7 @@ use Rattle.std.specs.Prelude.{◌≡◌, ◌≢◌, ◌⊎◌, ◌≤◌, ◌<�
 use Rattle.std.specs.Io.KnownBytes.{Appends, Consumes, IsAtEnd}
 use Rattle.strm_buffers.specs.Tells.{Tells}
 use Rattle.strm_machine.specs.declared.steps.Step.{Step}
-use Rattle.strm_ports.specs.Faults.{Rose, TakesPart}
+use Rattle.strm_input_output.specs.Faults.{Rose, TakesPart}
 use Rattle.strm_lines.specs.Lines.{lines_of, Spells, IsFirstBad, IsTooLong}
 use Rattle.strm_session.specs.Records.{HostsGoOn}
 use Rattle.strm_session.specs.declared.runs.RunStop.{RunStop}
@@ -11,10 +11,10 @@ use Rattle.strm_session.specs.declared.runs.Transcript.{Transcript}
 use Rattle.strm_tape.specs.Spelling.{TapeOf, IsTape, tape_spelling}
 use Rattle.strm_tape_runs.specs.Taking.{tape_of_run}
 use Rattle.strm_tape_runs.specs.Playing.{WasRun, IsPlayOf}
-use Rattle.strm_tape_serving.specs.Playing.{IsOfTape, IsPlayStatus, IsStatusOfPlay}
-use Rattle.strm_tape_serving.specs.Reading.{IsNoTape, IsReadStatus, IsReadable, IsSpelling, most_bytes}
-use Rattle.strm_tape_serving.specs.Taking.{IsOfScript, IsTakeStatus, IsFaultless}
-use Rattle.strm_tape_serving.specs.Texts.{usage_text}
+use Rattle.strm_tape_program.specs.Playing.{IsOfTape, IsPlayStatus, IsStatusOfPlay}
+use Rattle.strm_tape_program.specs.Reading.{IsNoTape, IsReadStatus, IsReadable, IsSpelling, most_bytes}
+use Rattle.strm_tape_program.specs.Taking.{IsOfScript, IsTakeStatus, IsFaultless}
+use Rattle.strm_tape_program.specs.Texts.{usage_text}
 use Rattle.tape.specs.HostEnds.{unused, followers}
 
 -- the bytes that a source has left or a sink took, where these are told, and how many faults it had

@@ -5,7 +5,7 @@
 ghost use Rattle.std.specs.Prelude.{◌≡◌, ◌∷◌, [], map, string_bytes, IfOk, IsOkAnd, OnErr};
 ghost use Rattle.std.specs.Process.{exit_status};
 ghost use Rattle.strm_buffers.specs.AllTells.{tells_of};
-ghost use Rattle.strm_tape_serving.specs.Modes.{Names, NamesNone};
+ghost use Rattle.strm_tape_program.specs.Modes.{Names, NamesNone};
 ghost use Rattle.tape.specs.HostEnds.{writers, readers, unused, following, following_reader, followers};
 ghost use Rattle.tape.specs.Outcomes.{port, Takes, TakesAmong, Plays, PlaysAmong, PlaysRead, TellsUsage};
 
@@ -18,21 +18,21 @@ use strm_buffers::writers::HostWriter;
 use strm_codes::codes::TransmitKind;
 use strm_codes::payloads::Payload;
 use strm_codes::scalars::Scalar;
-use strm_ends::credit_reader::CreditReader;
-use strm_ends::queue_writer::QueueWriter;
+use strm_program_ends::credit_reader::CreditReader;
+use strm_program_ends::queue_writer::QueueWriter;
 use strm_host::empty::Empty;
 use strm_host::erased::Erased;
 use strm_memory::payloaded::Payloaded;
-use strm_ports::ports::{Sink, Source};
-use strm_ports::standard::{StdinSource, StdoutSink};
+use strm_input_output::ports::{Sink, Source};
+use strm_input_output::standard::{StdinSource, StdoutSink};
 use strm_tape::tape::Tape;
 use strm_tape_ends::replay_reader::ReplayReader;
 use strm_tape_ends::replay_writer::ReplayWriter;
-use strm_tape_serving::modes::{Mode, tape_mode};
-use strm_tape_serving::playing::tape_play;
-use strm_tape_serving::reading::tape_read;
-use strm_tape_serving::statuses::OUT_OF_MEMORY;
-use strm_tape_serving::taking::tape_take;
+use strm_tape_program::modes::{Mode, tape_mode};
+use strm_tape_program::playing::tape_play;
+use strm_tape_program::reading::tape_read;
+use strm_tape_program::statuses::OUT_OF_MEMORY;
+use strm_tape_program::taking::tape_take;
 
 const STREAM: TransmitKind = TransmitKind::Stream;
 

@@ -2,8 +2,8 @@ use Rattle.std.proofs.Common.{inl, inr, refl, ap, ◌∙◌}
 use denote.Param.Object.{read_made}
 use Rattle.strm_codes.specs.declared.codes.TransmitKind.TheVariants.{Stream}
 use Rattle.strm_buffers.specs.Tells.{WriterTells, ReaderTells}
-use Rattle.strm_ends.specs.QueueTells.{queue_tells}
-use Rattle.strm_ends.specs.Credits.{credit_tells, ungranted}
+use Rattle.strm_program_ends.specs.QueueTells.{queue_tells}
+use Rattle.strm_program_ends.specs.Credits.{credit_tells, ungranted}
 use Rattle.strm_host.specs.Erasing.{erased_tells}
 use Rattle.strm.proofs.served_among_ends.Object-1 as boxed_writer
 use Rattle.strm.proofs.served_among_ends.Object-2 as boxed_reader

@@ -13,7 +13,7 @@ ghost use Rattle.strm_c.specs.Statuses.{Answers, AnswersOr, no_store, found_stat
 use crate::handles::StoreHandle;
 use crate::statuses::{NO_STORE, Status, done, found, number};
 use strm_codes::refusals::Refusal;
-use strm_embed::guest_store::GuestStore;
+use strm_guest_store::guest_store::GuestStore;
 
 /// Adds a guest with a memory of `size` zero bytes, and puts its number at `out`; the first is 0. Refused:
 /// MemoryTooBig (268,435,456 bytes of all guests together), Full (1,048,576 guests). OUT_OF_MEMORY.

@@ -15,7 +15,7 @@ use crate::payloads::type_word;
 use crate::statuses::{NO_STORE, OUT_OF_MEMORY, Status, UNKNOWN_STREAM};
 use std::alloc::Global;
 use strm_codes::codes::TransmitIndex;
-use strm_embed::guest_store::GuestStore;
+use strm_guest_store::guest_store::GuestStore;
 use strm_machine::limits::Limits;
 
 /// Makes a store without guests, in a handle of none ({NULL}). It keeps `handles` live handles of all

@@ -6,12 +6,12 @@ ghost use types.Logic.{sem};
 ghost use denote.Follow.{follows};
 ghost use Rattle.std.specs.Borrow.{LendsIf};
 ghost use Rattle.std.specs.Option.{option_copied_mut};
-ghost use Rattle.strm_embed.specs.contracts.guest_store.GuestStore.{the_row as store_row};
+ghost use Rattle.strm_guest_store.specs.contracts.guest_store.GuestStore.{the_row as store_row};
 ghost use Rattle.strm_c.specs.contracts.handles.StoreHandle.{the_row};
 ghost use Rattle.strm_c.specs.Lent.{handle_with};
 
 use crate::handles::StoreHandle;
-use strm_embed::guest_store::GuestStore;
+use strm_guest_store::guest_store::GuestStore;
 
 impl StoreHandle {
     /// The store, if it is of one. When the borrow ends, the handle has what was written through it.

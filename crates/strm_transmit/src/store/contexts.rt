@@ -6,7 +6,7 @@
 
 ghost use Rattle.std.specs.Prelude.{◌≡◌, ◌≢◌, ◌<◌, ◌≤◌, ◌∷◌, [], false, length, Err, None, IfErr, IfOk};
 ghost use Rattle.strm_codes.specs.declared.refusals.Refusal.TheVariants as refusals;
-ghost use Rattle.strm_contexts.specs.Contexts.{message_at};
+ghost use Rattle.strm_error_contexts.specs.Contexts.{message_at};
 ghost use Rattle.strm_machine.specs.Tests.{are_bytes_out_of_bounds};
 ghost use Rattle.strm_machine.specs.ErrorContexts.{context_named, context_number, is_message_too_long, is_bad_text, bytes_of_message, message_limit, without_context_handle};
 ghost use Rattle.strm_machine.specs.Refusals.{where_, refusal, first_of, slot_reasons, context_reasons, handle_more_reasons, lower_context_reasons};
@@ -26,11 +26,11 @@ use crate::errors::StoreError;
 use crate::store::Store;
 use crate::store::refusals::refusal_of;
 use strm_codes::refusals::Refusal;
-use strm_contexts::messages::message_of;
+use strm_error_contexts::messages::message_of;
 use strm_handles::entries::MAX_HANDLE;
 use strm_handles::errors::HandleError;
-use strm_turns::contexts::{give_context, message, remove_context, share_context, tell_message};
-use strm_turns::guests::read_bytes;
+use strm_channels::contexts::{give_context, message, remove_context, share_context, tell_message};
+use strm_channels::guests::read_bytes;
 
 /// The longest message, in bytes.
 const LONGEST_MESSAGE: u32 = 4_096;

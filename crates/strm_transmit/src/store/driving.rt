@@ -1,6 +1,6 @@
 //! Drive rounds: a turn for each stream whose host end has something to serve.
 //!
-//! Meaning: `Driving.antt` of `strm_world`. Ours: wasmtime's event loop polls the futures of its host
+//! Meaning: `Driving.antt` of `strm_host_machine`. Ours: wasmtime's event loop polls the futures of its host
 //! ends.
 
 ghost use Rattle.std.specs.Prelude.{◌≡◌, ◌<◌, ◌≤◌, true, length, None, Some, IfErr, IfSome};
@@ -9,8 +9,8 @@ ghost use Rattle.strm_machine.specs.State.{stream_at, host_limit, producer_at, c
 ghost use Rattle.strm_machine.specs.Sides.{end_of};
 ghost use Rattle.strm_machine.specs.declared.acts.Act.TheVariants.{Drive};
 ghost use Rattle.strm_machine.specs.declared.replies.Reply.TheVariants as replies;
-ghost use Rattle.strm_world.specs.Driving.{drive_turn, driven, round_of};
-ghost use Rattle.strm_world.specs.Does.{Fits, Does};
+ghost use Rattle.strm_host_machine.specs.Driving.{drive_turn, driven, round_of};
+ghost use Rattle.strm_host_machine.specs.Does.{Fits, Does};
 ghost use Rattle.strm_transmit.specs.Inside.{AreServed};
 ghost use Rattle.strm_transmit.specs.Meets.{replied};
 ghost use Rattle.strm_transmit.specs.Hosted.{answered, IsStop, MeetsHosted};
@@ -23,7 +23,7 @@ use crate::store::Store;
 use crate::store::hosting::MOST_HOSTS;
 use strm_buffers::hosts::Hosts;
 use strm_machine::streams::{Duty, Operation, Owner, Side};
-use strm_turns::sides::opposite;
+use strm_channels::sides::opposite;
 
 // The lesser of a number and another, if there is one.
 fn least_of(number: u32, other: Option<u32>) -> Option<u32>

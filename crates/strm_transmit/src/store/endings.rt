@@ -21,7 +21,7 @@ ghost use Rattle.strm_machine.specs.declared.replies.Reply.TheVariants as replie
 ghost use Rattle.strm_machine.specs.declared.steps.Step.TheVariants as steps;
 ghost use Rattle.strm_machine.specs.declared.streams.Owner.TheVariants.{Held};
 ghost use Rattle.strm_machine.proofs.NameLemmas.{IsEndError};
-ghost use Rattle.strm_world.specs.Does.{Fits};
+ghost use Rattle.strm_host_machine.specs.Does.{Fits};
 ghost use Rattle.strm_transmit.specs.Celled.{cell_named};
 ghost use Rattle.strm_transmit.specs.Meets.{Meets, replied, or_found};
 ghost use Rattle.strm_transmit.specs.Hosted.{StillFits, MeetsHosted};
@@ -39,7 +39,7 @@ use strm_handles::entries::TransmitLocalState;
 use strm_handles::errors::HandleError;
 use strm_machine::acts::{EndAct, NamedEnd};
 use strm_machine::streams::{Owner, Side};
-use strm_turns::endings::cancel_operation;
+use strm_channels::endings::cancel_operation;
 
 impl Store {
     // The stream and the end that a handle names, whatever its type.

@@ -1,6 +1,6 @@
 //! Host ends: the streams of host writers, bytes and grants from outside, and the close of host ends.
 //!
-//! Meaning: `Attaching.antt` and `HostRefusals.antt` of `strm_world`. Source: wasmtime,
+//! Meaning: `Attaching.antt` and `HostRefusals.antt` of `strm_host_machine`. Source: wasmtime,
 //! `StreamReader::new`, `FutureReader::new`, and the drops of ends; `feed` and `grant` are ours.
 
 ghost use Rattle.std.specs.Prelude.{◌≡◌, ◌<◌, ◌≤◌, ◌↔◌, ◌++◌, ◌∷◌, [], false, length, slice_set, Ok, Err, IsTrue, OnOk, OnErr, IfOk};
@@ -13,9 +13,9 @@ ghost use Rattle.strm_machine.specs.declared.replies.Reply.TheVariants as replie
 ghost use Rattle.strm_machine.specs.declared.streams.Duty.TheVariants.{Unused, Serves, Ended};
 ghost use Rattle.strm_machine.specs.declared.streams.Owner.TheVariants.{Host, Loose, Gone};
 ghost use Rattle.strm_machine.specs.declared.streams.Side.TheVariants.{Writing, Reading};
-ghost use Rattle.strm_world.specs.Outcomes.{done};
-ghost use Rattle.strm_world.specs.HostRefusals.{is_unknown_host, refusal_in};
-ghost use Rattle.strm_world.specs.Does.{Logs, world_of, FitsWriter, FitsReader, Fits, Does};
+ghost use Rattle.strm_host_machine.specs.Outcomes.{done};
+ghost use Rattle.strm_host_machine.specs.HostRefusals.{is_unknown_host, refusal_in};
+ghost use Rattle.strm_host_machine.specs.Does.{Logs, world_of, FitsWriter, FitsReader, Fits, Does};
 ghost use Rattle.strm_transmit.specs.Inside.{AreServed};
 ghost use Rattle.strm_transmit.specs.Keeping.{HasGrown, PlaceMade};
 ghost use Rattle.strm_transmit.specs.Meets.{replied, or_found};
@@ -33,7 +33,7 @@ use strm_codes::payloads::Payload;
 use strm_codes::refusals::Refusal;
 use strm_machine::chunks::Chunk;
 use strm_machine::streams::{Duty, Owner, Producer, Side};
-use strm_turns::channels::Channel;
+use strm_channels::channels::Channel;
 
 /// Host writers are numbered from 0 to 63, and so are host readers.
 pub(crate) const MOST_HOSTS: usize = 64;

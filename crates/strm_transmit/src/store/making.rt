@@ -29,8 +29,8 @@ use strm_codes::refusals::Refusal;
 use strm_handles::entries::MAX_HANDLE;
 use strm_machine::replies::Pair;
 use strm_machine::streams::Owner;
-use strm_turns::channels::Channel;
-use strm_turns::ends::insert_ends;
+use strm_channels::channels::Channel;
+use strm_channels::ends::insert_ends;
 
 /// The streams of a store, at most.
 const MOST_STREAMS: usize = 4_294_967_295;

@@ -20,7 +20,7 @@ ghost use Rattle.strm_machine.specs.declared.acts.LooseAct.TheVariants.{Lower, C
 ghost use Rattle.strm_machine.specs.declared.replies.Reply.TheVariants as replies;
 ghost use Rattle.strm_machine.specs.declared.steps.Step.TheVariants as steps;
 ghost use Rattle.strm_machine.proofs.RefusalLemmas.{LeaveFits};
-ghost use Rattle.strm_world.specs.Does.{Fits};
+ghost use Rattle.strm_host_machine.specs.Does.{Fits};
 ghost use Rattle.strm_transmit.specs.Meets.{Meets, replied, or_found};
 ghost use Rattle.strm_transmit.specs.Hosted.{StillFits, MeetsHosted};
 
@@ -34,8 +34,8 @@ use strm_codes::refusals::Refusal;
 use strm_handles::entries::MAX_HANDLE;
 use strm_machine::acts::{EndAct, NamedEnd};
 use strm_machine::streams::{Owner, Side};
-use strm_turns::ends::{give_end, move_end, remove_end};
-use strm_turns::owners::set_owner;
+use strm_channels::ends::{give_end, move_end, remove_end};
+use strm_channels::owners::set_owner;
 
 // Whether two kinds are the same.
 pub(crate) fn same_kind(one: TransmitKind, other: TransmitKind) -> bool

@@ -23,8 +23,8 @@ ghost use Rattle.strm_machine.specs.declared.replies.Reply.TheVariants as replie
 ghost use Rattle.strm_machine.specs.declared.steps.Step.TheVariants as steps;
 ghost use Rattle.strm_machine.specs.declared.streams.Owner.TheVariants.{Host};
 ghost use Rattle.strm_machine.specs.declared.streams.Side.TheVariants.{Writing, Reading};
-ghost use Rattle.strm_world.specs.Steps.{may_poll};
-ghost use Rattle.strm_world.specs.Does.{Fits};
+ghost use Rattle.strm_host_machine.specs.Steps.{may_poll};
+ghost use Rattle.strm_host_machine.specs.Does.{Fits};
 ghost use Rattle.strm_transmit.specs.Meets.{Meets, replied, or_found};
 ghost use Rattle.strm_transmit.specs.Hosted.{lone, IsHandedOver, MeetsHosted, StillFits};
 
@@ -39,9 +39,9 @@ use strm_codes::refusals::Refusal;
 use strm_machine::acts::{EndAct, NamedEnd};
 use strm_machine::streams::{Operation, Owner, Side};
 use strm_memory::memories::RegionError;
-use strm_turns::guests::memory;
-use strm_turns::sides::opposite;
-use strm_turns::turns::{begin, take_turn};
+use strm_channels::guests::memory;
+use strm_channels::sides::opposite;
+use strm_channels::turns::{begin, take_turn};
 
 // The items that a call asks for: a future's is one.
 #[inline(always)]

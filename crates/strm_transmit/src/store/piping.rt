@@ -1,6 +1,6 @@
 //! Pipes: the loose read end of a stream goes to a host reader.
 //!
-//! Meaning: `Attaching.antt` and `HostRefusals.antt` of `strm_world`. Source: wasmtime,
+//! Meaning: `Attaching.antt` and `HostRefusals.antt` of `strm_host_machine`. Source: wasmtime,
 //! `StreamReader::pipe` and `FutureReader::pipe`.
 
 ghost use Rattle.std.specs.Prelude.{◌≡◌, ◌≢◌, ◌<◌, true, false, Err, length, Ok, Some};
@@ -16,9 +16,9 @@ ghost use Rattle.strm_machine.specs.declared.streams.Duty.TheVariants.{Unused, S
 ghost use Rattle.strm_machine.specs.Sides.{end_of};
 ghost use Rattle.strm_machine.specs.declared.streams.Owner.TheVariants.{Loose};
 ghost use Rattle.strm_machine.specs.declared.streams.Side.{Side};
-ghost use Rattle.strm_world.specs.Attaching.{is_dry, without_ends, pipes};
-ghost use Rattle.strm_world.specs.HostRefusals.{refusal_in};
-ghost use Rattle.strm_world.specs.Does.{Logs, world_of, Fits, Does};
+ghost use Rattle.strm_host_machine.specs.Attaching.{is_dry, without_ends, pipes};
+ghost use Rattle.strm_host_machine.specs.HostRefusals.{refusal_in};
+ghost use Rattle.strm_host_machine.specs.Does.{Logs, world_of, Fits, Does};
 ghost use Rattle.strm_transmit.specs.Meets.{replied, or_found};
 ghost use Rattle.strm_transmit.specs.Hosted.{MeetsHosted};
 ghost use Rattle.strm_transmit.specs.Piping.{PipeFits, report_withdrawn, handed_to, EndsPipe};
@@ -32,8 +32,8 @@ use strm_buffers::hosts::Hosts;
 use strm_codes::codes::TransmitIndex;
 use strm_codes::refusals::Refusal;
 use strm_machine::streams::{Consumer, Duty, Owner, Side};
-use strm_turns::channels::Channel;
-use strm_turns::owners::set_owner;
+use strm_channels::channels::Channel;
+use strm_channels::owners::set_owner;
 
 // The report of a write that is open is withdrawn; what it moved stays.
 fn withdraw(stream: &mut Channel)

@@ -21,8 +21,8 @@ use strm_handles::entries::TransmitLocalState;
 use strm_handles::errors::HandleError;
 use strm_machine::acts::{EndAct, NamedEnd};
 use strm_machine::streams::Side;
-use strm_turns::channels::Channel;
-use strm_turns::sides::{is_busy, opposite, same_side};
+use strm_channels::channels::Channel;
+use strm_channels::sides::{is_busy, opposite, same_side};
 
 // What a look-up of a handle came to, as a refusal.
 #[inline(always)]

@@ -1,13 +1,13 @@
 //! Host writers that are taken back from their streams.
 //!
-//! Meaning: `Releasing.antt` of `strm_world`. Source: wasmtime, `futures_and_streams.rs`,
+//! Meaning: `Releasing.antt` of `strm_host_machine`. Source: wasmtime, `futures_and_streams.rs`,
 //! `StreamReader::try_into`.
 
 ghost use Rattle.std.specs.Prelude.{◌≡◌};
 ghost use Rattle.strm_buffers.specs.Tells.{Tells};
 ghost use Rattle.strm_machine.specs.State.{producer_at, stream_at};
 ghost use Rattle.strm_machine.specs.declared.streams.Owner.TheVariants.{Host};
-ghost use Rattle.strm_world.specs.Releasing.{KnowsHeld, unless_spent, released_among, released, after_release};
+ghost use Rattle.strm_host_machine.specs.Releasing.{KnowsHeld, unless_spent, released_among, released, after_release};
 ghost use Rattle.strm_transmit.specs.Hosted.{StillFits, StillKnows};
 
 use crate::store::Store;

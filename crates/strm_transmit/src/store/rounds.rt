@@ -1,6 +1,6 @@
 //! Rounds of pipes: streams from a host writer to a host reader.
 //!
-//! Meaning: `Piping.antt` of `strm_world`. Source: wasmtime, `futures_and_streams.rs`, `set_consumer` on
+//! Meaning: `Piping.antt` of `strm_host_machine`. Source: wasmtime, `futures_and_streams.rs`, `set_consumer` on
 //! `WriteState::HostReady`. Ours: one poll of each end a round.
 
 ghost use Rattle.std.specs.Prelude.{◌≡◌, ◌<◌, [], true, length, slice_set, Ok, IfErr};
@@ -9,10 +9,10 @@ ghost use Rattle.strm_buffers.specs.Tells.{told_by, with_told, told_by_reader, w
 ghost use Rattle.strm_machine.specs.State.{producer_at, stream_at};
 ghost use Rattle.strm_machine.specs.declared.replies.Reply.TheVariants as replies;
 ghost use Rattle.strm_machine.specs.declared.streams.Duty.TheVariants.{Serves};
-ghost use Rattle.strm_world.specs.Attaching.{has_items};
-ghost use Rattle.strm_world.specs.Piping.{fetches, is_done_with, ends_if_done, pipe_round};
-ghost use Rattle.strm_world.specs.Does.{Fits, Does};
-ghost use Rattle.strm_producing.specs.Piping.{fetching, Fetches, offering, Offers};
+ghost use Rattle.strm_host_machine.specs.Attaching.{has_items};
+ghost use Rattle.strm_host_machine.specs.Piping.{fetches, is_done_with, ends_if_done, pipe_round};
+ghost use Rattle.strm_host_machine.specs.Does.{Fits, Does};
+ghost use Rattle.strm_host_turns.specs.Piping.{fetching, Fetches, offering, Offers};
 ghost use Rattle.strm_transmit.specs.Meets.{replied};
 ghost use Rattle.strm_transmit.specs.Hosted.{answered, IsStop};
 ghost use Rattle.strm_transmit.specs.WantsMemory.{WantsInPoll, WantsAt, WantsInOffer, IfWanting};
@@ -27,10 +27,10 @@ use strm_buffers::hosts::Hosts;
 use strm_buffers::items::Items;
 use strm_codes::codes::TransmitKind;
 use strm_machine::streams::{Consumer, Owner, Producer, Side};
-use strm_producing::pipes::{fetch, offer};
-use strm_producing::taking::TakeError;
-use strm_producing::turns::TurnError;
-use strm_turns::channels::Channel;
+use strm_host_turns::pipes::{fetch, offer};
+use strm_host_turns::taking::TakeError;
+use strm_host_turns::turns::TurnError;
+use strm_channels::channels::Channel;
 
 // The reader of a pipe is done with it, once it answered so, if it was polled.
 fn is_done_with(kind: TransmitKind, answer: Option<Answer>) -> bool

@@ -6,8 +6,8 @@
 
 ghost use Rattle.std.specs.Prelude.{◌≡◌, ◌≢◌, ℕ, ◌<◌, ◌+◌, ◌&&◌, ◌∷◌, [], true, length, Err, Some, None, IfOk, IfErr, IfSome};
 ghost use Rattle.strm_codes.specs.declared.refusals.Refusal.TheVariants as refusals;
-ghost use Rattle.strm_sets.specs.Ready.{is_in};
-ghost use Rattle.strm_sets.specs.Sets.{is_there, is_member};
+ghost use Rattle.strm_waitable_sets.specs.Ready.{is_in};
+ghost use Rattle.strm_waitable_sets.specs.Sets.{is_there, is_member};
 ghost use Rattle.strm_machine.specs.State.{sets_in};
 ghost use Rattle.strm_machine.specs.WaitableSets.{set_named, number_named, has_member, is_in_set, is_ready, ready_member, without_set_named};
 ghost use Rattle.strm_machine.specs.Refusals.{where_, refusal, first_of, slot_reasons, joined_reasons};
@@ -28,8 +28,8 @@ use crate::telling::{home_of, join, leave};
 use strm_codes::refusals::Refusal;
 use strm_handles::errors::HandleError;
 use strm_machine::replies::Member;
-use strm_sets::ready::ReadyMembers;
-use strm_turns::sets::{give_set, has_member, is_in_set, join_set, leave_set, remove_set};
+use strm_waitable_sets::ready::ReadyMembers;
+use strm_channels::sets::{give_set, has_member, is_in_set, join_set, leave_set, remove_set};
 
 // One more than a count that is below a limit, which is there for the contract alone.
 fn one_more(count: u32, limit: u32) -> u32

@@ -1,6 +1,6 @@
 //! Turns of host ends: of a host writer for the read on its stream, of a host reader for the write.
 //!
-//! Meaning: `Producing.antt`, `Consuming.antt` and `Settling.antt` of `strm_world`. Source: wasmtime,
+//! Meaning: `Producing.antt`, `Consuming.antt` and `Settling.antt` of `strm_host_machine`. Source: wasmtime,
 //! `guest_read` with `WriteState::HostReady` and `guest_write` with `ReadState::HostReady`.
 
 ghost use Rattle.std.specs.Prelude.{◌≡◌, ◌≢◌, ◌<◌, ◌≤◌, [], true, length, sum, None, Some, Ok, IsOk, IfOk, IfErr};
@@ -14,13 +14,13 @@ ghost use Rattle.strm_machine.specs.Soundness.{sizes_of, IsPlaced};
 ghost use Rattle.strm_machine.specs.declared.replies.Reply.TheVariants as replies;
 ghost use Rattle.strm_machine.specs.declared.streams.Owner.TheVariants.{Host};
 ghost use Rattle.strm_machine.specs.declared.streams.Side.TheVariants.{Writing, Reading};
-ghost use Rattle.strm_turns.specs.Guests.{seen};
-ghost use Rattle.strm_producing.specs.Turning.{scene, Turns};
-ghost use Rattle.strm_producing.specs.Taking.{taking, Takes};
-ghost use Rattle.strm_world.specs.Settling.{answered as answers_at};
-ghost use Rattle.strm_world.specs.Producing.{producer_turn};
-ghost use Rattle.strm_world.specs.Consuming.{consumer_turn};
-ghost use Rattle.strm_world.specs.Does.{Fits, Does};
+ghost use Rattle.strm_channels.specs.Guests.{seen};
+ghost use Rattle.strm_host_turns.specs.Turning.{scene, Turns};
+ghost use Rattle.strm_host_turns.specs.Taking.{taking, Takes};
+ghost use Rattle.strm_host_machine.specs.Settling.{answered as answers_at};
+ghost use Rattle.strm_host_machine.specs.Producing.{producer_turn};
+ghost use Rattle.strm_host_machine.specs.Consuming.{consumer_turn};
+ghost use Rattle.strm_host_machine.specs.Does.{Fits, Does};
 ghost use Rattle.strm_transmit.specs.Meets.{replied};
 ghost use Rattle.strm_transmit.specs.Hosted.{answered, IsStop};
 ghost use Rattle.strm_transmit.specs.WantsMemory.{WantsInPoll, IfWanting};
@@ -33,11 +33,11 @@ use std::alloc::Global;
 use strm_buffers::hosts::Hosts;
 use strm_codes::codes::ReturnCode;
 use strm_machine::streams::{Consumer, HostEnd, Operation, Owner, Producer, Side};
-use strm_producing::taking::{TakeError, consumer_turn};
-use strm_producing::turns::{TurnError, producer_turn};
-use strm_turns::channels::Channel;
-use strm_turns::guests::Guest;
-use strm_turns::owners::is_live;
+use strm_host_turns::taking::{TakeError, consumer_turn};
+use strm_host_turns::turns::{TurnError, producer_turn};
+use strm_channels::channels::Channel;
+use strm_channels::guests::Guest;
+use strm_channels::owners::is_live;
 
 // Why a turn of a host writer stops a call.
 pub(crate) fn stop_of(error: TurnError, number: u32) -> StoreError

@@ -1,6 +1,6 @@
 -- What is done for the words: what they name, and nothing else.
 use Rattle.std.proofs.Common.{rules}
-use Rattle.strm_tape_serving.specs.declared.modes.Mode.TheVariants.{Take, Play}
+use Rattle.strm_tape_program.specs.declared.modes.Mode.TheVariants.{Take, Play}
 use Rattle.tape.proofs.NamingLemmas.{take_only, play_only, not_none}
 use Rattle.tape.proofs.answered.Goals as goal
 

@@ -4,8 +4,8 @@ use Rattle.strm_codes.specs.declared.codes.TransmitKind.TheVariants.{Stream}
 use Rattle.strm_codes.specs.declared.payloads.Payload.TheVariants.{One}
 use Rattle.strm_codes.specs.declared.scalars.Scalar.TheVariants.{U8}
 use Rattle.strm_buffers.specs.Tells.{WriterTells, ReaderTells}
-use Rattle.strm_ends.specs.QueueTells.{queue_tells}
-use Rattle.strm_ends.specs.Credits.{credit_tells, ungranted}
+use Rattle.strm_program_ends.specs.QueueTells.{queue_tells}
+use Rattle.strm_program_ends.specs.Credits.{credit_tells, ungranted}
 use Rattle.strm_host.specs.Erasing.{erased_tells, unpolled}
 use Rattle.strm_host.specs.Lists.{list_faults}
 use Rattle.tape.proofs.taken_among_ends.Object-1 as boxed_writer

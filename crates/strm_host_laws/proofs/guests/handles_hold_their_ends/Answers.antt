@@ -1,5 +1,5 @@
 -- Handles and ends agree.
-use Rattle.strm_world.specs.Does.{start}
+use Rattle.strm_host_machine.specs.Does.{start}
 use Rattle.strm_laws.proofs.Handles.{handles_hold, handles_are_single}
 use Rattle.strm_host_laws.specs.HostMoments.{first_moments, last_of}
 use Rattle.strm_host_laws.proofs.Standing.{run-holds}

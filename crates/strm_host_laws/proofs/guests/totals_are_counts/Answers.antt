@@ -1,5 +1,5 @@
 -- Items of operations are counts.
-use Rattle.strm_world.specs.Does.{start}
+use Rattle.strm_host_machine.specs.Does.{start}
 use Rattle.strm_laws.proofs.LawfulRuns.{stream_counted}
 use Rattle.strm_host_laws.specs.HostMoments.{first_moments, last_of}
 use Rattle.strm_host_laws.proofs.Standing.{run-holds}

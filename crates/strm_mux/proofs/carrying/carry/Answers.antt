@@ -3,7 +3,7 @@ use Rattle.strm_laws.specs.Conservation.{last, moments, replies_of}
 use Rattle.strm_session.specs.Runs.{start, counts_of}
 use Rattle.strm_frames.specs.Demuxes.{IsFed}
 use Rattle.strm_machine.specs.declared.steps.Step.{Step}
-use Rattle.strm_one_stream.specs.OneStream.{CanCarry, dumped}
+use Rattle.strm_carry_laws.specs.OneStream.{CanCarry, dumped}
 use Rattle.strm_mux.proofs.CarryLemmas.{can_carry, script_few, script_guests, received_first, same_count, one_count, fed_delivers}
 use Rattle.strm_mux.proofs.carrying.carry.Goals as goal
 

@@ -4,7 +4,7 @@ use Rattle.strm_machine.specs.declared.streams.Owner.TheVariants.{Held}
 use Rattle.strm_machine.specs.declared.streams.Side.{Side}
 use Rattle.strm_machine.specs.declared.streams.Side.TheVariants.{Writing, Reading}
 use Rattle.strm_machine.specs.declared.streams.Stream.{Stream}
-use Rattle.strm_turns.specs.Guests.{seen}
+use Rattle.strm_channels.specs.Guests.{seen}
 use Rattle.strm_transmit.specs.Telling.{SaysOf, member_of, has_report}
 use Rattle.strm_transmit.proofs.ToldLemmas.{never}
 use Rattle.strm_transmit.proofs.telling.retell_ends.Goals as goal

@@ -1,6 +1,6 @@
 use Rattle.std.proofs.Common.{sym, ◌∙◌, arith}
 use Rattle.std.proofs.lemmas.List.{length-map}
-use Rattle.strm_turns.specs.Guests.{guest_of, seen}
+use Rattle.strm_channels.specs.Guests.{guest_of, seen}
 use Rattle.strm_transmit.proofs.ToldLemmas.{never, no_member_past}
 use Rattle.strm_transmit.proofs.telling.retell_held.Goals as goal
 

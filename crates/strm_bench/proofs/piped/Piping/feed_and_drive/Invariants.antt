@@ -1,5 +1,5 @@
 use Rattle.strm_buffers.specs.AllTells.{tells_of}
-use Rattle.strm_world.specs.Does.{Fits}
+use Rattle.strm_host_machine.specs.Does.{Fits}
 use Rattle.strm_bench.proofs.piped.Piping.feed_and_drive.Given as goal
 
 abbrev pub invariant-loop : goal.invariant-loop

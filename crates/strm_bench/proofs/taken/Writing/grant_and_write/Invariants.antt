@@ -1,5 +1,5 @@
 use Rattle.strm_buffers.specs.AllTells.{tells_of}
-use Rattle.strm_world.specs.Does.{Fits}
+use Rattle.strm_host_machine.specs.Does.{Fits}
 use Rattle.strm_bench.proofs.taken.Writing.grant_and_write.Given as goal
 
 abbrev pub invariant-loop-round : goal.invariant-loop-round

@@ -1,5 +1,5 @@
 use Rattle.strm_buffers.specs.AllTells.{tells_of}
-use Rattle.strm_world.specs.Does.{Fits}
+use Rattle.strm_host_machine.specs.Does.{Fits}
 use Rattle.strm_bench.proofs.taken.Writing.write_list.Given as goal
 
 abbrev pub invariant-loop-piece : goal.invariant-loop-piece

@@ -6,8 +6,8 @@ use denote.Param.Send.{IsSend, owning_send, sendable}
 use Rattle.std_alloc.proofs.SendSync.{lies}
 use Rattle.std_heap.specs.declared.Global.{Global}
 use Rattle.strm_machine.specs.State.{State}
-use Rattle.strm_embed.specs.contracts.guest_store.GuestStore as Stored
-use Rattle.strm_embed.proofs.guest_store.GuestStore.TheSendSync as stored
+use Rattle.strm_guest_store.specs.contracts.guest_store.GuestStore as Stored
+use Rattle.strm_guest_store.proofs.guest_store.GuestStore.TheSendSync as stored
 use Rattle.std_heap.proofs.Global.TheSendSync as heap
 use Rattle.std.proofs.Crossing.{frees}
 use mir.Raw.{raw}

@@ -1,5 +1,5 @@
 use Rattle.std.proofs.Common.{subst}
-use Rattle.strm_world.specs.Does.{Fits}
+use Rattle.strm_host_machine.specs.Does.{Fits}
 use Rattle.strm_transmit.specs.Guests.{nobody}
 use Rattle.strm_chain.proofs.PlayingLemmas.{follows_start}
 use Rattle.strm_chain.proofs.playing.Player.new.Goals as goal

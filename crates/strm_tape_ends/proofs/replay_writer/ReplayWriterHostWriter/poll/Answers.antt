@@ -5,7 +5,7 @@ use Rattle.strm_buffers.specs.Windows.{room_of}
 use Rattle.strm_buffers.specs.Tells.{PollsWriter, writer_record}
 use Rattle.strm_buffers.specs.declared.answers.Answer.{Answer}
 use Rattle.strm_buffers.proofs.EndLemmas.{Fills-same, IfAnswered-turn_of}
-use Rattle.strm_ends.proofs.ScriptLemmas.{room_parts}
+use Rattle.strm_program_ends.proofs.ScriptLemmas.{room_parts}
 use Rattle.strm_tape_ends.specs.Replays.{plan_of, replay_tells, next_items}
 use Rattle.strm_tape_ends.proofs.FollowLemmas.{Follows, follows_poll}
 use Rattle.strm_tape_ends.proofs.replay_writer.ReplayWriterHostWriter.poll.Goals as goal

@@ -1,4 +1,4 @@
-use Rattle.strm_world.proofs.SettleLemmas.{Does-answers}
+use Rattle.strm_host_machine.proofs.SettleLemmas.{Does-answers}
 use Rattle.strm_transmit.proofs.OperateLemmas.{answers-fits}
 use Rattle.strm_transmit.proofs.store.Store.answer.Goals as goal
 

@@ -1,6 +1,6 @@
 use Rattle.std.proofs.Common.{◌≡◌, ◌∙◌, min, sym, ap, arith}
 use Rattle.std.proofs.lemmas.List.{length-map}
-use Rattle.strm_turns.specs.Guests.{guest_of}
+use Rattle.strm_channels.specs.Guests.{guest_of}
 use Rattle.strm_transmit.specs.Inside.{state_of}
 use Rattle.strm_machine.specs.Reactions.{performs, goes}
 use Rattle.strm_machine.specs.declared.replies.Reply.TheVariants as replies

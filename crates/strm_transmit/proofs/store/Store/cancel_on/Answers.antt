@@ -4,7 +4,7 @@ use Rattle.strm_machine.specs.State.{stream_at}
 use Rattle.strm_machine.specs.Soundness.{sizes_of}
 use Rattle.strm_machine.specs.declared.streams.Stream.{Stream}
 use Rattle.strm_machine.proofs.EndingLemmas.{cancelled-keeps}
-use Rattle.strm_turns.specs.Guests.{seen}
+use Rattle.strm_channels.specs.Guests.{seen}
 use Rattle.strm_transmit.specs.Inside.{state_of}
 use Rattle.strm_transmit.specs.Telling.{Retells}
 use Rattle.strm_transmit.proofs.StoreLemmas.{stream_at-there}

@@ -1,8 +1,8 @@
 use Rattle.std.proofs.Common.{◌≡◌, ◌≤◌, ◌-◌, length, Ok}
 use Rattle.strm_buffers.specs.AllTells.{tells_of}
 use Rattle.strm_machine.specs.declared.replies.Reply.TheVariants as replies
-use Rattle.strm_world.specs.Does.{Fits, Does}
-use Rattle.strm_world.proofs.DriveLemmas.{drives_first}
+use Rattle.strm_host_machine.specs.Does.{Fits, Does}
+use Rattle.strm_host_machine.proofs.DriveLemmas.{drives_first}
 use Rattle.strm_transmit.proofs.store.Store.drive_all.Given as goal
 
 -- the streams before the next one had their turns

@@ -1,5 +1,5 @@
 use Rattle.std.proofs.Common.{sym}
-use Rattle.strm_world.proofs.DoesLemmas.{Does-as}
+use Rattle.strm_host_machine.proofs.DoesLemmas.{Does-as}
 use Rattle.strm_transmit.proofs.DriveStoreLemmas.{is_pipe, piped-turn, piped-wants}
 use Rattle.strm_transmit.proofs.WantsLemmas.{wanting_result}
 use Rattle.strm_transmit.proofs.store.Store.drive_stream.Goals as goal

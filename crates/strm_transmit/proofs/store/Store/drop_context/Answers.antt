@@ -3,7 +3,7 @@ use Rattle.std.proofs.lemmas.List.{length-map}
 use Rattle.strm_handles.specs.Lookups.{error_context_rep_in}
 use Rattle.strm_machine.specs.declared.acts.ContextAct.TheVariants.{Drop}
 use Rattle.strm_machine.proofs.SoundStepLemmas.{on_context-sound}
-use Rattle.strm_turns.specs.Guests.{guest_of}
+use Rattle.strm_channels.specs.Guests.{guest_of}
 use Rattle.strm_transmit.specs.Inside.{state_of}
 use Rattle.strm_transmit.proofs.HeldStoreLemmas.{on_context-held}
 use Rattle.strm_transmit.proofs.StoreLemmas.{less_counted}

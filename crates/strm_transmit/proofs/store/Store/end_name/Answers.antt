@@ -10,9 +10,9 @@ use Rattle.strm_machine.specs.declared.streams.Owner.TheVariants.{Held}
 use Rattle.strm_machine.proofs.NamedEndLemmas.{end_itself}
 use Rattle.strm_machine.proofs.HeldLemmas.{StateIsHeld}
 use Rattle.strm_machine.proofs.NameLemmas.{end_named_there}
-use Rattle.strm_turns.specs.Guests.{guest_of}
+use Rattle.strm_channels.specs.Guests.{guest_of}
 use Rattle.strm_transmit.specs.Inside.{state_of}
-use Rattle.strm_turns.proofs.GuestLemmas.{guest_in-seen}
+use Rattle.strm_channels.proofs.GuestLemmas.{guest_in-seen}
 use Rattle.strm_transmit.proofs.store.Store.end_name.Goals as goal
 
 pub returns-clause-there : goal.returns-clause-there

@@ -2,7 +2,7 @@ use Rattle.std.proofs.Common.{sym, subst}
 use Rattle.strm_machine.specs.Reactions.{Reaction}
 use Rattle.strm_machine.specs.declared.replies.Reply.TheVariants as replies
 use Rattle.strm_machine.proofs.ContextStepLemmas.{lower_context_fits}
-use Rattle.strm_producing.proofs.TurnLemmas.{handed_on}
+use Rattle.strm_host_turns.proofs.TurnLemmas.{handed_on}
 use Rattle.strm_transmit.specs.Meets.{Meets, replied}
 use Rattle.strm_transmit.proofs.ContextLemmas.{is_lowered, meets_not_lowered}
 use Rattle.strm_transmit.proofs.StillLemmas.{lowered_fits}

@@ -3,7 +3,7 @@ use Rattle.strm_machine.specs.Reactions.{performs}
 use Rattle.strm_machine.specs.declared.acts.Act.TheVariants.{Make}
 use Rattle.strm_machine.specs.declared.acts.Making.TheVariants.{Context}
 use Rattle.strm_machine.specs.declared.replies.Reply.TheVariants as replies
-use Rattle.strm_producing.proofs.TurnLemmas.{handed_on}
+use Rattle.strm_host_turns.proofs.TurnLemmas.{handed_on}
 use Rattle.strm_transmit.specs.Meets.{replied}
 use Rattle.strm_transmit.proofs.StepLemmas.{is_admitted, reacts, meets_admitted, meets_not_admitted}
 use Rattle.strm_transmit.proofs.StillLemmas.{still_fits}

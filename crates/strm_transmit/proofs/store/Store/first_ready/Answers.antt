@@ -1,8 +1,8 @@
 use Rattle.std.proofs.Common.{rules, ap, sym, ◌∙◌, arith}
 use Rattle.std.proofs.lemmas.List.{length-map}
 use Rattle.strm_machine.specs.State.{Guest, State, sets_in}
-use Rattle.strm_turns.specs.Guests.{guest_of}
-use Rattle.strm_turns.proofs.GuestLemmas.{guest_in-seen}
+use Rattle.strm_channels.specs.Guests.{guest_of}
+use Rattle.strm_channels.proofs.GuestLemmas.{guest_in-seen}
 use Rattle.strm_transmit.proofs.SetLemmas.{found_by}
 use Rattle.strm_transmit.proofs.store.Store.first_ready.Goals as goal
 

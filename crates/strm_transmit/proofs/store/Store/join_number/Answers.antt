@@ -2,7 +2,7 @@ use Rattle.std.proofs.Common.{not, refl, ap, arith}
 use Rattle.std.proofs.lemmas.List.{length-map}
 use Rattle.strm_machine.specs.declared.acts.SetAct.TheVariants.{Join}
 use Rattle.strm_machine.proofs.SetStepLemmas.{on_set_fits}
-use Rattle.strm_turns.specs.Guests.{guest_of}
+use Rattle.strm_channels.specs.Guests.{guest_of}
 use Rattle.strm_transmit.specs.Inside.{state_of}
 use Rattle.strm_transmit.proofs.SetLemmas.{IsStore-left, IsStore-joined, joined_made}
 use Rattle.strm_transmit.proofs.store.Store.join_number.Goals as goal

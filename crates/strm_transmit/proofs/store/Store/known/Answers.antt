@@ -1,6 +1,6 @@
 use Rattle.std.proofs.Common.{ℕ, ◌<◌, ◌&&◌, List, [], length, Option, get_or, ap, ◌∙◌, arith}
 use Rattle.std.proofs.lemmas.List.{get_or_read}
-use Rattle.strm_sets.specs.Ready.{known}
+use Rattle.strm_waitable_sets.specs.Ready.{known}
 use Rattle.strm_machine.specs.WaitableSets.{is_ready}
 use Rattle.strm_transmit.specs.Inside.{state_of}
 use Rattle.strm_transmit.specs.Telling.{member_of}

@@ -4,7 +4,7 @@ use Rattle.strm_transmit.specs.Telling.{Retells}
 use Rattle.strm_transmit.proofs.StoreLemmas.{set_at}
 use Rattle.std.proofs.lemmas.List.{length-map, length-set}
 use Rattle.strm_machine.proofs.RefusalLemmas.{lower_fits}
-use Rattle.strm_turns.specs.Guests.{guest_of, seen}
+use Rattle.strm_channels.specs.Guests.{guest_of, seen}
 use Rattle.strm_transmit.specs.Inside.{state_of}
 use Rattle.strm_transmit.proofs.MoveLemmas.{lower_made, IsStore-lowered}
 use Rattle.strm_transmit.proofs.store.Store.lower_loose.Goals as goal

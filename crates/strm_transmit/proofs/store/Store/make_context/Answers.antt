@@ -2,7 +2,7 @@ use Rattle.std.proofs.Common.{refl, arith}
 use Rattle.std.proofs.lemmas.List.{length-map}
 use Rattle.strm_machine.proofs.ContextStepLemmas.{context_fits}
 use Rattle.strm_machine.proofs.SoundStepLemmas.{with_context-sound}
-use Rattle.strm_turns.specs.Guests.{guest_of}
+use Rattle.strm_channels.specs.Guests.{guest_of}
 use Rattle.strm_transmit.specs.Inside.{state_of}
 use Rattle.strm_transmit.proofs.HeldStoreLemmas.{with_context-held}
 use Rattle.strm_transmit.proofs.StoreLemmas.{fits_below}

@@ -1,7 +1,7 @@
 use Rattle.std.proofs.Common.{refl, arith}
 use Rattle.std.proofs.lemmas.List.{length-map}
 use Rattle.strm_machine.proofs.SetStepLemmas.{set_fits}
-use Rattle.strm_turns.specs.Guests.{guest_of}
+use Rattle.strm_channels.specs.Guests.{guest_of}
 use Rattle.strm_transmit.specs.Inside.{state_of}
 use Rattle.strm_transmit.proofs.SetLemmas.{IsStore-made_set}
 use Rattle.strm_transmit.proofs.store.Store.make_set.Goals as goal

@@ -1,7 +1,7 @@
 use Rattle.std.proofs.Common.{refl, sym, arith, ◌<◌, length, ◌∙◌}
 use Rattle.std.proofs.lemmas.List.{length-map}
-use Rattle.strm_turns.specs.Guests.{guest_of}
-use Rattle.strm_turns.proofs.GuestLemmas.{memory_in-seen}
+use Rattle.strm_channels.specs.Guests.{guest_of}
+use Rattle.strm_channels.proofs.GuestLemmas.{memory_in-seen}
 use Rattle.strm_transmit.proofs.LendingLemmas.{lent-keeps, lent-state}
 use Rattle.strm_transmit.proofs.store.Store.memory_mut.Goals as goal
 

@@ -6,7 +6,7 @@ use Rattle.std.proofs.lemmas.List.{length-map, length-set}
 use Rattle.strm_machine.specs.Tests.{named, side_named}
 use Rattle.strm_machine.specs.declared.streams.Side.{Side}
 use Rattle.strm_machine.proofs.RefusalLemmas.{move_fits}
-use Rattle.strm_turns.specs.Guests.{guest_of, seen}
+use Rattle.strm_channels.specs.Guests.{guest_of, seen}
 use Rattle.strm_transmit.specs.Inside.{state_of}
 use Rattle.strm_transmit.proofs.EndingLemmas.{removable_named, named_made}
 use Rattle.strm_transmit.proofs.MoveLemmas.{IsStore-moved}

@@ -6,11 +6,11 @@ use Rattle.strm_machine.specs.declared.acts.NamedEnd.{NamedEnd}
 use Rattle.strm_machine.specs.Tests.{Name, named, named_by}
 use Rattle.strm_machine.specs.State.{Guest}
 use Rattle.strm_machine.proofs.NameLemmas.{named_there, named_payload, IsNameError, named_by-error}
-use Rattle.strm_turns.specs.Guests.{guest_of, seen}
+use Rattle.strm_channels.specs.Guests.{guest_of, seen}
 use Rattle.strm_transmit.specs.Inside.{state_of}
-use Rattle.strm_turns.specs.declared.guests.Guest as ours
+use Rattle.strm_channels.specs.declared.guests.Guest as ours
 use Rattle.strm_transmit.specs.declared.store.Store.TheInside.{Inside}
-use Rattle.strm_turns.proofs.GuestLemmas.{guest_in-seen}
+use Rattle.strm_channels.proofs.GuestLemmas.{guest_in-seen}
 use Rattle.strm_transmit.proofs.store.Store.name.Goals as goal
 
 -- what the table of a guest answers is what the machine finds

@@ -7,7 +7,7 @@ use Rattle.strm_machine.proofs.ReactionLemmas.{performs-on_end}
 use Rattle.strm_transmit.specs.Meets.{replied}
 use Rattle.strm_transmit.proofs.StepLemmas.{is_admitted, reacts, meets_admitted, meets_not_admitted}
 use Rattle.strm_transmit.proofs.HostStepLemmas.{hosted_alone, hosted_not_admitted}
-use Rattle.strm_world.proofs.OutcomeLemmas.{refusal_in-on_end}
+use Rattle.strm_host_machine.proofs.OutcomeLemmas.{refusal_in-on_end}
 use Rattle.strm_transmit.proofs.OperateLemmas.{hosted_across, held_there, ok_wants_none, operate-alone, settled_code}
 use Rattle.strm_transmit.proofs.store.Store.operate_here.Goals as goal
 

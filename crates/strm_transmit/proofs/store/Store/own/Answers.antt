@@ -1,6 +1,6 @@
 use Rattle.std.proofs.Common.{subst, refl}
 use Rattle.strm_machine.specs.declared.streams.Stream.{Stream}
-use Rattle.strm_turns.specs.Guests.{seen}
+use Rattle.strm_channels.specs.Guests.{seen}
 use Rattle.strm_transmit.specs.Telling.{Retells}
 use Rattle.strm_transmit.proofs.MoveLemmas.{IsStore-owned}
 use Rattle.strm_transmit.proofs.StoreLemmas.{set_at}

@@ -1,5 +1,5 @@
-use Rattle.strm_world.proofs.PipeLemmas.{Does-round}
-use Rattle.strm_producing.proofs.TurnLemmas.{handed_on}
+use Rattle.strm_host_machine.proofs.PipeLemmas.{Does-round}
+use Rattle.strm_host_turns.proofs.TurnLemmas.{handed_on}
 use Rattle.strm_transmit.proofs.RoundLemmas.{round-stops, round-fetch_wants, round-offer_wants}
 use Rattle.strm_transmit.proofs.WantsLemmas.{wanting_as, wanting_result}
 use Rattle.strm_transmit.proofs.store.Store.pipe_round.Goals as goal

@@ -1,4 +1,4 @@
-use Rattle.strm_producing.proofs.TurnLemmas.{handed_on}
+use Rattle.strm_host_turns.proofs.TurnLemmas.{handed_on}
 use Rattle.strm_transmit.proofs.OperateLemmas.{opened-fits, turn-answers, turn-stops, turn-wants}
 use Rattle.strm_transmit.proofs.WantsLemmas.{wanting_as}
 use Rattle.strm_transmit.proofs.store.Store.poll_across.Goals as goal

@@ -1,6 +1,6 @@
 use Rattle.std.proofs.Common.{sym}
 use Rattle.strm_machine.specs.declared.streams.Side.TheVariants.{Writing, Reading}
-use Rattle.strm_world.proofs.DoesLemmas.{Does-as}
+use Rattle.strm_host_machine.proofs.DoesLemmas.{Does-as}
 use Rattle.strm_transmit.proofs.DriveStoreLemmas.{due-turn, due-wants, idle-turn}
 use Rattle.strm_transmit.proofs.WantsLemmas.{wanting_result}
 use Rattle.strm_transmit.proofs.store.Store.serve.Goals as goal

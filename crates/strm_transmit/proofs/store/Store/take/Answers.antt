@@ -3,7 +3,7 @@ use Rattle.std.proofs.lemmas.Grind.{common_steps}
 use Rattle.strm_machine.specs.Turns.{Turn, turn}
 use Rattle.strm_machine.proofs.TurnLemmas.{turn-keeps}
 use Rattle.strm_machine.proofs.SoundLemmas.{placed_at}
-use Rattle.strm_turns.specs.Guests.{seen}
+use Rattle.strm_channels.specs.Guests.{seen}
 use Rattle.strm_transmit.specs.Inside.{state_of}
 use Rattle.strm_transmit.specs.Telling.{Retells}
 use Rattle.strm_transmit.proofs.StoreLemmas.{IsStore-turn, stream_at-there}

@@ -1,0 +1,269 @@
+//! The handles of a stream's ends, given and freed.
+//!
+//! Meaning: `Making.antt` and `Moves.antt` of `strm_machine`. Source: Canonical ABI,
+//! `canon stream.new`, `lift_stream` and `lower_stream`; the room that is taken before the first
+//! insert is ours.
+
+ghost use Rattle.std.specs.Prelude.{◌≡◌, ◌≢◌, Ok, ◌+◌, ◌^◌, ◌<◌, ◌≤◌, ℕ, length, IsOk, IfOk, OnOk, OnErr};
+ghost use Rattle.strm_handles.specs.Handles.{next_index, inserted, live_of};
+ghost use Rattle.strm_handles.specs.Changes.{Inserts, Removes};
+ghost use Rattle.strm_handles.specs.Counters.{counted, uncounted};
+ghost use Rattle.strm_machine.specs.State.{guest_in};
+ghost use Rattle.strm_machine.specs.Making.{end_entry, with_read_end, with_ends};
+ghost use Rattle.strm_channels.specs.Guests.{seen, room_in, live_in, with_end_in, without_handle_in, removable};
+
+use crate::guests::Guest;
+use strm_codes::codes::TransmitIndex;
+use strm_codes::counts::OutOfMemory;
+use strm_handles::counters::HandleCounter;
+use strm_handles::errors::HandleError;
+use strm_handles::tables::HandleTable;
+use strm_machine::acts::NamedEnd;
+use strm_machine::streams::Side;
+
+fn try_insert(
+    table: &mut HandleTable,
+    counter: &mut HandleCounter,
+    side: Side,
+    ty: TransmitIndex,
+    stream: u32,
+) -> Result<u32, HandleError>
+    ensures { Inserts table.old table.new counter.old counter.new (end_entry side ty stream) result }
+{
+    match (side, ty) {
+        (Side::Writing, TransmitIndex::Stream(payload)) => {
+            table.stream_insert_write(counter, payload, stream)
+        }
+        (Side::Reading, TransmitIndex::Stream(payload)) => {
+            table.stream_insert_read(counter, payload, stream)
+        }
+        (Side::Writing, TransmitIndex::Future(payload)) => {
+            table.future_insert_write(counter, payload, stream)
+        }
+        (Side::Reading, TransmitIndex::Future(payload)) => {
+            table.future_insert_read(counter, payload, stream)
+        }
+    }
+}
+
+// An end's handle, in a table that has room for it.
+fn insert(
+    table: &mut HandleTable,
+    counter: &mut HandleCounter,
+    side: Side,
+    ty: TransmitIndex,
+    stream: u32,
+) -> u32
+    requires room { 0 < table.old.room }
+    requires small { next_index table.old.handles < 2 ^ 28 }
+    requires below { counter.old.live < counter.old.limit }
+    ensures number { result ≡ next_index table.old.handles }
+    ensures handles { table.new.handles ≡ inserted table.old.handles (end_entry side ty stream) }
+    ensures counter { counter.new ≡ counted counter.old }
+    ensures room { table.old.room ≤ table.new.room + 1 }
+    ensures live { live_of table.new.handles ≡ live_of table.old.handles + 1 }
+{
+    table.sound();
+    try_insert(table, counter, side, ty, stream).unwrap()
+}
+
+// Room for so many handles in a guest's table.
+pub(crate) fn reserve(guests: &mut Vec<Guest>, guest: usize, needed: u32) -> Result<(), OutOfMemory>
+    requires { guest < length guests.old.items }
+    ensures seen { seen guests.new.items ≡ seen guests.old.items }
+    ensures count { length guests.new.items ≡ length guests.old.items }
+    ensures room { OnOk result (needed ≤ room_in guests.new.items guest) }
+    ensures rooms { (n : ℕ) → room_in guests.old.items n ≤ room_in guests.new.items n }
+{
+    match guests[guest].table.reserve(needed) {
+        Ok(()) => Ok(()),
+        Err(_) => Err(OutOfMemory),
+    }
+}
+
+// An end's handle, in the table of a guest that has room for it.
+fn insert_end(
+    guests: &mut Vec<Guest>,
+    counter: &mut HandleCounter,
+    guest: usize,
+    side: Side,
+    ty: TransmitIndex,
+    stream: u32,
+) -> u32
+    requires there { guest < length guests.old.items }
+    requires room { 0 < room_in guests.old.items guest }
+    requires small { next_index (guest_in (seen guests.old.items) guest).handles < 2 ^ 28 }
+    requires below { counter.old.live < counter.old.limit }
+    ensures number { result ≡ next_index (guest_in (seen guests.old.items) guest).handles }
+    ensures guests { seen guests.new.items
+        ≡ with_end_in (seen guests.old.items) guest side ty stream }
+    ensures counter { counter.new ≡ counted counter.old }
+    ensures rooms { (n : ℕ) → room_in guests.old.items n ≤ room_in guests.new.items n + 1 }
+    ensures live { live_in (seen guests.new.items) ≡ live_in (seen guests.old.items) + 1 }
+    ensures count { length guests.new.items ≡ length guests.old.items }
+{
+    insert(&mut guests[guest].table, counter, side, ty, stream)
+}
+
+/// The handles of a new stream's ends in two guests' tables, the read end's first: answers their
+/// numbers, the read end's first. After want of memory nothing has changed.
+pub fn insert_ends(
+    guests: &mut Vec<Guest>,
+    counter: &mut HandleCounter,
+    writer: usize,
+    reader: usize,
+    ty: TransmitIndex,
+    stream: u32,
+) -> Result<(u32, u32), OutOfMemory>
+    requires writer { writer < length guests.old.items }
+    requires reader { reader < length guests.old.items }
+    requires read { next_index (guest_in (seen guests.old.items) reader).handles < 2 ^ 28 }
+    requires write { next_index (guest_in (with_read_end (seen guests.old.items) reader ty stream)
+        writer).handles < 2 ^ 28 }
+    requires below { counter.old.live + 2 ≤ counter.old.limit }
+    ensures numbers { IfOk result (λ numbers. numbers ≡ (
+      next_index (guest_in (seen guests.old.items) reader).handles,
+      next_index (guest_in (with_read_end (seen guests.old.items) reader ty stream) writer).handles,
+    )) }
+    ensures guests { OnOk result (seen guests.new.items
+        ≡ with_ends (seen guests.old.items) writer reader ty stream) }
+    ensures counter { OnOk result (counter.new ≡ counted (counted counter.old)) }
+    ensures live { OnOk result
+        (live_in (seen guests.new.items) ≡ live_in (seen guests.old.items) + 2) }
+    ensures err { OnErr result (seen guests.new.items ≡ seen guests.old.items) }
+    ensures kept { OnErr result (counter.new ≡ counter.old) }
+    ensures count { length guests.new.items ≡ length guests.old.items }
+{
+    // The borrow checker takes a type but once.
+    let same = ty;
+    reserve(guests, reader, 2)?;
+    reserve(guests, writer, 2)?;
+    let read = insert_end(guests, counter, reader, Side::Reading, ty, stream);
+    let write = insert_end(guests, counter, writer, Side::Writing, same, stream);
+    Ok((read, write))
+}
+
+fn try_remove(
+    table: &mut HandleTable,
+    counter: &mut HandleCounter,
+    side: Side,
+    ty: TransmitIndex,
+    handle: u32,
+) -> Result<(), HandleError>
+    requires { live_of table.old.handles ≤ counter.old.live }
+    ensures answer { result ≡ removable side ty table.old.handles handle }
+    ensures removes { Removes table.old table.new counter.old counter.new handle result }
+{
+    match (side, ty) {
+        (Side::Writing, TransmitIndex::Stream(payload)) => {
+            table.stream_remove_writable(counter, payload, handle)?;
+        }
+        (Side::Reading, TransmitIndex::Stream(payload)) => {
+            table.stream_remove_readable(counter, payload, handle)?;
+        }
+        (Side::Writing, TransmitIndex::Future(payload)) => {
+            table.future_remove_writable(counter, payload, handle)?;
+        }
+        (Side::Reading, TransmitIndex::Future(payload)) => {
+            table.future_remove_readable(counter, payload, handle)?;
+        }
+    }
+    Ok(())
+}
+
+/// Frees the handle of an end that the table shows idle, in its guest's table; it leaves the set that
+/// it is in.
+pub fn remove_end(guests: &mut Vec<Guest>, counter: &mut HandleCounter, side: Side, end: &NamedEnd)
+    requires there { end.now.guest < length guests.old.items }
+    requires idle { removable side end.now.ty (guest_in (seen guests.old.items) end.now.guest).handles
+        end.now.handle ≡ Ok tt }
+    requires live { live_in (seen guests.old.items) ≤ counter.old.live }
+    ensures guests { seen guests.new.items
+        ≡ without_handle_in (seen guests.old.items) end.now.guest end.now.handle }
+    ensures counter { counter.new ≡ uncounted counter.old }
+    ensures room { 0 < room_in guests.new.items end.now.guest }
+    ensures rooms { (n : ℕ) → room_in guests.old.items n ≤ room_in guests.new.items n }
+    ensures live { live_in (seen guests.new.items) + 1 ≡ live_in (seen guests.old.items) }
+    ensures count { length guests.new.items ≡ length guests.old.items }
+{
+    let guest = &mut guests[end.guest as usize];
+    try_remove(&mut guest.table, counter, side, end.ty, end.handle).unwrap();
+    guest.sets.leave(end.handle);
+}
+
+/// The handle of an end in a guest's table: answers its number. After want of memory nothing has
+/// changed.
+pub fn give_end(
+    guests: &mut Vec<Guest>,
+    counter: &mut HandleCounter,
+    guest: usize,
+    side: Side,
+    ty: TransmitIndex,
+    stream: u32,
+) -> Result<u32, OutOfMemory>
+    requires there { guest < length guests.old.items }
+    requires small { next_index (guest_in (seen guests.old.items) guest).handles < 2 ^ 28 }
+    requires below { counter.old.live < counter.old.limit }
+    ensures number { IfOk result (λ number. number
+        ≡ next_index (guest_in (seen guests.old.items) guest).handles) }
+    ensures guests { OnOk result (seen guests.new.items
+        ≡ with_end_in (seen guests.old.items) guest side ty stream) }
+    ensures counter { OnOk result (counter.new ≡ counted counter.old) }
+    ensures live { OnOk result
+        (live_in (seen guests.new.items) ≡ live_in (seen guests.old.items) + 1) }
+    ensures err { OnErr result (seen guests.new.items ≡ seen guests.old.items) }
+    ensures kept { OnErr result (counter.new ≡ counter.old) }
+    ensures count { length guests.new.items ≡ length guests.old.items }
+{
+    reserve(guests, guest, 1)?;
+    Ok(insert_end(guests, counter, guest, side, ty, stream))
+}
+
+// Room for a handle that one guest gives up and another gets; within one guest the room that is given
+// up serves.
+fn reserve_move(guests: &mut Vec<Guest>, from: usize, to: usize) -> Result<(), OutOfMemory>
+    requires { to < length guests.old.items }
+    ensures seen { seen guests.new.items ≡ seen guests.old.items }
+    ensures count { length guests.new.items ≡ length guests.old.items }
+    ensures room { OnOk result (from ≢ to → 0 < room_in guests.new.items to) }
+    ensures within { from ≡ to → result ≡ Ok tt }
+{
+    if from == to {
+        return Ok(());
+    }
+    reserve(guests, to, 1)
+}
+
+/// Frees the handle of an end that its guest's table shows idle, and gives the end one in another
+/// guest's table, or in the same: answers its number. As many handles are live as before. After want
+/// of memory, of which there is none within one guest, nothing has changed.
+pub fn move_end(
+    guests: &mut Vec<Guest>,
+    counter: &mut HandleCounter,
+    side: Side,
+    end: &NamedEnd,
+    to: usize,
+    stream: u32,
+) -> Result<u32, OutOfMemory>
+    requires from { end.now.guest < length guests.old.items }
+    requires to { to < length guests.old.items }
+    requires idle { removable side end.now.ty (guest_in (seen guests.old.items) end.now.guest).handles
+        end.now.handle ≡ Ok tt }
+    requires small { next_index (guest_in (without_handle_in (seen guests.old.items) end.now.guest
+        end.now.handle) to).handles < 2 ^ 28 }
+    requires live { live_in (seen guests.old.items) ≤ counter.old.live }
+    requires limit { counter.old.live ≤ counter.old.limit }
+    ensures number { IfOk result (λ number. number ≡ next_index (guest_in (without_handle_in
+        (seen guests.old.items) end.now.guest end.now.handle) to).handles) }
+    ensures guests { OnOk result (seen guests.new.items ≡ with_end_in (without_handle_in
+        (seen guests.old.items) end.now.guest end.now.handle) to side end.now.ty stream) }
+    ensures counter { counter.new ≡ counter.old }
+    ensures live { live_in (seen guests.new.items) ≡ live_in (seen guests.old.items) }
+    ensures err { OnErr result (seen guests.new.items ≡ seen guests.old.items) }
+    ensures within { end.now.guest ≡ to → IsOk result }
+    ensures count { length guests.new.items ≡ length guests.old.items }
+{
+    reserve_move(guests, end.guest as usize, to)?;
+    remove_end(guests, counter, side, end);
+    Ok(insert_end(guests, counter, to, side, end.ty, stream))
+}

@@ -1,8 +1,0 @@
-use Rattle.strm_embed.proofs.BaseLemmas.{step-bases, lowering-bases}
-use Rattle.strm_embed.proofs.laws.memories_stay.Goals as goal
-
-pub returns-clause-steps : goal.returns-clause-steps
-returns-clause-steps c = step-bases
-
-pub returns-clause-lowerings : goal.returns-clause-lowerings
-returns-clause-lowerings c = lowering-bases

@@ -1,0 +1,107 @@
+-- A call of the store without host ends is the machine's step, and leaves it so.
+use Rattle.std.proofs.Common.{◌≡◌, ◌≤◌, ◌+◌, ap, ℕ, true, false, List, length, refl, sym, subst, ◌∙◌}
+use Rattle.std.specs.Prelude.{Result, Ok, Err}
+use Rattle.strm_buffers.specs.Tells.{Tells}
+use Rattle.std.specs.Prelude.{Bool, nat_lt, ◌&&◌}
+use Rattle.std.proofs.lemmas.Bool.{le-ltb}
+use Rattle.strm_memory.specs.Region.{bytes_out_of_bounds}
+use Rattle.strm_machine.specs.State.{State, empty, memory_in, with_bytes}
+use Rattle.std.specs.Ptr.{Ptr}
+use Rattle.strm_machine.specs.Bases.{with_base_in}
+use Rattle.strm_machine.proofs.BaseLemmas.{with_base-keeps}
+use Rattle.strm_machine.proofs.RefusalLemmas.{BytesFit}
+use Rattle.strm_machine.proofs.SoundLemmas.{IsSound-guests}
+use Rattle.strm_machine.specs.Reactions.{Reaction, reaction, lowers_context}
+use Rattle.strm_machine.specs.declared.limits.Limits.{Limits}
+use Rattle.strm_machine.specs.declared.acts.Act.{Act}
+use Rattle.strm_machine.specs.declared.replies.Reply.{Reply}
+use Rattle.strm_machine.proofs.SoundStepLemmas.{poke-keeps}
+use Rattle.strm_host_machine.specs.Does.{Fits}
+use Rattle.std.specs.List.{refill, length_refill}
+use Rattle.strm_machine.proofs.TurnLemmas.{with_memory-keeps}
+use Rattle.strm_transmit.specs.Lending.{with_bytes_in}
+use Rattle.strm_transmit.specs.Guests.{Unhosted, nobody, is_of_guests}
+use Rattle.strm_transmit.specs.Meets.{Meets}
+use Rattle.strm_transmit.specs.Hosted.{MeetsHosted, StillFits}
+use Rattle.strm_transmit.specs.declared.errors.StoreError.{StoreError}
+use Rattle.strm_transmit.specs.declared.errors.StoreError.TheVariants as errors
+use Rattle.strm_transmit.proofs.GuestLemmas.{reaction-unhosted, lowering-unhosted, empty-unhosted, touches-none}
+use Rattle.strm_guest_store.specs.Among.{IsAmongGuests, HasBytes}
+
+after-done : (old new : State) (r : Reaction) (reply : Reply) → Unhosted r.state → Fits new nobody → r ≡ record { reply = reply; state = new } → IsAmongGuests new
+after-done old new r reply u f e = record { unhosted = subst (λ (r : Reaction). Unhosted r.state) e u; fits = f }
+
+after-call : (old new : State) (result : Result Reply StoreError) (r : Reaction) → IsAmongGuests old → Unhosted r.state → Fits new nobody → Meets old new result r → IsAmongGuests new
+after-call old new (Ok reply) r among u f m = after-done old new r reply u f m
+after-call old new (Err (errors.Refused refusal)) r among u f m = subst IsAmongGuests (sym m.1) among
+after-call old new (Err (errors.HostFailed end)) r among u f m = absurd m
+after-call old new (Err (errors.HostBroke end)) r among u f m = absurd m
+after-call old new (Err (errors.BadItem stream)) r among u f m = after-done old new r _ u f m.0
+after-call old new (Err errors.StoreTrapped) r among u f m = subst IsAmongGuests (sym m.1) among
+after-call old new (Err errors.OutOfMemory) r among u f m = subst IsAmongGuests (sym m.1) among
+
+-- a call that takes no host ends
+pub plain_among : (old new : State) (result : Result Reply StoreError) (act : Act) → IsAmongGuests old → Meets old new result (reaction old act) → StillFits old new → IsAmongGuests new
+plain_among old new result act among m f =
+    after-call old new result (reaction old act) among (reaction-unhosted old act among.unhosted) (f nobody among.fits) m
+
+pub lowered_among : (old new : State) (result : Result Reply StoreError) (number g : ℕ) → IsAmongGuests old → Meets old new result (lowers_context old number g) → StillFits old new → IsAmongGuests new
+lowered_among old new result number g among m f =
+    after-call old new result (lowers_context old number g) among (lowering-unhosted old number g among.unhosted) (f nobody among.fits) m
+
+-- one that takes host ends, of which there are none
+pub fits_nobody : (state : State) (tells : Tells) → IsAmongGuests state → tells ≡ nobody → Fits state tells
+fits_nobody state tells among e = subst (Fits state) (sym e) among.fits
+
+pub hosted_meets : (old new : State) (tells told : Tells) (result : Result Reply StoreError) (act : Act) → IsAmongGuests old → is_of_guests act ≡ true → MeetsHosted old new tells told result act → Meets old new result (reaction old act)
+hosted_meets old new tells told result act among e m = (m.alone (touches-none old act among.unhosted e)).meets
+
+pub hosted_among : (old new : State) (tells told : Tells) (result : Result Reply StoreError) (act : Act) → IsAmongGuests old → tells ≡ nobody → is_of_guests act ≡ true → MeetsHosted old new tells told result act → IsAmongGuests new
+hosted_among old new tells told result act among n e m =
+    let a = m.alone (touches-none old act among.unhosted e) in
+    after-call old new result (reaction old act) among (reaction-unhosted old act among.unhosted) (subst (Fits new) (a.ends ∙ n) m.fits) a.meets
+
+pub empty_among : (tag : ℕ) (limits : Limits) → Fits (empty tag limits) nobody → IsAmongGuests (empty tag limits)
+empty_among tag limits f = record { unhosted = empty-unhosted tag limits; fits = f }
+
+and-false : (a : Bool) → (a && false) ≡ false
+and-false true = refl
+and-false false = refl
+
+bytes_inside : (length address count : ℕ) → address + count ≤ length → bytes_out_of_bounds length address count ≡ false
+bytes_inside length address count h = ap (λ b. nat_lt 0 count && b) (le-ltb length (address + count) h) ∙ and-false (nat_lt 0 count)
+
+-- bytes that are written into a memory, as many as they are
+pub written_among : (state : State) (guest address : ℕ) (bytes : List ℕ) → IsAmongGuests state → HasBytes state guest address (length bytes) → IsAmongGuests (with_bytes state guest address bytes)
+written_among state guest address bytes among h =
+    let fits : BytesFit state guest address (length bytes) = record { there = h.there; inside = bytes_inside (length (memory_in state.guests guest)) address (length bytes) h.inside } in
+    record {
+      unhosted = record {
+        sound = IsSound-guests state _ (poke-keeps state guest address bytes fits) among.unhosted.sound;
+        none = among.unhosted.none;
+      };
+      fits = record { writers = among.fits.writers; readers = among.fits.readers };
+    }
+
+-- and such as are written into one that is lent
+pub lent_among : (state : State) (guest : ℕ) (bytes : List ℕ) → IsAmongGuests state → IsAmongGuests (with_bytes_in state guest bytes)
+lent_among state guest bytes among =
+    let memory = memory_in state.guests guest in
+    record {
+      unhosted = record {
+        sound = IsSound-guests state _ (with_memory-keeps state.guests guest (refill (length memory) memory bytes) (sym (length_refill (length memory) memory bytes refl))) among.unhosted.sound;
+        none = among.unhosted.none;
+      };
+      fits = record { writers = among.fits.writers; readers = among.fits.readers };
+    }
+
+-- and one of which it is told where it lies
+pub told_among : (state : State) (guest : ℕ) (base : Ptr) → IsAmongGuests state → IsAmongGuests (with_base_in state guest base)
+told_among state guest base among =
+    record {
+      unhosted = record {
+        sound = IsSound-guests state _ (with_base-keeps state.guests guest base) among.unhosted.sound;
+        none = among.unhosted.none;
+      };
+      fits = record { writers = among.fits.writers; readers = among.fits.readers };
+    }

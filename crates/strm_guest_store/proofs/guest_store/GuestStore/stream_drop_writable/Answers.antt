@@ -1,0 +1,19 @@
+-- There are no host ends, so the call is the machine's step without them.
+use Rattle.std.proofs.Common.{refl, subst}
+use Rattle.strm_machine.specs.State.{State}
+use Rattle.strm_machine.specs.Bases.{BasesStay}
+use Rattle.strm_guest_store.proofs.AmongLemmas.{fits_nobody, hosted_among}
+use Rattle.strm_guest_store.proofs.BaseLemmas.{hosted_stays}
+use Rattle.strm_guest_store.proofs.guest_store.GuestStore.stream_drop_writable.Goals as goal
+
+pub stream_drop_writable-requires : goal.stream_drop_writable-requires
+stream_drop_writable-requires c = record { fits = fits_nobody c.self.inside.store _ c.self.invariant c.no_hosts-hosts.ensures }
+
+pub invariant_of-self : goal.invariant_of-self
+invariant_of-self c =
+    hosted_among c.self.inside.store c.stream_drop_writable.new.self _ _ _ _ c.self.invariant c.no_hosts-hosts.ensures refl c.stream_drop_writable.ensures.meets
+
+pub returns-clause-stays : goal.returns-clause-stays
+returns-clause-stays c =
+    subst (λ (s : State). BasesStay s.guests c.stream_drop_writable.new.self.guests) c.self.view_is
+    (hosted_stays c.self.inside.store c.stream_drop_writable.new.self _ _ _ _ c.self.invariant refl c.stream_drop_writable.ensures.meets)

@@ -1,0 +1,8 @@
+use Rattle.strm_guest_store.proofs.BaseLemmas.{step-bases, lowering-bases}
+use Rattle.strm_guest_store.proofs.laws.memories_stay.Goals as goal
+
+pub returns-clause-steps : goal.returns-clause-steps
+returns-clause-steps c = step-bases
+
+pub returns-clause-lowerings : goal.returns-clause-lowerings
+returns-clause-lowerings c = lowering-bases

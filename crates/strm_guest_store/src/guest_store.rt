@@ -1,0 +1,121 @@
+//! The store, and what it tells.
+//!
+//! Meaning: `State.antt` of `strm_machine`, and `Guests.antt` of `strm_transmit`. Source: wasmtime,
+//! `futures_and_streams.rs`, `ConcurrentState`; that host ends stand apart is ours.
+
+ghost use Rattle.std.specs.Prelude.{◌≡◌, ◌<◌, ◌↔◌, length, IsSome, IfSome, IsTrue};
+ghost use Rattle.strm_buffers.specs.AllTells.{tells_of};
+ghost use Rattle.strm_codes.specs.Types.{kind_of, payload_of};
+ghost use Rattle.strm_machine.specs.State.{empty, is_live, stream_at, memory_in};
+ghost use Rattle.strm_transmit.specs.Guests.{nobody};
+
+mod contexts;
+mod futures;
+mod memories;
+mod moves;
+mod sets;
+mod streams;
+
+use std::alloc::Global;
+use std::marker::Model;
+use strm_buffers::hosts::Hosts;
+use strm_codes::codes::TransmitIndex;
+use strm_machine::limits::Limits;
+use strm_transmit::store::Store;
+
+/// Guests and the streams between them. No host end has an end of one.
+#[derive(Drop)]
+pub struct GuestStore {
+    store: Store,
+    alloc: Global,
+}
+
+impl Model for GuestStore {
+    ghost use Rattle.strm_machine.specs.State.{State};
+    ghost use Rattle.std.specs.Coded.{codes};
+    ghost use Rattle.strm_error_contexts.specs.Contexts.{contexts_code};
+    ghost use Rattle.strm_waitable_sets.specs.Sets.{sets_code};
+
+    ghost Value = { State };
+
+    ghost coded = { Prim.hlevel (codes, sets_code, contexts_code) };
+
+    ghost use Rattle.strm_guest_store.specs.Among.{IsAmongGuests};
+
+    ghost view = { λ s. s.store };
+
+    ghost invariant = { λ s. IsAmongGuests s.store };
+}
+
+// No host ends: what a call of the store is handed that could touch one. It takes no memory, and is not
+// kept, since a list that lies in the store could not be told from one that somebody filled.
+#[inline(always)]
+fn no_hosts(alloc: Global) -> Hosts
+    ensures { tells_of writer_tells reader_tells result ≡ nobody }
+{
+    Hosts {
+        writers: Vec::new(alloc),
+        readers: Vec::new(alloc),
+    }
+}
+
+#[tactic(auto, using(crate::proofs::AmongLemmas::empty_among))]
+impl GuestStore {
+    /// A store without guests, of this tag, under these limits. Takes no memory.
+    pub fn new(alloc: Global, tag: u64, limits: Limits) -> GuestStore
+        ensures { result ≡ empty tag limits }
+    {
+        GuestStore {
+            store: Store::new(alloc, tag, limits),
+            alloc,
+        }
+    }
+
+    /// The number that the store was made with, which no call changes.
+    pub fn tag(&self) -> u64
+        ensures { result ≡ self.now.tag }
+    {
+        self.store.tag()
+    }
+
+    /// Whether it answers nothing any more but `StoreTrapped`.
+    pub fn trapped(&self) -> bool
+        ensures { result ≡ self.now.trapped }
+    {
+        self.store.trapped()
+    }
+
+    /// How many streams and futures were made so far.
+    pub fn streams(&self) -> u32
+        ensures { result ≡ length self.now.streams }
+    {
+        self.store.streams()
+    }
+
+    /// How many items were received on a stream, from 0 on; it stays at 2^128 - 1 once there. None of a
+    /// stream that was never made.
+    pub fn moved(&self, stream: u32) -> Option<u128>
+        ensures made { IsSome result ↔ (stream < length self.now.streams) }
+        ensures count { IfSome result (λ count. count ≡ (stream_at self.now stream).received) }
+    {
+        self.store.moved(stream)
+    }
+
+    /// The type of a stream of which an end is there, and none of any other.
+    pub fn transmit_index(&self, stream: u32) -> Option<TransmitIndex>
+        ensures live { IsSome result ↔ IsTrue (is_live (stream_at self.now stream)) }
+        ensures ty { IfSome result (λ ty.
+            (kind_of ty ≡ (stream_at self.now stream).kind)
+            × (payload_of ty ≡ (stream_at self.now stream).payload)) }
+    {
+        self.store.transmit_index(stream)
+    }
+
+    /// The bytes of a guest's memory, and none of a guest that is not there.
+    pub fn memory(&self, guest: u32) -> Option<&[u8]>
+        ensures there { IsSome result ↔ (guest < length self.now.guests) }
+        ensures bytes { IfSome result (λ bytes. bytes.now ≡ memory_in self.now.guests guest) }
+    {
+        self.store.memory(guest)
+    }
+}

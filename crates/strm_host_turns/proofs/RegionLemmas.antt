@@ -1,0 +1,105 @@
+-- A read's region, lent to a window and taken back: the items that were marked are lowered.
+use Rattle.std.proofs.Common.{◌≡◌, ℕ, zero, suc, ◌+◌, ◌*◌, ◌≤◌, Bool, false, List, [], ◌∷◌, length, refl, sym, ap, subst, ◌∙◌, arith}
+use Rattle.std.specs.Prelude.{◌==◌, ◌||◌, if◌then◌else◌}
+use Rattle.std.proofs.lemmas.Bool.Decides.{nat_tests}
+use Rattle.std.proofs.lemmas.List.{take-append-drop}
+use Rattle.strm_codes.specs.Layout.{scalars_of, item_size}
+use Rattle.strm_codes.specs.declared.payloads.Payload.{Payload}
+use Rattle.strm_memory.specs.Items.{stored, stored_at, encode_from}
+use Rattle.strm_memory.proofs.RegionLemmas.{stored_at-nil}
+use Rattle.strm_buffers.specs.Listing.{Item}
+use Rattle.strm_buffers.specs.Windows.{Lent, Place, Memory, HasRoom, lent_memory, memory_of, given_back}
+use Rattle.strm_buffers.specs.Tells.{Fills}
+use Rattle.strm_machine.specs.State.{Guest, memory_in, with_memory}
+use Rattle.strm_machine.specs.declared.streams.Operation.{Operation}
+use Rattle.strm_machine.proofs.StateLemmas.{with_memory-same}
+use Rattle.strm_memory.specs.Linear.{LinearMemory, untold}
+use Rattle.strm_machine.proofs.CarryLemmas.{no_scalars}
+use Rattle.strm_channels.specs.Guests.{linear_in, with_linear}
+use Rattle.strm_channels.proofs.GuestLemmas.{with_linear-twice}
+use Rattle.strm_host_machine.specs.Producing.{lowered}
+use Rattle.strm_host_turns.specs.Regions.{region_address}
+use Rattle.strm_host_turns.specs.Polls.{Lowers}
+
+-- ## Its address
+
+-- a successor is not 0
+pub not_zero : (n : ℕ) → (suc n == 0) ≡ false
+not_zero n = grind (arith, nat_tests)
+
+stored-nothing : (bytes : List ℕ) (items : List Item) → stored [] bytes items ≡ bytes
+unfolding stored encode_from
+stored-nothing bytes [] = refl
+stored-nothing bytes (x ∷ items) = stored-nothing bytes items
+
+stored_at-nothing : (memory : List ℕ) (address : ℕ) (items : List Item) → stored_at [] memory address items ≡ memory
+stored_at-nothing memory address items = rw stored-nothing (take-append-drop address memory)
+
+module _ (payload : Payload) (read : Operation) (memory : List ℕ) (items : List Item) where
+  -- items stored at an address for a read of so many whose items take so many bytes
+  abbrev stored_for : ℕ → ℕ → List ℕ
+  stored_for w n = stored_at (scalars_of payload) memory (if (w == 0) || (n == 0) then 0 else read.address) items
+
+  stored_by_size : (w n : ℕ) → item_size (scalars_of payload) ≡ w → length items ≤ n → stored_for w n ≡ stored_at (scalars_of payload) memory read.address items
+  stored_by_size zero n e l =
+      let none : scalars_of payload ≡ [] = no_scalars (scalars_of payload) e in
+      rw none (stored_at-nothing memory 0 items ∙ sym (stored_at-nothing memory read.address items))
+  stored_by_size (suc w) zero e l = rw (not_zero w) (none items (omega (arith, l)))
+    where
+      none : (xs : List Item) → length xs ≡ 0 → stored_at (scalars_of payload) memory 0 xs ≡ stored_at (scalars_of payload) memory read.address xs
+      none [] e = stored_at-nil (scalars_of payload) memory 0 ∙ sym (stored_at-nil (scalars_of payload) memory read.address)
+      none (x ∷ xs) e = cc
+  stored_by_size (suc w) (suc n) e l = rw (not_zero w, not_zero n) refl
+
+  -- items that the read has left are stored there as at the read's own address
+  pub stored_region : length items ≤ read.left → stored_at (scalars_of payload) memory (region_address payload read) items ≡ stored_at (scalars_of payload) memory read.address items
+  stored_region l = stored_by_size (item_size (scalars_of payload)) read.left refl l
+
+-- ## Lent and returned
+
+module _ (guests : List Guest) (payload : Payload) (read : Operation) where
+  -- the window that the region is lent to
+  abbrev region_window : Bool → Lent
+  region_window prepared =
+      record (lent_memory payload (linear_in guests read.guest) (region_address payload read) read.left) { prepared = prepared }
+
+  -- a region lent, with the guest left without bytes, and returned as it is after a call
+  pub record Returns (between after : List Guest) (window filled : Lent) : Type 0 where
+    pub prepared : Bool
+    pub lent : window ≡ region_window prepared
+    pub out : between ≡ with_linear guests read.guest (untold [])
+    pub fills : Fills window filled
+    pub room : HasRoom filled.place (length filled.marked) 0
+    pub back : after ≡ with_linear between read.guest (given_back filled)
+
+  module _ (between after : List Guest) (window filled : Lent) (h : Returns between after window filled) where
+    place_is : filled.place ≡ Memory (stored_at (scalars_of payload) (memory_in guests read.guest) (region_address payload read + item_size (scalars_of payload) * 0) filled.marked) (region_address payload read) read.left
+    place_is = h.fills.place ∙ rw h.lent refl
+
+    pub marked_few : length filled.marked ≤ read.left
+    marked_few = omega (arith, subst (λ (p : Place). HasRoom p (length filled.marked) 0) place_is h.room)
+
+    pub marked_lowered : after ≡ lowered guests payload read filled.marked
+    marked_lowered =
+        let at : region_address payload read + item_size (scalars_of payload) * 0 ≡ region_address payload read = omega arith in
+        let memory = ap memory_of place_is ∙ ap (λ k. stored_at (scalars_of payload) (memory_in guests read.guest) k filled.marked) at ∙ stored_region payload read (memory_in guests read.guest) filled.marked marked_few in
+        let lies : filled.base ≡ (linear_in guests read.guest).base = h.fills.base ∙ ap (λ (w : Lent). w.base) h.lent in
+        h.back ∙ ap (λ g. with_linear g read.guest (given_back filled)) h.out ∙ with_linear-twice guests read.guest (untold []) (given_back filled)
+        ∙ ap (λ b. with_linear guests read.guest (record { bytes = memory_of filled.place; base = b })) lies
+        ∙ ap (with_memory guests read.guest) memory
+
+    pub marked_lowers : Lowers guests after payload read
+    marked_lowers = record { items = filled.marked; few = marked_few; lowered = marked_lowered }
+
+  -- no items leave all as it is
+  pub lowered-none : lowered guests payload read [] ≡ guests
+  lowered-none = rw (stored_at-nil (scalars_of payload) (memory_in guests read.guest) read.address) (with_memory-same guests read.guest)
+
+  -- a region lent, and returned without a call
+  pub unpolled : (between after : List Guest) (window : Lent) → window ≡ region_window false → between ≡ with_linear guests read.guest (untold []) → after ≡ with_linear between read.guest (given_back window) → Lowers guests after payload read
+  unpolled between after window l o b =
+      let whole : given_back window ≡ linear_in guests read.guest = rw l refl in
+      let same : after ≡ guests =
+      b ∙ ap (with_linear between read.guest) whole
+      ∙ rw o (with_linear-twice guests read.guest (untold []) (linear_in guests read.guest) ∙ with_memory-same guests read.guest) in
+      record { items = []; few = omega arith; lowered = same ∙ sym lowered-none }

@@ -1,0 +1,5 @@
+use Rattle.strm_buffers.proofs.EndLemmas.{Fills-same}
+use Rattle.strm_program_ends.proofs.queue_writer.QueueWriterHostWriter.give.Goals as goal
+
+pub returns-clause-fills : goal.returns-clause-fills
+returns-clause-fills c = Fills-same c.args._window.now

@@ -1,0 +1,242 @@
+//! A host writer that follows a script.
+
+ghost use Rattle.std.specs.Prelude.{◌≡◌, All};
+
+use std::alloc::Global;
+use strm_buffers::answers::{Answer, HostTurn, Turn};
+use strm_buffers::items::Items;
+use strm_buffers::polling::mark_in_room;
+use strm_buffers::said::WriterSaid;
+use strm_buffers::windows::Window;
+use strm_buffers::writers::HostWriter;
+use strm_codes::codes::TransmitKind;
+use strm_codes::counts::OutOfMemory;
+use strm_codes::payloads::Payload;
+
+/// What one poll produces, and what it answers.
+#[derive(Drop)]
+pub struct WriterTurn {
+    pub items: Items,
+    pub answer: Answer,
+}
+
+/// A writer that does so many turns, and after the last answers Pending without items. It ignores
+/// what it is fed.
+#[derive(Drop)]
+pub struct ScriptedWriter {
+    kind: TransmitKind,
+    payload: Payload,
+    turns: Vec<WriterTurn>,
+    held: Items,
+    said: Vec<WriterSaid>,
+    closed: bool,
+    alloc: Global,
+    ghost typed: { All (λ turn. turn.items.payload ≡ payload) turns.items },
+    ghost holding: { held.payload ≡ payload },
+    ghost recorded: { All (λ said. said.payload ≡ payload) said.items },
+}
+
+impl ScriptedWriter {
+    ghost use Rattle.strm_program_ends.specs.Scripts.{scripted_tells, unpolled_writer};
+
+    /// A writer of these turns. Takes no memory.
+    pub fn new(
+        alloc: Global,
+        kind: TransmitKind,
+        payload: Payload,
+        turns: Vec<WriterTurn>,
+    ) -> ScriptedWriter
+        requires { All (λ turn. turn.items.payload ≡ payload) turns.items }
+        ensures turns { result.turns ≡ turns }
+        ensures tells { scripted_tells result ≡ unpolled_writer kind payload }
+    {
+        let held = Items::new(alloc, payload);
+        let payload = held.payload();
+        ScriptedWriter {
+            kind,
+            payload,
+            turns,
+            held,
+            said: Vec::new(alloc),
+            closed: false,
+            alloc,
+        }
+    }
+}
+
+impl HostWriter for ScriptedWriter {
+    ghost use Rattle.std.specs.Prelude.{[], ◌++◌, drop, true, OnOk, OnErr};
+    ghost use Rattle.strm_buffers.specs.Windows.{Between, room_of};
+    ghost use Rattle.strm_buffers.specs.Said.{in_room, IfAnswered, IfNoMemory};
+    ghost use Rattle.strm_buffers.specs.Tells.{PollsWriter, KeepsWriter, ClosesWriter, Fills, writer_record, given, fed};
+    ghost use Rattle.strm_program_ends.specs.Scripts.{scripted_tells, next_items, next_answer};
+
+    ghost writer_tells = { scripted_tells };
+
+    fn kind(&self) -> TransmitKind {
+        self.kind
+    }
+
+    fn payload(&self) -> Payload {
+        self.payload
+    }
+
+    fn poll(&mut self, window: &mut Window, finish: bool) -> HostTurn
+        requires payload { window.old.payload ≡ self.old.payload }
+        requires nothing_held { self.old.held.items ≡ [] }
+        requires nothing_marked { window.old.marked ≡ [] }
+        requires prepared { window.old.prepared ≡ true }
+        ensures polls { IfAnswered result (λ answer. PollsWriter (scripted_tells self.old) (scripted_tells self.new)
+            (writer_record window.old finish window.new.marked (scripted_tells self.new).holds answer) window.new.marked) }
+        ensures no_memory { IfNoMemory result (KeepsWriter (scripted_tells self.old) (scripted_tells self.new)) }
+        ensures fills { Fills window.old window.new }
+
+        // It does its next turn.
+        ensures answer { IfAnswered result (λ answer. answer ≡ next_answer self.old.turns.items) }
+        ensures items { IfAnswered result (λ _. window.new.marked ++ self.new.held.items ≡ next_items self.old.turns.items) }
+        ensures turns { IfAnswered result (λ _. self.new.turns.items ≡ drop 1 self.old.turns.items) }
+
+        // Without memory its turns are those that they were.
+        ensures same_answer { IfNoMemory result (next_answer self.new.turns.items ≡ next_answer self.old.turns.items) }
+        ensures same_items { IfNoMemory result (next_items self.new.turns.items ≡ next_items self.old.turns.items) }
+        ensures same_behind { IfNoMemory result (drop 1 self.new.turns.items ≡ drop 1 self.old.turns.items) }
+    {
+        match self.find_turn() {
+            Ok(()) => {}
+            Err(_) => return Turn::NoMemory,
+        }
+        match self.play(window, finish) {
+            Ok(answer) => answer.turn(),
+            Err(_) => Turn::NoMemory,
+        }
+    }
+
+    fn held(&self) -> usize {
+        self.held.sound();
+        self.held.len()
+    }
+
+    fn give(&mut self, window: &mut Window) -> Result<(), OutOfMemory>
+        requires payload { window.old.payload ≡ self.old.payload }
+        requires nothing_marked { window.old.marked ≡ [] }
+        ensures marked { OnOk result (window.new.marked ≡
+            in_room (room_of window.old.place) self.old.held.items) }
+        ensures ok { OnOk result (scripted_tells self.new ≡
+            given (scripted_tells self.old) (room_of window.old.place)) }
+        ensures unmarked { OnErr result (window.new.marked ≡ []) }
+        ensures err { OnErr result (scripted_tells self.new ≡ scripted_tells self.old) }
+        ensures out_of_memory { OnErr result (window.old.place ≡ Between) }
+        ensures fills { Fills window.old window.new }
+
+        // Its turns stay.
+        ensures turns { self.new.turns.items ≡ self.old.turns.items }
+    {
+        let count = mark_in_room(window, &self.held)?;
+        self.held.skip(count);
+        Ok(())
+    }
+
+    fn feed(&mut self, _bytes: &[u8]) -> Result<(), OutOfMemory>
+        ensures ok { OnOk result (scripted_tells self.new ≡ fed (scripted_tells self.old) _bytes.now) }
+        ensures err { OnErr result (scripted_tells self.new ≡ scripted_tells self.old) }
+
+        // Its turns stay.
+        ensures turns { self.new.turns.items ≡ self.old.turns.items }
+    {
+        // What it is fed is ignored.
+        Ok(())
+    }
+
+    fn close(&mut self)
+        ensures closes { ClosesWriter (scripted_tells self.old) (scripted_tells self.new) }
+
+        // Its turns stay.
+        ensures turns { self.new.turns.items ≡ self.old.turns.items }
+    {
+        self.closed = true;
+    }
+
+    fn records(&self) -> usize {
+        self.said.len()
+    }
+
+    fn record_at(&self, index: usize) -> Result<WriterSaid, OutOfMemory> {
+        self.said[index].copy()
+    }
+}
+
+impl ScriptedWriter {
+    ghost use Rattle.std.specs.Prelude.{◌<◌, [], ◌∷◌, ◌++◌, true, drop, vec_len, IfOk, OnOk, OnErr};
+    ghost use Rattle.strm_codes.specs.Layout.{scalars_of};
+    ghost use Rattle.strm_memory.specs.Items.{AreItems};
+    ghost use Rattle.strm_buffers.specs.Windows.{room_of};
+    ghost use Rattle.strm_buffers.specs.Said.{in_room, past_room};
+    ghost use Rattle.strm_buffers.specs.Tells.{Fills, writer_record};
+    ghost use Rattle.strm_program_ends.specs.Scripts.{next_items, next_answer};
+
+    // Sees that there is a turn to do: after the last, one without items.
+    fn find_turn(&mut self) -> Result<(), OutOfMemory>
+        ensures found { OnOk result (0 < vec_len self.new.turns) }
+        ensures items { next_items self.new.turns.items ≡ next_items self.old.turns.items }
+        ensures answer { next_answer self.new.turns.items ≡ next_answer self.old.turns.items }
+        ensures behind { drop 1 self.new.turns.items ≡ drop 1 self.old.turns.items }
+        ensures kind { self.new.kind ≡ self.old.kind }
+        ensures payload { self.new.payload ≡ self.old.payload }
+        ensures said { self.new.said.items ≡ self.old.said.items }
+        ensures held { self.new.held.items ≡ self.old.held.items }
+        ensures closed { self.new.closed ≡ self.old.closed }
+    {
+        if !self.turns.is_empty() {
+            return Ok(());
+        }
+        let turn = WriterTurn {
+            items: Items::new(self.alloc, self.payload),
+            answer: Answer::Pending,
+        };
+        match self.turns.push(turn) {
+            Ok(()) => Ok(()),
+            Err(_) => Err(OutOfMemory),
+        }
+    }
+
+    // Does the next turn: what there is room for is marked, and the rest is held.
+    fn play(&mut self, window: &mut Window, finish: bool) -> Result<Answer, OutOfMemory>
+        requires payload { window.old.payload ≡ self.old.payload }
+        requires nothing_marked { window.old.marked ≡ [] }
+        requires next { 0 < vec_len self.old.turns }
+        ensures answer { IfOk result (λ answer. answer ≡ next_answer self.old.turns.items) }
+        ensures marked { OnOk result (window.new.marked ≡ in_room (room_of window.old.place) (next_items self.old.turns.items)) }
+        ensures held { OnOk result (self.new.held.items ≡ past_room (room_of window.old.place) (next_items self.old.turns.items)) }
+        ensures said { OnOk result (self.new.said.items ≡ self.old.said.items
+            ++ record { room = room_of window.old.place; finish = finish; payload = window.old.payload; items = next_items self.old.turns.items; answer = next_answer self.old.turns.items } ∷ []) }
+        ensures fit { OnOk result (AreItems (scalars_of self.old.payload) (next_items self.old.turns.items)) }
+        ensures turns { OnOk result (self.new.turns.items ≡ drop 1 self.old.turns.items) }
+        ensures err { OnErr result (self.new.said.items ≡ self.old.said.items) }
+        ensures same_turns { OnErr result (self.new.turns.items ≡ self.old.turns.items) }
+        ensures same_held { OnErr result (self.new.held.items ≡ self.old.held.items) }
+        ensures kind { self.new.kind ≡ self.old.kind }
+        ensures same_payload { self.new.payload ≡ self.old.payload }
+        ensures closed { self.new.closed ≡ self.old.closed }
+        ensures fills { Fills window.old window.new }
+    {
+        let room = window.room();
+        match self.said.reserve(1) {
+            Ok(()) => {}
+            Err(_) => return Err(OutOfMemory),
+        }
+        let next = &self.turns[0].items;
+        next.sound();
+        let count = mark_in_room(window, next)?;
+        let mut held = next.copy()?;
+        held.skip(count);
+        let WriterTurn { items, answer } = self.turns.remove(0);
+        self.held = held;
+        self.said.push_reserved(WriterSaid {
+            room,
+            finish,
+            items,
+            answer,
+        });
+        Ok(answer)
+    }
+}

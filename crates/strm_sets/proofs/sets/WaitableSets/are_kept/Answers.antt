@@ -1,5 +1,0 @@
-use Rattle.strm_sets.proofs.TieLemmas.{kept}
-use Rattle.strm_sets.proofs.sets.WaitableSets.are_kept.Goals as goal
-
-pub returns : goal.returns
-returns c = rw (← c.self.view_is) (kept c.self.inside.sets.items c.self.inside.homes c.self.inside.hint c.self.invariant)

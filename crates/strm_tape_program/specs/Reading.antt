@@ -1,0 +1,41 @@
+-- Why what is read is no tape, and what is written then. Ours.
+use Rattle.std.specs.Prelude.{◌≡◌, ◌⊎◌, ◌<◌, ◌≤◌, ℕ, List, length, Option, Some, IfSome}
+use Rattle.strm_input_output.specs.Faults.{Rose}
+use Rattle.strm_lines.specs.Text.{too_long_text, read_fault_text}
+use Rattle.strm_tape.specs.Spelling.{TapeOf, IsTape, tape_spelling}
+use Rattle.strm_tape_program.specs.declared.reading.NoTape.{NoTape}
+use Rattle.strm_tape_program.specs.declared.reading.NoTape.TheVariants as causes
+use Rattle.strm_tape_program.specs.Texts.{not_a_tape_text}
+
+-- the most bytes of a tape that is read: 64 MiB
+abbrev pub most_bytes : ℕ
+most_bytes = 67108864
+
+-- a tape has this spelling
+abbrev pub IsSpelling : List ℕ → Type 0
+IsSpelling bytes = (tape : TapeOf) × IsTape tape × (tape_spelling tape ≡ bytes)
+
+-- the statuses where no tape was read
+abbrev pub IsReadStatus : ℕ → Type 0
+IsReadStatus status = (status ≡ 3) ⊎ (status ≡ 4) ⊎ (status ≡ 5) ⊎ (status ≡ 9) ⊎ (status ≡ 11)
+
+-- such a status but 5 and 9, and its text, by why they come: from the bytes that the source had left, where
+-- these are told, and its faults before and after
+pub record IsNoTape (left : Option (List ℕ)) (before after status : ℕ) (text : List ℕ) : Type 0 where
+  pub known : (status ≡ 3) ⊎ (status ≡ 4) ⊎ (status ≡ 11)
+  pub too_long : status ≡ 3 → IfSome left (λ bytes. most_bytes < length bytes) × (text ≡ too_long_text)
+  pub read_fault : status ≡ 4 → Rose before after × (text ≡ read_fault_text)
+  pub not_a_tape : status ≡ 11 →
+      IfSome left (λ bytes. (length bytes ≤ most_bytes) × ¬ IsSpelling bytes) × (text ≡ not_a_tape_text)
+
+-- why there is no tape; nothing is said for want of memory
+abbrev pub IsWhy : Option (List ℕ) → ℕ → ℕ → NoTape → Type 0
+IsWhy left before after causes.TooLong = IfSome left (λ bytes. most_bytes < length bytes)
+IsWhy left before after causes.Fault = Rose before after
+IsWhy left before after causes.NotSpelled = IfSome left (λ bytes. (length bytes ≤ most_bytes) × ¬ IsSpelling bytes)
+IsWhy left before after causes.OutOfMemory = Unit {0}
+
+-- the source has these bytes left, and it does not fail
+pub record IsReadable (left : Option (List ℕ)) (before after : ℕ) (bytes : List ℕ) : Type 0 where
+  pub left_is : left ≡ Some bytes
+  pub source : ¬ Rose before after

@@ -1,0 +1,74 @@
+-- What the program writes of a script that is taken on tape, and why. Ours.
+use Rattle.std.specs.Prelude.{◌≡◌, ◌≢◌, ◌⊎◌, ℕ, List, Option, Some, Result, IfSome}
+use Rattle.std.specs.Io.KnownBytes.{IsAtEnd}
+use Rattle.strm_buffers.specs.Tells.{Tells}
+use Rattle.strm_machine.specs.declared.steps.Step.{Step}
+use Rattle.strm_input_output.specs.Faults.{Rose}
+use Rattle.strm_lines.specs.Lines.{lines_of, Spells, IsFirstBad, IsTooLong}
+use Rattle.strm_lines.specs.Text.{bad_line_text, too_long_text, read_fault_text}
+use Rattle.strm_session.specs.declared.runs.RunStop.{RunStop}
+use Rattle.strm_session.specs.declared.runs.Transcript.{Transcript}
+use Rattle.strm_tape.specs.Spelling.{IsTape, tape_spelling}
+use Rattle.strm_tape_runs.specs.Taking.{tape_of_run}
+use Rattle.strm_tape_runs.specs.Playing.{IsRunOf, FoundMemory, IsPlayOf}
+use Rattle.strm_tape_program.specs.declared.taking.Output.{Output}
+use Rattle.strm_tape_program.specs.declared.taking.Output.TheVariants.{Tape, BadLine, TooLong, Fault}
+
+-- a run of these steps was taken on tape: the records that its host ends added are those that the machine's
+-- play of the tape uses
+pub record IsTaped (old new : Tells) (steps : List Step) : Type 0 where
+  pub is_tape : IsTape (tape_of_run steps old new)
+  pub end : Result Transcript RunStop
+  pub run : IsRunOf old new steps end
+  pub memory : FoundMemory end
+  pub plays : IsPlayOf (tape_of_run steps old new) end
+
+-- the spelling of the tape of a run of the steps that the lines of an input spell
+pub record IsTaken (old new : Tells) (input text : List ℕ) : Type 0 where
+  pub steps : List Step
+  pub spelled : Spells (lines_of input) steps
+  pub taped : IsTaped old new steps
+  pub text_is : text ≡ tape_spelling (tape_of_run steps old new)
+
+-- a status but 5 and 9, and what is written with it, by why they come: from the bytes that the source had left
+-- before and has left after, where these are told, what the host ends told before and tell after, and the
+-- source's faults before and after
+pub record IsOfScript (left rest : Option (List ℕ)) (old new : Tells)
+    (before after status : ℕ) (text : List ℕ) : Type 0 where
+  pub known : (status ≡ 0) ⊎ (status ≡ 2) ⊎ (status ≡ 3) ⊎ (status ≡ 4)
+  pub done : status ≡ 0 → IfSome left (λ input. IsTaken old new input text)
+  pub bad_line : status ≡ 2 → (line : ℕ)
+      × IfSome left (λ input. IsFirstBad (lines_of input) line) × (text ≡ bad_line_text line)
+  pub too_long : status ≡ 3 → IfSome left IsTooLong × (text ≡ too_long_text)
+  pub read_fault : status ≡ 4 → Rose before after × (text ≡ read_fault_text)
+  -- where nothing is run, the host ends are as they were
+  pub unrun : status ≢ 0 → new ≡ old
+  -- the limits are tested before the lines
+  pub within : status ≢ 3 → status ≢ 4 → IfSome left (λ input. ¬ IsTooLong input)
+  -- the source was read to its end, unless its bytes are too many
+  pub whole : status ≢ 3 → status ≢ 4 → IsAtEnd rest
+
+-- the statuses of taking
+abbrev pub IsTakeStatus : ℕ → Type 0
+IsTakeStatus status = (status ≡ 0) ⊎ (status ≡ 2) ⊎ (status ≡ 3) ⊎ (status ≡ 4) ⊎ (status ≡ 5) ⊎ (status ≡ 9)
+
+-- the status that goes with what is written
+abbrev pub status_of : Output → ℕ
+status_of (Tape bytes) = 0
+status_of (BadLine text) = 2
+status_of TooLong = 3
+status_of Fault = 4
+
+-- its bytes
+abbrev pub text_of : Output → List ℕ
+text_of (Tape bytes) = bytes
+text_of (BadLine text) = text
+text_of TooLong = too_long_text
+text_of Fault = read_fault_text
+
+-- the source has this input left, and neither source nor sink fails
+pub record IsFaultless (left : Option (List ℕ)) (input : List ℕ)
+    (source_before source_after sink_before sink_after : ℕ) : Type 0 where
+  pub input_is : left ≡ Some input
+  pub source : ¬ Rose source_before source_after
+  pub sink : ¬ Rose sink_before sink_after

@@ -1,0 +1,188 @@
+//! A script that is run and taken on tape.
+//!
+//! Meaning: `Taking.antt`; what a run puts on a tape, `Taking.antt` of `strm_tape_runs`. Ours.
+
+ghost use Rattle.std.specs.Prelude.{◌≡◌, ◌≢◌, ◌≤◌, ◌+◌, ◌⊎◌, ℕ, List, [], All, length, IfOk, OnOk, Some};
+ghost use Rattle.std.specs.Io.KnownBytes.{Appends, Consumes};
+ghost use Rattle.strm_buffers.specs.AllTells.{tells_of};
+ghost use Rattle.strm_machine.specs.declared.steps.Step.{Step};
+ghost use Rattle.strm_input_output.specs.Faults.{Rose, TakesPart};
+ghost use Rattle.strm_lines.specs.Grammar.{HasLine};
+ghost use Rattle.strm_lines.specs.Lines.{lines_of, Spells, IsFirstBad, IsTooLong};
+ghost use Rattle.strm_session.specs.Records.{HostsGoOn};
+ghost use Rattle.strm_tape.specs.Spelling.{tape_spelling};
+ghost use Rattle.strm_tape_runs.specs.Taking.{NoneHolds, tape_of_run};
+ghost use Rattle.strm_tape_program.specs.Taking.{IsTaped, IsOfScript, IsTakeStatus, IsFaultless, status_of, text_of};
+
+use crate::statuses::{BAD_LINE, DONE, OUT_OF_MEMORY, READ_FAULT, TOO_LONG};
+use crate::writing::write_text;
+use std::alloc::Global;
+use strm_buffers::hosts::Hosts;
+use strm_codes::counts::OutOfMemory;
+use strm_lines::lists::TextBytes;
+use strm_lines::parsing::{MAX_BYTES, ParseError, parse};
+use strm_lines::texts::{bad_line_text, read_fault_text, too_long_text};
+use strm_machine::steps::Step;
+use strm_input_output::ports::{Sink, Source};
+use strm_input_output::whole::{InputError, read_all};
+use strm_tape::errors::TapeError;
+use strm_tape::taping::{TapeBytes, tape_bytes};
+use strm_tape_runs::runs::tape_run;
+
+// What is to be written: the tape of the run, or why there was none.
+#[derive(Drop)]
+pub(crate) enum Output {
+    Tape(TapeBytes),
+    BadLine(TextBytes),
+    TooLong,
+    Fault,
+}
+
+impl Output {
+    // The status that goes with it.
+    fn status(&self) -> u8
+        ensures { result ≡ status_of self.now }
+    {
+        match self {
+            Output::Tape(_) => DONE,
+            Output::BadLine(_) => BAD_LINE,
+            Output::TooLong => TOO_LONG,
+            Output::Fault => READ_FAULT,
+        }
+    }
+
+    // Its bytes.
+    fn text(&self) -> &[u8]
+        ensures { result.now ≡ text_of self.now }
+    {
+        match self {
+            Output::Tape(bytes) => bytes.as_slice(),
+            Output::BadLine(text) => text.as_slice(),
+            Output::TooLong => too_long_text(),
+            Output::Fault => read_fault_text(),
+        }
+    }
+}
+
+/// Reads a source to its end, runs its lines among these host ends, and writes the tape of the run, also where
+/// the run stopped. Where the lines are not run it writes why, as `serve` of `strm_session` does. It answers
+/// the program's status: `DONE`, `BAD_LINE`, `TOO_LONG`, `READ_FAULT`, `WRITE_FAULT`, or `OUT_OF_MEMORY`, with
+/// which nothing is written.
+pub fn tape_take<S: Source, K: Sink>(
+    alloc: Global,
+    source: &mut S,
+    sink: &mut K,
+    hosts: &mut Hosts,
+) -> u8
+    requires held { NoneHolds (tells_of writer_tells reader_tells hosts.old) }
+    requires writers { length (tells_of writer_tells reader_tells hosts.old).writers ≤ 64 }
+    requires readers { length (tells_of writer_tells reader_tells hosts.old).readers ≤ 64 }
+    ensures known { IsTakeStatus result }
+    ensures told { result ≢ 5 → result ≢ 9 → (text : List ℕ)
+        × IsOfScript (S.left source.old) (S.left source.new)
+        (tells_of writer_tells reader_tells hosts.old) (tells_of writer_tells reader_tells hosts.new)
+        (S.faults source.old) (S.faults source.new) result text
+        × Appends (K.taken sink.old) (K.taken sink.new) text }
+    ensures part { result ≡ 5 → (meant : ℕ) × (text : List ℕ)
+        × IsOfScript (S.left source.old) (S.left source.new)
+        (tells_of writer_tells reader_tells hosts.old) (tells_of writer_tells reader_tells hosts.new)
+        (S.faults source.old) (S.faults source.new) meant text
+        × TakesPart (K.taken sink.old) (K.taken sink.new) text }
+    ensures write_fault { result ≡ 5 → Rose (K.faults sink.old) (K.faults sink.new) }
+    ensures nothing { result ≡ 9 → sink.new ≡ sink.old }
+    ensures read { (front : List ℕ) × Consumes (S.left source.old) (S.left source.new) front
+        × (length front ≤ MAX_BYTES + 1) }
+    ensures goes_on { HostsGoOn (tells_of writer_tells reader_tells hosts.old)
+        (tells_of writer_tells reader_tells hosts.new) }
+
+    // Lines in the grammar and the limits are run and taken, but for faults and want of memory; else the first
+    // bad line is told, or that the input is too long.
+    ensures complete { (input : List ℕ) (steps : List Step) →
+        IsFaultless (S.left source.old) input
+        (S.faults source.old) (S.faults source.new) (K.faults sink.old) (K.faults sink.new) →
+        Spells (lines_of input) steps → ¬ IsTooLong input → (result ≡ 0) ⊎ (result ≡ 9) }
+    ensures bad_line { (input : List ℕ) (line : ℕ) →
+        IsFaultless (S.left source.old) input
+        (S.faults source.old) (S.faults source.new) (K.faults sink.old) (K.faults sink.new) →
+        IsFirstBad (lines_of input) line → ¬ IsTooLong input → (result ≡ 2) ⊎ (result ≡ 9) }
+    ensures too_long { (input : List ℕ) →
+        IsFaultless (S.left source.old) input
+        (S.faults source.old) (S.faults source.new) (K.faults sink.old) (K.faults sink.new) →
+        IsTooLong input → (result ≡ 3) ⊎ (result ≡ 9) }
+{
+    match answer_source(alloc, source, hosts) {
+        Ok(output) => write_text(sink, output.status(), output.text()),
+        Err(_) => OUT_OF_MEMORY,
+    }
+}
+
+// What is to be written for the input of a source.
+fn answer_source<S: Source>(
+    alloc: Global,
+    source: &mut S,
+    hosts: &mut Hosts,
+) -> Result<Output, OutOfMemory>
+    requires held { NoneHolds (tells_of writer_tells reader_tells hosts.old) }
+    requires writers { length (tells_of writer_tells reader_tells hosts.old).writers ≤ 64 }
+    requires readers { length (tells_of writer_tells reader_tells hosts.old).readers ≤ 64 }
+    ensures told { IfOk result (λ o. IsOfScript (S.left source.old) (S.left source.new)
+        (tells_of writer_tells reader_tells hosts.old) (tells_of writer_tells reader_tells hosts.new)
+        (S.faults source.old) (S.faults source.new) (status_of o) (text_of o)) }
+    ensures read { (front : List ℕ) × Consumes (S.left source.old) (S.left source.new) front
+        × (length front ≤ MAX_BYTES + 1) }
+    ensures goes_on { HostsGoOn (tells_of writer_tells reader_tells hosts.old)
+        (tells_of writer_tells reader_tells hosts.new) }
+{
+    match read_all(alloc, source) {
+        Ok(input) => answer_script(alloc, input.as_slice(), hosts),
+        Err(InputError::TooLong) => Ok(Output::TooLong),
+        Err(InputError::Fault) => Ok(Output::Fault),
+        Err(InputError::OutOfMemory) => Err(OutOfMemory),
+    }
+}
+
+// What is to be written for an input that was read.
+fn answer_script(alloc: Global, input: &[u8], hosts: &mut Hosts) -> Result<Output, OutOfMemory>
+    requires held { NoneHolds (tells_of writer_tells reader_tells hosts.old) }
+    requires writers { length (tells_of writer_tells reader_tells hosts.old).writers ≤ 64 }
+    requires readers { length (tells_of writer_tells reader_tells hosts.old).readers ≤ 64 }
+    ensures told { (before after : ℕ) → IfOk result (λ o. IsOfScript (Some input.now) (Some [])
+        (tells_of writer_tells reader_tells hosts.old) (tells_of writer_tells reader_tells hosts.new)
+        before after (status_of o) (text_of o)) }
+    ensures goes_on { HostsGoOn (tells_of writer_tells reader_tells hosts.old)
+        (tells_of writer_tells reader_tells hosts.new) }
+{
+    match parse(alloc, input) {
+        Ok(steps) => Ok(Output::Tape(taped(alloc, steps.as_slice(), hosts)?)),
+        Err(ParseError::TooLong) => Ok(Output::TooLong),
+        Err(ParseError::BadLine { line }) => Ok(Output::BadLine(bad_line_text(alloc, line)?)),
+        Err(ParseError::OutOfMemory) => Err(OutOfMemory),
+    }
+}
+
+// The bytes of the tape of a run of steps that lines spell, among host ends that hold nothing.
+fn taped(alloc: Global, steps: &[Step], hosts: &mut Hosts) -> Result<TapeBytes, OutOfMemory>
+    requires few { length steps.now ≤ 4294967295 }
+    requires each { All HasLine steps.now }
+    requires held { NoneHolds (tells_of writer_tells reader_tells hosts.old) }
+    requires writers { length (tells_of writer_tells reader_tells hosts.old).writers ≤ 64 }
+    requires readers { length (tells_of writer_tells reader_tells hosts.old).readers ≤ 64 }
+    ensures taped { OnOk result (IsTaped (tells_of writer_tells reader_tells hosts.old)
+        (tells_of writer_tells reader_tells hosts.new) steps.now) }
+    ensures bytes { IfOk result (λ bytes. bytes ≡ tape_spelling (tape_of_run steps.now
+        (tells_of writer_tells reader_tells hosts.old) (tells_of writer_tells reader_tells hosts.new))) }
+    ensures goes_on { HostsGoOn (tells_of writer_tells reader_tells hosts.old)
+        (tells_of writer_tells reader_tells hosts.new) }
+{
+    match tape_run(alloc, steps, hosts) {
+        Ok(taped) => {
+            taped.tape.sound();
+            tape_bytes(alloc, &taped.tape)
+        }
+        Err(TapeError::OutOfMemory) => Err(OutOfMemory),
+        Err(TapeError::Holding { .. }) => unreachable!(),
+        Err(TapeError::NotTapable) => unreachable!(),
+        Err(TapeError::NotATape) => unreachable!(),
+        Err(TapeError::Differs { .. }) => unreachable!(),
+    }
+}

@@ -1,9 +1,0 @@
-use Rattle.std.proofs.Common.{ap, ◌∙◌}
-use Rattle.strm_turns.specs.Guests.{seen, with_linear}
-use Rattle.strm_turns.proofs.GuestLemmas.{seen-with_linear}
-use Rattle.strm_turns.proofs.guests.take_memory.Goals as goal
-
-pub returns-clause-rest : goal.returns-clause-rest
-returns-clause-rest c =
-    seen-with_linear c.args.guests.now.items c.args.guest c.index_mut.result.now c.replace.new.dest c.requires c.index_mut.ensures.value
-    ∙ ap (with_linear (seen c.args.guests.now.items) c.args.guest) (c.replace.ensures.after ∙ c.empty.ensures)
