@@ -13,9 +13,9 @@ ghost use Rattle.strm_mux.specs.Serving.{IsSizes, IsOutput, IsStatus, IsFaultles
 use std::alloc::Global;
 use std::process::ExitCode;
 use std::{env, io};
-use strm_mux::serving::{BAD_LINE, DONE, OUT_OF_MEMORY, TOO_LONG, USAGE, WRITE_FAULT, mux_serve};
 use strm_input_output::ports::{Sink, Source};
 use strm_input_output::standard::{StdinSource, StdoutSink};
+use strm_mux::serving::{BAD_LINE, DONE, OUT_OF_MEMORY, TOO_LONG, USAGE, WRITE_FAULT, mux_serve};
 
 // Serves a source and a sink. The program's status is that of `mux_serve`, and with it goes what that
 // writes.

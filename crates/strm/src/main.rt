@@ -22,11 +22,11 @@ use strm_buffers::writers::HostWriter;
 use strm_codes::codes::TransmitKind;
 use strm_codes::payloads::Payload;
 use strm_codes::scalars::Scalar;
-use strm_program_ends::credit_reader::CreditReader;
-use strm_program_ends::queue_writer::QueueWriter;
 use strm_host::empty::Empty;
 use strm_host::erased::Erased;
 use strm_memory::payloaded::Payloaded;
+use strm_program_ends::credit_reader::CreditReader;
+use strm_program_ends::queue_writer::QueueWriter;
 use strm_session::serving::{OUT_OF_MEMORY, WRITE_FAULT, serve};
 use strm_session::standard::{StdinSource, StdoutSink};
 

@@ -35,13 +35,13 @@ use strm_codes::codes::TransmitKind;
 use strm_codes::counts::ItemCount;
 use strm_codes::payloads::Payload;
 use strm_codes::scalars::Scalar;
-use strm_program_ends::credit_reader::CreditReader;
-use strm_program_ends::queue_writer::QueueWriter;
 use strm_host::erased::Erased;
 use strm_host::erased_readers::ErasedReader;
 use strm_host_tests::copying::Copying;
 use strm_memory::memories::GuestMemory;
 use strm_memory::payloaded::Payloaded;
+use strm_program_ends::credit_reader::CreditReader;
+use strm_program_ends::queue_writer::QueueWriter;
 
 /// Turns without an argument: about a million inserts and as many removals.
 const TURNS: u32 = 2_000_000;

@@ -12,11 +12,11 @@ use strm_buffers::hosts::Hosts;
 use strm_buffers::readers::HostReader;
 use strm_buffers::writers::HostWriter;
 use strm_codes::codes::TransmitKind;
-use strm_program_ends::credit_reader::CreditReader;
-use strm_program_ends::queue_writer::QueueWriter;
 use strm_host::erased::Erased;
 use strm_host::erased_readers::ErasedReader;
 use strm_host_tests::copying::Copying;
+use strm_program_ends::credit_reader::CreditReader;
+use strm_program_ends::queue_writer::QueueWriter;
 
 fn tell_passed(rt: &HostRuntime, name: &str, piping: &Piping) -> io::Result<()> {
     let passed = piping.passed();

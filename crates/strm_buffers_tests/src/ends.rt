@@ -23,11 +23,11 @@ use strm_buffers::writers::HostWriter;
 use strm_codes::codes::TransmitKind;
 use strm_codes::payloads::Payload;
 use strm_codes::scalars::Scalar;
+use strm_memory::payloaded::Payloaded;
 use strm_program_ends::credit_reader::CreditReader;
 use strm_program_ends::queue_writer::QueueWriter;
 use strm_program_ends::scripted_reader::{ReaderTurn, ScriptedReader};
 use strm_program_ends::scripted_writer::{ScriptedWriter, WriterTurn};
-use strm_memory::payloaded::Payloaded;
 
 const BYTES: Payload = Payload::One(Scalar::U8);
 

@@ -13,9 +13,9 @@ use crate::chains::{ChainError, MAX_INPUT, chain_all};
 use crate::lists::Bytes8;
 use std::alloc::Global;
 use strm_codes::counts::OutOfMemory;
-use strm_lines::texts::{read_fault_text, too_long_text};
 use strm_input_output::ports::{Sink, Source};
 use strm_input_output::whole::{InputError, read_within, write_whole};
+use strm_lines::texts::{read_fault_text, too_long_text};
 
 /// The chain came to its end.
 pub const DONE: u8 = 0;

@@ -12,7 +12,7 @@ pub mod contexts;
 pub mod endings;
 pub mod ends;
 pub mod guests;
+pub mod meetings;
 pub mod owners;
 pub mod sets;
 pub mod sides;
-pub mod turns;

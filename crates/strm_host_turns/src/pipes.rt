@@ -20,11 +20,11 @@ use strm_buffers::offers::Offer;
 use strm_buffers::readers::HostReader;
 use strm_buffers::windows::Window;
 use strm_buffers::writers::HostWriter;
+use strm_channels::channels::Channel;
 use strm_codes::codes::TransmitKind;
 use strm_codes::counts::OutOfMemory;
 use strm_codes::payloads::Payload;
 use strm_machine::streams::{Consumer, Producer};
-use strm_channels::channels::Channel;
 
 // One poll of a host writer that holds nothing, for as many items as it likes: those, and its answer.
 fn poll_all(

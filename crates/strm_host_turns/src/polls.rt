@@ -13,10 +13,10 @@ use std::alloc::Global;
 use strm_buffers::answers::Answer;
 use strm_buffers::boxes::poll_writer;
 use strm_buffers::writers::HostWriter;
+use strm_channels::guests::Guest;
 use strm_codes::counts::OutOfMemory;
 use strm_codes::payloads::Payload;
 use strm_machine::streams::Operation;
-use strm_channels::guests::Guest;
 
 /// Polls a host writer once for a read, which receives what there was room for: what it answered, and
 /// how many items those are. The memory is lent, and not copied.

@@ -13,10 +13,10 @@ use std::alloc::Global;
 use strm_buffers::answers::ReaderSaid;
 use strm_buffers::boxes::poll_reader;
 use strm_buffers::readers::HostReader;
+use strm_channels::guests::Guest;
 use strm_codes::counts::OutOfMemory;
 use strm_codes::payloads::Payload;
 use strm_machine::streams::Operation;
-use strm_channels::guests::Guest;
 
 /// Polls a host reader once with the items that a write has left, so many being taken since it was last
 /// ready: its record. The memory is lent, and not copied.

@@ -15,9 +15,9 @@ ghost use Rattle.strm_host_turns.specs.Regions.{region_address, lent_items};
 use std::alloc::Global;
 use strm_buffers::offers::Offer;
 use strm_buffers::windows::Window;
+use strm_channels::guests::{Guest, put_memory, take_memory};
 use strm_codes::payloads::Payload;
 use strm_machine::streams::Operation;
-use strm_channels::guests::{Guest, put_memory, take_memory};
 
 // Where the next items of a read or write lie. Those that take no bytes lie anywhere, so at the front.
 #[inline(always)]

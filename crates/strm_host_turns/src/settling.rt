@@ -12,11 +12,11 @@ ghost use Rattle.strm_host_machine.specs.Producing.{produced_result};
 ghost use Rattle.strm_host_machine.specs.Settling.{result_of, settled, with_some_received, let_go, moved_on};
 
 use strm_buffers::answers::Answer;
+use strm_channels::channels::Channel;
+use strm_channels::sides::opposite;
 use strm_codes::codes::StreamResult;
 use strm_codes::counts::ItemCount;
 use strm_machine::streams::{Operation, Owner, Side};
-use strm_channels::channels::Channel;
-use strm_channels::sides::opposite;
 
 /// So many items as a count.
 #[inline(always)]

@@ -14,10 +14,10 @@ use crate::settling::{count_of, move_on, result_of};
 use std::alloc::Global;
 use strm_buffers::answers::{Answer, ReaderSaid};
 use strm_buffers::readers::HostReader;
-use strm_codes::codes::TransmitKind;
-use strm_machine::streams::{Consumer, Operation, Side};
 use strm_channels::channels::Channel;
 use strm_channels::guests::Guest;
+use strm_codes::codes::TransmitKind;
+use strm_machine::streams::{Consumer, Operation, Side};
 use thiserror::Error;
 
 /// Why a turn of a host reader stops its step.

@@ -19,11 +19,11 @@ use std::alloc::Global;
 use strm_buffers::answers::Answer;
 use strm_buffers::boxes::{give, held_by};
 use strm_buffers::writers::HostWriter;
+use strm_channels::channels::Channel;
+use strm_channels::guests::Guest;
 use strm_codes::codes::{StreamResult, TransmitKind};
 use strm_codes::counts::ItemCount;
 use strm_machine::streams::{Operation, Producer, Side};
-use strm_channels::channels::Channel;
-use strm_channels::guests::Guest;
 use thiserror::Error;
 
 /// Why a turn stops its step.

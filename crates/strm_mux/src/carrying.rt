@@ -19,12 +19,12 @@ use crate::hearing::heard;
 use crate::scripts::script;
 use std::alloc::Global;
 use strm_buffers::hosts::Hosts;
+use strm_carry_laws::carries;
 use strm_frames::demuxes::Demux;
 use strm_frames::errors::MuxError;
 use strm_frames::muxes::Mux;
 use strm_lines::lists::{Replies, Steps};
 use strm_machine::steps::Step;
-use strm_carry_laws::carries;
 use strm_session::runs::{RunCause, Transcript, run};
 
 /// What was carried.

@@ -19,11 +19,11 @@ use crate::texts::{output_text, usage_text};
 use std::alloc::Global;
 use strm_codes::counts::OutOfMemory;
 use strm_frames::muxes::Mux;
+use strm_input_output::ports::{Sink, Source};
+use strm_input_output::whole::{InputError, read_within, write_whole};
 use strm_lines::lists::TextBytes;
 use strm_lines::texts::{bad_line_text, read_fault_text, too_long_text};
 use strm_lines::words::number_within;
-use strm_input_output::ports::{Sink, Source};
-use strm_input_output::whole::{InputError, read_within, write_whole};
 
 /// The lanes were carried and written.
 pub const DONE: u8 = 0;

@@ -4,8 +4,8 @@ use std::alloc::Global;
 use std::fmt::Display;
 use std::process::Abort;
 use strm_frames::errors::{Fault, MuxError};
-use strm_lines::parsing::ParseError;
 use strm_input_output::whole::InputError;
+use strm_lines::parsing::ParseError;
 
 // What `{}` prints.
 fn prints<T: Display>(rt: &impl Abort, alloc: Global, value: &T, wanted: &str) {

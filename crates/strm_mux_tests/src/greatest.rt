@@ -5,9 +5,9 @@ use std::alloc::{AllocError, Global};
 use std::process::Abort;
 use strm_frames::demuxes::Demux;
 use strm_frames::muxes::Mux;
+use strm_input_output::in_memory::{BytesSink, BytesSource};
 use strm_mux::carrying::carry;
 use strm_mux::serving::mux_serve;
-use strm_input_output::in_memory::{BytesSink, BytesSource};
 
 const FULL: [u8; 255] = [90; 255];
 

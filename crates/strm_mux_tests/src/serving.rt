@@ -2,8 +2,8 @@
 
 use std::alloc::{AllocError, Global};
 use std::process::Abort;
-use strm_mux::serving::mux_serve;
 use strm_input_output::in_memory::{BytesSink, BytesSource};
+use strm_mux::serving::mux_serve;
 
 // Words, an input, the calls of the source and of the sink that fail, the status, and its text.
 #[derive(Clone, Copy)]

@@ -11,5 +11,5 @@ pub mod serving;
 pub mod texts;
 pub mod traps;
 
-pub use strm_lines::{generator, lists, parsing};
 pub use strm_input_output::{in_memory, ports, standard, whole};
+pub use strm_lines::{generator, lists, parsing};

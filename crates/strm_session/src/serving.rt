@@ -17,6 +17,8 @@ use crate::texts::{bad_line_text, read_fault_text, too_long_text, usage_text};
 use std::alloc::Global;
 use strm_buffers::hosts::Hosts;
 use strm_codes::counts::OutOfMemory;
+use strm_input_output::ports::{Sink, Source};
+use strm_input_output::whole::{InputError, read_all, write_whole};
 use strm_lines::generator::{Drawn, MAX_DRAWN};
 use strm_lines::lists::TextBytes;
 use strm_lines::one_by_one::GivesSteps;
@@ -24,8 +26,6 @@ use strm_lines::parsing::{MAX_BYTES, ParseError, number_of, parse_onto};
 use strm_lines::replies::{ReplyCounts, ReplyLines};
 use strm_lines::rows::StepRows;
 use strm_machine::stops::Stop;
-use strm_input_output::ports::{Sink, Source};
-use strm_input_output::whole::{InputError, read_all, write_whole};
 
 /// The run came to its end.
 pub const DONE: u8 = 0;

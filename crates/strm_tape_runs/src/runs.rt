@@ -13,12 +13,12 @@ ghost use Rattle.strm_tape_runs.specs.Playing.{IsRunOf, WasRun, FoundMemory, IsP
 use crate::marks::{Marks, first_holding};
 use crate::taking::tape_behind;
 use std::alloc::Global;
-use strm_record_laws::runs_are_alike;
 use strm_buffers::hosts::Hosts;
 use strm_codes::counts::OutOfMemory;
 use strm_host_laws::guests::{states_are_sound, totals_are_counts};
 use strm_host_laws::runs::{moments_lead_to_the_end, writers_are_fed_exactly};
 use strm_machine::steps::Step;
+use strm_record_laws::runs_are_alike;
 use strm_session::runs::{RunCause, RunStop, Transcript, run};
 use strm_tape::errors::TapeError;
 use strm_tape::tapable::are_tapable;

@@ -28,6 +28,9 @@ use crate::errors::StoreError;
 use std::alloc::Global;
 use std::marker::Model;
 use strm_buffers::items::Items;
+use strm_channels::channels::Channel;
+use strm_channels::guests::Guest;
+use strm_channels::owners::is_live;
 use strm_codes::codes::{TransmitIndex, TransmitKind};
 use strm_codes::payloads::Payload;
 use strm_codes::refusals::Refusal;
@@ -36,9 +39,6 @@ use strm_handles::counters::HandleCounter;
 use strm_machine::limits::Limits;
 use strm_machine::streams::{Consumer, Duty, Producer};
 use strm_waitable_sets::ready::ReadySets;
-use strm_channels::channels::Channel;
-use strm_channels::guests::Guest;
-use strm_channels::owners::is_live;
 
 /// A host writer that was never used.
 const NO_PRODUCER: Producer = Producer {

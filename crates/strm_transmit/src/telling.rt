@@ -13,10 +13,10 @@ ghost use Rattle.strm_channels.specs.Guests.{seen};
 ghost use Rattle.strm_transmit.specs.Telling.{SaysOf, member_of, has_report, Retells, Leaves};
 
 use std::alloc::Global;
-use strm_machine::streams::{Owner, Side};
-use strm_waitable_sets::ready::ReadySets;
 use strm_channels::channels::Channel;
 use strm_channels::guests::Guest;
+use strm_machine::streams::{Owner, Side};
+use strm_waitable_sets::ready::ReadySets;
 
 // The set that a guest's handle is in.
 pub(crate) fn home_of(guests: &Vec<Guest>, guest: usize, handle: u32) -> Option<u32>

@@ -4,9 +4,9 @@ use std::alloc::Global;
 use std::fmt::Display;
 use std::process::Abort;
 use strm_codes::refusals::Refusal;
-use strm_machine::streams::HostEnd;
 use strm_host_turns::taking::TakeError;
 use strm_host_turns::turns::TurnError;
+use strm_machine::streams::HostEnd;
 use strm_transmit::errors::StoreError;
 
 // What `{}` prints.

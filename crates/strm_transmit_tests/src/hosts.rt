@@ -18,8 +18,8 @@ use strm_buffers::items::Items;
 use strm_buffers::writers::HostWriter;
 use strm_codes::codes::TransmitKind;
 use strm_codes::refusals::Refusal;
-use strm_program_ends::scripted_writer::{ScriptedWriter, WriterTurn};
 use strm_machine::streams::HostEnd;
+use strm_program_ends::scripted_writer::{ScriptedWriter, WriterTurn};
 use strm_transmit::errors::StoreError;
 use strm_transmit::store::Store;
 

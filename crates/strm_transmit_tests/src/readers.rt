@@ -15,8 +15,8 @@ use strm_buffers::readers::HostReader;
 use strm_codes::codes::{TransmitIndex, TransmitKind};
 use strm_codes::payloads::Payload;
 use strm_codes::refusals::Refusal;
-use strm_program_ends::scripted_reader::{ReaderTurn, ScriptedReader};
 use strm_machine::streams::HostEnd;
+use strm_program_ends::scripted_reader::{ReaderTurn, ScriptedReader};
 use strm_transmit::errors::StoreError;
 use strm_transmit::store::Store;
 

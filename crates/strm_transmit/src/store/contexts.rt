@@ -25,12 +25,12 @@ ghost use Rattle.strm_transmit.specs.Hosted.{StillFits};
 use crate::errors::StoreError;
 use crate::store::Store;
 use crate::store::refusals::refusal_of;
+use strm_channels::contexts::{give_context, message, remove_context, share_context, tell_message};
+use strm_channels::guests::read_bytes;
 use strm_codes::refusals::Refusal;
 use strm_error_contexts::messages::message_of;
 use strm_handles::entries::MAX_HANDLE;
 use strm_handles::errors::HandleError;
-use strm_channels::contexts::{give_context, message, remove_context, share_context, tell_message};
-use strm_channels::guests::read_bytes;
 
 /// The longest message, in bytes.
 const LONGEST_MESSAGE: u32 = 4_096;

@@ -22,8 +22,8 @@ use crate::errors::StoreError;
 use crate::store::Store;
 use crate::store::hosting::MOST_HOSTS;
 use strm_buffers::hosts::Hosts;
-use strm_machine::streams::{Duty, Operation, Owner, Side};
 use strm_channels::sides::opposite;
+use strm_machine::streams::{Duty, Operation, Owner, Side};
 
 // The lesser of a number and another, if there is one.
 fn least_of(number: u32, other: Option<u32>) -> Option<u32>

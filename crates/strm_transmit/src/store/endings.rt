@@ -31,6 +31,7 @@ use crate::store::Store;
 use crate::store::refusals::{refusal_of, side_of};
 use crate::telling::retell;
 use strm_buffers::hosts::Hosts;
+use strm_channels::endings::cancel_operation;
 use strm_codes::codes::{ReturnCode, TransmitIndex};
 use strm_codes::payloads::Payload;
 use strm_codes::refusals::Refusal;
@@ -39,7 +40,6 @@ use strm_handles::entries::TransmitLocalState;
 use strm_handles::errors::HandleError;
 use strm_machine::acts::{EndAct, NamedEnd};
 use strm_machine::streams::{Owner, Side};
-use strm_channels::endings::cancel_operation;
 
 impl Store {
     // The stream and the end that a handle names, whatever its type.

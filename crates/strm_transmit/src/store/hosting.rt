@@ -27,13 +27,13 @@ use crate::store::moves::same_kind;
 use std::alloc::Global;
 use strm_buffers::hosts::Hosts;
 use strm_buffers::items::Items;
+use strm_channels::channels::Channel;
 use strm_codes::codes::TransmitKind;
 use strm_codes::counts::OutOfMemory;
 use strm_codes::payloads::Payload;
 use strm_codes::refusals::Refusal;
 use strm_machine::chunks::Chunk;
 use strm_machine::streams::{Duty, Owner, Producer, Side};
-use strm_channels::channels::Channel;
 
 /// Host writers are numbered from 0 to 63, and so are host readers.
 pub(crate) const MOST_HOSTS: usize = 64;

@@ -23,14 +23,14 @@ ghost use Rattle.strm_transmit.specs.Hosted.{StillFits};
 use crate::errors::StoreError;
 use crate::store::Store;
 use crate::telling::retell;
+use strm_channels::channels::Channel;
+use strm_channels::ends::insert_ends;
 use strm_codes::codes::TransmitIndex;
 use strm_codes::payloads::Payload;
 use strm_codes::refusals::Refusal;
 use strm_handles::entries::MAX_HANDLE;
 use strm_machine::replies::Pair;
 use strm_machine::streams::Owner;
-use strm_channels::channels::Channel;
-use strm_channels::ends::insert_ends;
 
 /// The streams of a store, at most.
 const MOST_STREAMS: usize = 4_294_967_295;

@@ -17,12 +17,12 @@ ghost use Rattle.strm_transmit.specs.Hosted.{StillFits};
 
 use crate::errors::StoreError;
 use crate::store::Store;
+use strm_channels::guests::{Guest, read_bytes, tell_base, write_bytes};
 use strm_codes::refusals::Refusal;
 use strm_handles::tables::HandleTable;
 use strm_machine::chunks::Chunk;
 use strm_memory::memories::GuestMemory;
 use strm_waitable_sets::sets::WaitableSets;
-use strm_channels::guests::{Guest, read_bytes, tell_base, write_bytes};
 
 /// The bytes of all memories together, at most.
 const MOST_BYTES: u64 = 268_435_456;

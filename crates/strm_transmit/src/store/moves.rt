@@ -28,14 +28,14 @@ use crate::errors::StoreError;
 use crate::store::Store;
 use crate::telling::{home_of, leave, retell};
 use strm_buffers::hosts::Hosts;
+use strm_channels::ends::{give_end, move_end, remove_end};
+use strm_channels::owners::set_owner;
 use strm_codes::codes::{TransmitIndex, TransmitKind};
 use strm_codes::payloads::Payload;
 use strm_codes::refusals::Refusal;
 use strm_handles::entries::MAX_HANDLE;
 use strm_machine::acts::{EndAct, NamedEnd};
 use strm_machine::streams::{Owner, Side};
-use strm_channels::ends::{give_end, move_end, remove_end};
-use strm_channels::owners::set_owner;
 
 // Whether two kinds are the same.
 pub(crate) fn same_kind(one: TransmitKind, other: TransmitKind) -> bool

@@ -32,6 +32,9 @@ use crate::errors::StoreError;
 use crate::store::{Store, number_type};
 use crate::telling::retell;
 use strm_buffers::hosts::Hosts;
+use strm_channels::guests::memory;
+use strm_channels::meetings::{begin, meet_or_wait};
+use strm_channels::sides::opposite;
 use strm_codes::codes::{ReturnCode, TransmitIndex};
 use strm_codes::counts::{ItemCount, StreamOpTooBig};
 use strm_codes::payloads::Payload;
@@ -39,9 +42,6 @@ use strm_codes::refusals::Refusal;
 use strm_machine::acts::{EndAct, NamedEnd};
 use strm_machine::streams::{Operation, Owner, Side};
 use strm_memory::memories::RegionError;
-use strm_channels::guests::memory;
-use strm_channels::sides::opposite;
-use strm_channels::turns::{begin, take_turn};
 
 // The items that a call asks for: a future's is one.
 #[inline(always)]
@@ -147,7 +147,7 @@ impl Store {
         ensures takes_no_memory { result ≢ Err StoreError.OutOfMemory }
     {
         let meeting = &mut self.streams[stream as usize];
-        let taken = take_turn(self.alloc, &mut self.guests, meeting, payload, side, mine);
+        let taken = meet_or_wait(self.alloc, &mut self.guests, meeting, payload, side, mine);
         retell(&mut self.ready, &self.guests, meeting);
         match taken {
             Ok(code) => Ok(code),

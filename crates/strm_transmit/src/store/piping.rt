@@ -29,11 +29,11 @@ use crate::store::moves::same_kind;
 use crate::store::{Store, type_with};
 use crate::telling::retell;
 use strm_buffers::hosts::Hosts;
+use strm_channels::channels::Channel;
+use strm_channels::owners::set_owner;
 use strm_codes::codes::TransmitIndex;
 use strm_codes::refusals::Refusal;
 use strm_machine::streams::{Consumer, Duty, Owner, Side};
-use strm_channels::channels::Channel;
-use strm_channels::owners::set_owner;
 
 // The report of a write that is open is withdrawn; what it moved stays.
 fn withdraw(stream: &mut Channel)

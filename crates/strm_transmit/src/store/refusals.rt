@@ -14,6 +14,8 @@ ghost use Rattle.strm_machine.proofs.NameLemmas.{IsNameError};
 ghost use Rattle.strm_transmit.specs.Meets.{or_found};
 
 use crate::store::Store;
+use strm_channels::channels::Channel;
+use strm_channels::sides::{is_busy, opposite, same_side};
 use strm_codes::codes::{TransmitIndex, TransmitKind};
 use strm_codes::payloads::Payload;
 use strm_codes::refusals::Refusal;
@@ -21,8 +23,6 @@ use strm_handles::entries::TransmitLocalState;
 use strm_handles::errors::HandleError;
 use strm_machine::acts::{EndAct, NamedEnd};
 use strm_machine::streams::Side;
-use strm_channels::channels::Channel;
-use strm_channels::sides::{is_busy, opposite, same_side};
 
 // What a look-up of a handle came to, as a refusal.
 #[inline(always)]

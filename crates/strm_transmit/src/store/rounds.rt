@@ -25,12 +25,12 @@ use std::alloc::Global;
 use strm_buffers::answers::Answer;
 use strm_buffers::hosts::Hosts;
 use strm_buffers::items::Items;
+use strm_channels::channels::Channel;
 use strm_codes::codes::TransmitKind;
-use strm_machine::streams::{Consumer, Owner, Producer, Side};
 use strm_host_turns::pipes::{fetch, offer};
 use strm_host_turns::taking::TakeError;
 use strm_host_turns::turns::TurnError;
-use strm_channels::channels::Channel;
+use strm_machine::streams::{Consumer, Owner, Producer, Side};
 
 // The reader of a pipe is done with it, once it answered so, if it was polled.
 fn is_done_with(kind: TransmitKind, answer: Option<Answer>) -> bool

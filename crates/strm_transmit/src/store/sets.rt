@@ -25,11 +25,11 @@ use crate::errors::StoreError;
 use crate::store::Store;
 use crate::store::refusals::{refusal_of, side_of};
 use crate::telling::{home_of, join, leave};
+use strm_channels::sets::{give_set, has_member, is_in_set, join_set, leave_set, remove_set};
 use strm_codes::refusals::Refusal;
 use strm_handles::errors::HandleError;
 use strm_machine::replies::Member;
 use strm_waitable_sets::ready::ReadyMembers;
-use strm_channels::sets::{give_set, has_member, is_in_set, join_set, leave_set, remove_set};
 
 // One more than a count that is below a limit, which is there for the contract alone.
 fn one_more(count: u32, limit: u32) -> u32

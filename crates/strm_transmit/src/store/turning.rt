@@ -31,13 +31,13 @@ use crate::store::Store;
 use crate::telling::retell;
 use std::alloc::Global;
 use strm_buffers::hosts::Hosts;
-use strm_codes::codes::ReturnCode;
-use strm_machine::streams::{Consumer, HostEnd, Operation, Owner, Producer, Side};
-use strm_host_turns::taking::{TakeError, consumer_turn};
-use strm_host_turns::turns::{TurnError, producer_turn};
 use strm_channels::channels::Channel;
 use strm_channels::guests::Guest;
 use strm_channels::owners::is_live;
+use strm_codes::codes::ReturnCode;
+use strm_host_turns::taking::{TakeError, consumer_turn};
+use strm_host_turns::turns::{TurnError, producer_turn};
+use strm_machine::streams::{Consumer, HostEnd, Operation, Owner, Producer, Side};
 
 // Why a turn of a host writer stops a call.
 pub(crate) fn stop_of(error: TurnError, number: u32) -> StoreError

@@ -1,5 +1,5 @@
 use Rattle.std.proofs.Common.{rules}
-use Rattle.strm_channels.proofs.turns.meeting.Goals as goal
+use Rattle.strm_channels.proofs.meetings.meeting.Goals as goal
 
 pub returns-then-equals_u32-2 : goal.returns-then-equals_u32-2
 returns-then-equals_u32-2 c = search rules

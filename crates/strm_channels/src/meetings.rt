@@ -315,7 +315,7 @@ fn meet(
 /// changed. The payload is the stream's: who knows it already, or some of it, has less code here.
 #[inline(always)]
 #[tactic(auto, unfolding(strm_machine::specs::Turns::turn))]
-pub fn take_turn(
+pub fn meet_or_wait(
     alloc: Global,
     guests: &mut Vec<Guest>,
     stream: &mut Channel,

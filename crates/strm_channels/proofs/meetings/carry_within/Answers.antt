@@ -1,5 +1,5 @@
 use Rattle.strm_channels.proofs.CarryingLemmas.{within_ok}
-use Rattle.strm_channels.proofs.turns.carry_within.Goals as goal
+use Rattle.strm_channels.proofs.meetings.carry_within.Goals as goal
 
 pub returns-clause-carried : goal.returns-clause-carried
 returns-clause-carried c =

@@ -5,7 +5,7 @@ use Rattle.strm_machine.specs.State.{memory_in}
 use Rattle.strm_machine.proofs.TurnLemmas.{front_inside}
 use Rattle.strm_channels.specs.Guests.{seen}
 use Rattle.strm_channels.proofs.CarryingLemmas.{of_write, of_read}
-use Rattle.strm_channels.proofs.turns.carry_from.Goals as goal
+use Rattle.strm_channels.proofs.meetings.carry_from.Goals as goal
 
 pub carry-requires-clause-source : goal.carry-requires-clause-source
 carry-requires-clause-source c =

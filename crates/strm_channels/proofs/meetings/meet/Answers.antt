@@ -4,7 +4,7 @@ use Rattle.strm_codes.specs.Layout.{scalars_of}
 use Rattle.strm_machine.specs.Soundness.{sizes_of}
 use Rattle.strm_machine.proofs.BoundLemmas.{address_room, not_out-front}
 use Rattle.strm_channels.specs.Guests.{seen}
-use Rattle.strm_channels.proofs.turns.meet.Goals as goal
+use Rattle.strm_channels.proofs.meetings.meet.Goals as goal
 
 pub exchange-requires-clause-room : goal.exchange-requires-clause-room
 exchange-requires-clause-room c =

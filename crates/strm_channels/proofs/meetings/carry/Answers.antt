@@ -1,7 +1,7 @@
 use Rattle.std.proofs.Common.{◌∙◌, sym}
 use Rattle.strm_channels.specs.Guests.{seen}
 use Rattle.strm_machine.proofs.CarryLemmas.{carried-nothing}
-use Rattle.strm_channels.proofs.turns.carry.Goals as goal
+use Rattle.strm_channels.proofs.meetings.carry.Goals as goal
 
 pub returns-then-size-eq0-clause-ok : goal.returns-then-size-eq0-clause-ok
 returns-then-size-eq0-clause-ok c =

@@ -1,6 +1,6 @@
 use Rattle.strm_channels.specs.Guests.{seen}
 use Rattle.strm_channels.proofs.CarryingLemmas.{received_ok, received_bad}
-use Rattle.strm_channels.proofs.turns.carry_between.Goals as goal
+use Rattle.strm_channels.proofs.meetings.carry_between.Goals as goal
 
 pub returns-clause-ok : goal.returns-clause-ok
 returns-clause-ok c =
