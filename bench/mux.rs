@@ -1,4 +1,4 @@
-//! The demux of `strm_mux_bench` in plain Rust: it keeps the lanes' bytes and less than a frame more, takes a
+//! The demux of `strm_bench` in plain Rust: it keeps the lanes' bytes and less than a frame more, takes a
 //! piece of any length whole or not at all, and answers a fault from then on.
 //!
 //! `bench/mux` times both.

@@ -1,13 +1,14 @@
-//! What a call answered, held to what was worked out.
+//! What a call answered, held to what was worked out; and what tests begin with.
 //!
 //! A test asserts by these alone: an assertion in its own body is proved there with all its text,
 //! which takes many times as long as the calls.
 
-ghost use Rattle.std.specs.Prelude.{◌≡◌, true};
+ghost use Rattle.std.specs.Prelude.{◌≡◌, true, length};
 
 use std::alloc::Global;
 use std::fmt::{Debug, Display};
 use std::process::Abort;
+use strm_memory::memories::GuestMemory;
 
 /// Later calls of a test may rest on the answer.
 pub fn is<T: Copy + Debug + PartialEq>(rt: &impl Abort, answer: T, wanted: T)
@@ -26,4 +27,18 @@ pub fn display_is<T: Display>(rt: &impl Abort, alloc: Global, value: &T, wanted:
 pub fn debug_is<T: Debug>(rt: &impl Abort, alloc: Global, value: &T, wanted: &str) {
     let text = format!(in alloc; "{value:?}").expect(rt, "memory");
     is(rt, text.as_str(), wanted);
+}
+
+/// These bytes in a vector.
+pub fn vector(rt: &impl Abort, alloc: Global, bytes: &[u8]) -> Vec<u8>
+    ensures { result.items ≡ bytes.now }
+{
+    bytes.to_vec(alloc).expect(rt, "memory")
+}
+
+/// A memory of so many bytes.
+pub fn memory(rt: &impl Abort, alloc: Global, size: u32) -> GuestMemory
+    ensures { length result.bytes ≡ size }
+{
+    GuestMemory::new(alloc, size).expect(rt, "memory")
 }

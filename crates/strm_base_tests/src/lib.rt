@@ -1,5 +1,6 @@
 //! What no clause of the base crates says: worked cases of codes, payloads, ids, memories, reports,
-//! waitable sets, error contexts and both tables, and each of their calls once with ample memory.
+//! waitable sets, error contexts, both tables, buffers and the program's host ends, and each of their calls
+//! once with ample memory; and a small host end that meets its trait: a writer that never has items.
 //!
 //! Public calls alone, so that the crates below are not proved once more for them.
 #![tactic(auto)]
@@ -7,13 +8,19 @@
 #[cfg(test)]
 mod answers;
 #[cfg(test)]
+mod buffers;
+#[cfg(test)]
 mod codes;
 #[cfg(test)]
 mod contexts;
 #[cfg(test)]
+mod ends;
+#[cfg(test)]
 mod errors;
 #[cfg(test)]
 mod handles;
+#[cfg(test)]
+mod host_rules;
 #[cfg(test)]
 mod ids;
 #[cfg(test)]
@@ -23,8 +30,14 @@ mod messages;
 #[cfg(test)]
 mod payloads;
 #[cfg(test)]
+mod queues;
+#[cfg(test)]
 mod reports;
 #[cfg(test)]
 mod resources;
 #[cfg(test)]
 mod sets;
+mod silent;
+mod untyped;
+#[cfg(test)]
+mod windows;

@@ -1,5 +1,6 @@
-//! Times what a list of steps cannot time: the handle table under inserts, removals and look-ups, and
-//! calls of the store.
+//! Times what a list of steps cannot time: the handle table under inserts, removals and look-ups, calls of the
+//! store, a demux that is fed in pieces, and the reading and writing of tapes. `words` has what the program's
+//! words choose of it.
 //!
 //! Sums go to standard output and are the same in every run; times go to standard error.
 #![tactic(auto)]
@@ -9,13 +10,16 @@ mod draws;
 mod filled;
 mod guests;
 mod hosted;
+mod lanes;
 mod piped;
 mod pipes;
 mod rounds;
 mod sums;
 mod tables;
 mod taken;
+mod tapes;
 mod windows;
+mod words;
 
 ghost use Rattle.strm_buffers.specs.AllTells.{tells_of};
 ghost use Rattle.strm_host_machine.specs.Does.{Fits};
@@ -26,8 +30,9 @@ use crate::hosted::{FED, LISTED, Reading};
 use crate::tables::Sums;
 use crate::taken::{BESIDE, DRIVES, Writing};
 use crate::windows::ITEMS;
+use crate::words::Timed;
+use std::io;
 use std::time::Instant;
-use std::{env, io};
 use strm_buffers::hosts::Hosts;
 use strm_buffers::readers::HostReader;
 use strm_buffers::writers::HostWriter;
@@ -43,70 +48,45 @@ use strm_memory::payloaded::Payloaded;
 use strm_program_ends::credit_reader::CreditReader;
 use strm_program_ends::queue_writer::QueueWriter;
 
-/// Turns without an argument: about a million inserts and as many removals.
-const TURNS: u32 = 2_000_000;
-
-/// The payload of every stream in the handle tables, and without a second argument of the rounds'.
+/// The payload of every stream in the handle tables, and without a second word of the rounds'.
 const BYTES: Payload = Payload::One(Scalar::U8);
 
 fn main(rt: HostRuntime) -> io::Result<()> {
-    let turns = asked_turns(&rt)?;
-    time_mixed(&rt, turns)?;
-    time_filled(&rt, turns)?;
-    time_rounds(&rt, asked_items(&rt)?, turns)?;
+    match words::choice(&rt)? {
+        Timed::All => {
+            time_store(&rt)?;
+            lanes::time_all(&rt, words::bytes(&rt)?)?;
+            tapes::time_all(&rt, words::bytes(&rt)?)
+        }
+        Timed::Store => time_store(&rt),
+        Timed::Frames => lanes::time_all(&rt, words::bytes(&rt)?),
+        Timed::Tapes => tapes::time_all(&rt, words::bytes(&rt)?),
+    }
+}
+
+// All but frames and tapes.
+fn time_store(rt: &HostRuntime) -> io::Result<()> {
+    let turns = words::turns(rt)?;
+    time_mixed(rt, turns)?;
+    time_filled(rt, turns)?;
+    time_rounds(rt, words::items(rt)?, turns)?;
     for (name, payload) in copies::layouts() {
         for count in COUNTS {
-            time_copies(&rt, name, payload, count, turns)?;
+            time_copies(rt, name, payload, count, turns)?;
         }
     }
     for room in windows::ROOMS {
-        time_windows(&rt, room)?;
+        time_windows(rt, room)?;
     }
-    time_items(&rt, "u32", 70_000u32)?;
-    time_items(&rt, "(u8,u32)", (7u8, 70_000u32))?;
-    time_feeds(&rt, turns / 8)?;
-    time_list(&rt)?;
-    time_grants(&rt, turns / 8)?;
-    time_consumer(&rt)?;
-    pipes::time_list(&rt)?;
-    pipes::time_rounds(&rt)?;
-    time_drives(&rt)
-}
-
-// The first argument, a number of turns.
-fn asked_turns(rt: &HostRuntime) -> io::Result<u32> {
-    match env::args(rt)?.nth(1) {
-        Some(word) => Ok(word.as_str().parse::<u32>().unwrap_or(TURNS)),
-        None => Ok(TURNS),
-    }
-}
-
-// The second argument, what an item is.
-fn asked_items(rt: &HostRuntime) -> io::Result<Payload> {
-    match env::args(rt)?.nth(2) {
-        Some(word) => Ok(payload(word.as_str())),
-        None => Ok(BYTES),
-    }
-}
-
-// The payload of a word, bytes if it is none: the compiler does not know which.
-fn payload(word: &str) -> Payload {
-    let numbers = [
-        ("char", Scalar::Char),
-        ("u16", Scalar::U16),
-        ("u32", Scalar::U32),
-        ("u64", Scalar::U64),
-    ];
-    for (name, scalar) in numbers {
-        if word == name {
-            return Payload::One(scalar);
-        }
-    }
-    if word == "nothing" {
-        Payload::Nothing
-    } else {
-        BYTES
-    }
+    time_items(rt, "u32", 70_000u32)?;
+    time_items(rt, "(u8,u32)", (7u8, 70_000u32))?;
+    time_feeds(rt, turns / 8)?;
+    time_list(rt)?;
+    time_grants(rt, turns / 8)?;
+    time_consumer(rt)?;
+    pipes::time_list(rt)?;
+    pipes::time_rounds(rt)?;
+    time_drives(rt)
 }
 
 // What something adds up to.

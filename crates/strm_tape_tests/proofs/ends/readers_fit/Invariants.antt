@@ -2,7 +2,7 @@ use Rattle.std.proofs.Common.{◌≡◌, map, take}
 use Rattle.strm_buffers.specs.AllTells.{tells_of}
 use Rattle.strm_tape.specs.Spelling.{ReaderTape}
 use Rattle.strm_tape_runs.specs.Taking.{reader_type}
-use Rattle.strm_tape_runs_tests.proofs.ends.readers_fit.Given as goal
+use Rattle.strm_tape_tests.proofs.ends.readers_fit.Given as goal
 
 -- the readers so far fit
 abbrev pub invariant-loop-r : goal.invariant-loop-r

@@ -1,7 +1,7 @@
 use Rattle.std.proofs.Common.{refl, sym, arith}
 use Rattle.strm_buffers.specs.Windows.{room_of}
 use Rattle.strm_buffers.proofs.EndLemmas.{Fills-same, in_room-nil, past_room-nil}
-use Rattle.strm_buffers_tests.proofs.silent.SilentWriterHostWriter.poll.Goals as goal
+use Rattle.strm_base_tests.proofs.silent.SilentWriterHostWriter.poll.Goals as goal
 
 pub returns-in-Err-clause-fills : goal.returns-in-Err-clause-fills
 returns-in-Err-clause-fills c = Fills-same c.args.window.now

@@ -4,8 +4,8 @@ use Rattle.strm_buffers.specs.AllTells.{tells_of}
 use Rattle.strm_buffers.specs.Tells.{no_tells}
 use Rattle.strm_tape.specs.Spelling.{WriterTape}
 use Rattle.strm_tape_runs.specs.Taking.{writer_type, HoldsNone}
-use Rattle.strm_tape_runs_tests.proofs.FitLemmas.{fits_more}
-use Rattle.strm_tape_runs_tests.proofs.ends.writers_fit.Goals as goal
+use Rattle.strm_tape_tests.proofs.FitLemmas.{fits_more}
+use Rattle.strm_tape_tests.proofs.ends.writers_fit.Goals as goal
 
 pub loop-n-preserved : goal.loop-n-preserved
 loop-n-preserved g c =

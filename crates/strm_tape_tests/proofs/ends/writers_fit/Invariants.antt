@@ -3,7 +3,7 @@ use Rattle.std.specs.Prelude.{All}
 use Rattle.strm_buffers.specs.AllTells.{tells_of}
 use Rattle.strm_tape.specs.Spelling.{WriterTape}
 use Rattle.strm_tape_runs.specs.Taking.{writer_type, HoldsNone}
-use Rattle.strm_tape_runs_tests.proofs.ends.writers_fit.Given as goal
+use Rattle.strm_tape_tests.proofs.ends.writers_fit.Given as goal
 
 -- the writers so far fit
 abbrev pub invariant-loop-n : goal.invariant-loop-n

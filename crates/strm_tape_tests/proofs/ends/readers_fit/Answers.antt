@@ -3,8 +3,8 @@ use Rattle.strm_buffers.specs.AllTells.{tells_of}
 use Rattle.strm_buffers.specs.Tells.{no_reader_tells}
 use Rattle.strm_tape.specs.Spelling.{ReaderTape}
 use Rattle.strm_tape_runs.specs.Taking.{reader_type}
-use Rattle.strm_tape_runs_tests.proofs.FitLemmas.{fits_more}
-use Rattle.strm_tape_runs_tests.proofs.ends.readers_fit.Goals as goal
+use Rattle.strm_tape_tests.proofs.FitLemmas.{fits_more}
+use Rattle.strm_tape_tests.proofs.ends.readers_fit.Goals as goal
 
 pub loop-r-preserved : goal.loop-r-preserved
 loop-r-preserved g c =

@@ -1,0 +1,84 @@
+//! What is timed, by the program's words: `mux` and `tape`, each with a number of bytes, choose these alone, a
+//! number of turns the rest, with what an item of the rounds is; without a word all is timed.
+
+use std::{env, io};
+use strm_codes::payloads::Payload;
+use strm_codes::scalars::Scalar;
+
+/// What is timed.
+#[derive(Clone, Copy)]
+pub enum Timed {
+    All,
+    Store,
+    Frames,
+    Tapes,
+}
+
+/// Turns without a word: about a million inserts and as many removals.
+const TURNS: u32 = 2_000_000;
+
+/// The bytes of a stream of frames, or of a tape, without a word.
+const BYTES: usize = 4_194_304;
+
+/// What the first word chooses.
+pub fn choice(rt: &HostRuntime) -> io::Result<Timed> {
+    match env::args(rt)?.nth(1) {
+        None => Ok(Timed::All),
+        Some(word) => Ok(chosen(word.as_str())),
+    }
+}
+
+// What this first word chooses.
+fn chosen(word: &str) -> Timed {
+    if word == "mux" {
+        Timed::Frames
+    } else if word == "tape" {
+        Timed::Tapes
+    } else {
+        Timed::Store
+    }
+}
+
+/// The first word, a number of turns.
+pub fn turns(rt: &HostRuntime) -> io::Result<u32> {
+    match env::args(rt)?.nth(1) {
+        Some(word) => Ok(word.as_str().parse::<u32>().unwrap_or(TURNS)),
+        None => Ok(TURNS),
+    }
+}
+
+/// The second word, a number of bytes.
+pub fn bytes(rt: &HostRuntime) -> io::Result<usize> {
+    match env::args(rt)?.nth(2) {
+        Some(word) => Ok(word.as_str().parse::<usize>().unwrap_or(BYTES)),
+        None => Ok(BYTES),
+    }
+}
+
+/// The second word, what an item of the rounds is.
+pub fn items(rt: &HostRuntime) -> io::Result<Payload> {
+    match env::args(rt)?.nth(2) {
+        Some(word) => Ok(payload(word.as_str())),
+        None => Ok(crate::BYTES),
+    }
+}
+
+// The payload of a word, bytes if it is none: the compiler does not know which.
+fn payload(word: &str) -> Payload {
+    let numbers = [
+        ("char", Scalar::Char),
+        ("u16", Scalar::U16),
+        ("u32", Scalar::U32),
+        ("u64", Scalar::U64),
+    ];
+    for (name, scalar) in numbers {
+        if word == name {
+            return Payload::One(scalar);
+        }
+    }
+    if word == "nothing" {
+        Payload::Nothing
+    } else {
+        crate::BYTES
+    }
+}
