@@ -1,5 +1,7 @@
 //! What host ends are made of: buffers of typed items, items as their bytes, the window that a poll
 //! fills and the offer that a poll takes from; and what a host writer and a host reader are.
+//!
+//! Of the buffers' calls only `take_all` takes memory, as their types say.
 #![tactic(auto)]
 
 pub mod answers;

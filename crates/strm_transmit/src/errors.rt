@@ -14,7 +14,8 @@ use thiserror::Error;
 /// Why a call did not answer.
 #[derive(Clone, Copy, Debug, PartialEq, Eq, Error)]
 pub enum StoreError {
-    /// What was asked may not be done now. Nothing has changed.
+    /// What was asked may not be done now: the first refusal that holds of those that the call's own line
+    /// names, in their order there. Nothing has changed.
     #[error("refused: {0}")]
     Refused(Refusal),
     /// This host end failed. The store is trapped from now on.

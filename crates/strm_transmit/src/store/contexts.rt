@@ -153,10 +153,10 @@ impl Store {
         Ok(give_context(guests, contexts, counter, guest as usize, address, len)?)
     }
 
-    /// An error context of a guest, whose message is so many bytes of its memory from `address` on:
-    /// the answer is its handle. Refused, in this order, are an unknown guest, a message of more than
-    /// 4,096 bytes, one past the end of memory, bytes that are no UTF-8, a table without a number
-    /// left, handles past their limit, and an error context past the limit on places.
+    /// An error context of a guest, whose message is so many bytes of its memory from `address` on: the
+    /// answer is its handle. `canon error-context.new`. Refused: UnknownGuest, MessageTooLong (more
+    /// than 4,096 bytes), OutOfBounds, BadText (no UTF-8), IndexOverflow, HandleLimit, Full.
+    /// OutOfMemory.
     pub fn error_context_new(
         &mut self,
         guest: u32,
@@ -208,8 +208,8 @@ impl Store {
     }
 
     /// Puts the message of the error context that a handle names into the guest's memory, from
-    /// `address` on: the answer is how many bytes it has. Refused are an unknown guest, what is wrong
-    /// with the handle, and a message past the end of memory.
+    /// `address` on: the answer is how many bytes it has. `canon error-context.debug-message`. Refused:
+    /// UnknownGuest, UnknownHandle, WrongKind, OutOfBounds.
     pub fn error_context_message(
         &mut self,
         guest: u32,
@@ -261,8 +261,8 @@ impl Store {
     }
 
     /// Gives another guest, or the same, a handle to the error context that a handle names, which
-    /// stays: the answer is the new one. Refused, in this order, are an unknown guest, what is wrong
-    /// with the handle, a table without a number left, and handles past their limit.
+    /// stays: the answer is the new one. Refused: UnknownGuest (either), UnknownHandle, WrongKind,
+    /// IndexOverflow, HandleLimit. OutOfMemory.
     pub fn error_context_transfer(
         &mut self,
         guest: u32,
@@ -297,8 +297,8 @@ impl Store {
         remove_context(guests, contexts, counter, guest as usize, handle, context);
     }
 
-    /// Drops a handle to an error context, and the error context with its last one. Refused are an
-    /// unknown guest, and what is wrong with the handle.
+    /// Drops a handle to an error context, and the error context with its last one.
+    /// `canon error-context.drop`. Refused: UnknownGuest, UnknownHandle, WrongKind.
     pub fn error_context_drop(&mut self, guest: u32, handle: u32) -> Result<(), StoreError>
         ensures meets { Meets self.old self.new (replied (λ _. replies.Done) result)
             (react self.old (steps.ErrDrop guest handle)) }
@@ -310,8 +310,8 @@ impl Store {
         Ok(())
     }
 
-    /// The number of the error context that a handle names. Refused are an unknown guest, and what is
-    /// wrong with the handle.
+    /// The number of the error context that a handle names. Refused: UnknownGuest, UnknownHandle,
+    /// WrongKind.
     pub fn error_context_rep(&self, guest: u32, handle: u32) -> Result<u32, StoreError>
         ensures exact { result ≡ admitted self.now
             (or_found (first_of (context_reasons self.now guest handle))
@@ -338,8 +338,8 @@ impl Store {
     }
 
     /// Gives a guest a handle to the error context of a number, as `error_context_rep` tells it: the
-    /// answer is the handle. Refused, in this order, are an unknown guest, a number that no error
-    /// context has (UnknownHandle), a table without a number left, and handles past their limit.
+    /// answer is the handle. Refused: UnknownGuest, UnknownHandle (no error context has the number),
+    /// IndexOverflow, HandleLimit. OutOfMemory.
     pub fn error_context_lower(&mut self, rep: u32, guest: u32) -> Result<u32, StoreError>
         ensures meets { Meets self.old self.new (replied replies.Number result)
             (lowers_context self.old rep guest) }

@@ -178,7 +178,8 @@ impl Store {
     }
 
     /// Gives each host end that has an open read or write to serve its turn, and each pipe from a host
-    /// writer to a host reader its round, by the streams' numbers. It costs nothing by all streams ever made. Want of memory traps the store.
+    /// writer to a host reader its round, by the streams' numbers. It costs nothing by all streams ever
+    /// made, and is never refused. HostFailed, HostBroke, BadItem, OutOfMemory: each traps the store.
     pub fn drive_once(&mut self, hosts: &mut Hosts) -> Result<(), StoreError>
         requires fits { Fits self.old (tells_of writer_tells reader_tells hosts.old) }
         ensures meets { MeetsHosted self.old self.new (tells_of writer_tells reader_tells hosts.old)

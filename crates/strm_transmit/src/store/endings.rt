@@ -119,8 +119,9 @@ impl Store {
         told
     }
 
-    /// What the end that a handle names is to be told, if anything: the report of its read or
-    /// write, which ends with it, or once that the other end is gone.
+    /// What the end that a handle names is to be told, if anything: the report of its read or write,
+    /// which ends with it, or once that the other end is gone. Refused: UnknownGuest, UnknownHandle,
+    /// WrongKind.
     #[inline(always)]
     pub fn take_event(&mut self, guest: u32, handle: u32) -> Result<Option<ReturnCode>, StoreError>
         ensures meets { Meets self.old self.new (replied replies.Event result)
@@ -169,7 +170,8 @@ impl Store {
         Ok(())
     }
 
-    /// Drops the read end of a stream.
+    /// Drops the read end of a stream. `canon stream.drop-readable`. Refused: UnknownGuest,
+    /// UnknownHandle, WrongKind, WrongType, WrongEnd, Busy.
     pub fn stream_drop_readable(
         &mut self,
         hosts: &mut Hosts,
@@ -188,7 +190,8 @@ impl Store {
         self.drop_side(hosts, Side::Reading, &end)
     }
 
-    /// Drops the write end of a stream.
+    /// Drops the write end of a stream. `canon stream.drop-writable`. Refused: UnknownGuest,
+    /// UnknownHandle, WrongKind, WrongType, WrongEnd, Busy.
     pub fn stream_drop_writable(
         &mut self,
         hosts: &mut Hosts,
@@ -207,7 +210,8 @@ impl Store {
         self.drop_side(hosts, Side::Writing, &end)
     }
 
-    /// Drops the read end of a future.
+    /// Drops the read end of a future. `canon future.drop-readable`. Refused: UnknownGuest,
+    /// UnknownHandle, WrongKind, WrongType, WrongEnd, Busy.
     pub fn future_drop_readable(
         &mut self,
         hosts: &mut Hosts,
@@ -226,8 +230,9 @@ impl Store {
         self.drop_side(hosts, Side::Reading, &end)
     }
 
-    /// Drops the write end of a future, which is refused before its value passed or it was told
-    /// that nobody reads it.
+    /// Drops the write end of a future. `canon future.drop-writable`. Refused: UnknownGuest,
+    /// UnknownHandle, WrongKind, WrongType, WrongEnd, Busy, FutureWithoutValue (its value has not
+    /// passed, and it was not told that nobody reads it).
     pub fn future_drop_writable(
         &mut self,
         hosts: &mut Hosts,
@@ -292,7 +297,8 @@ impl Store {
         Ok(self.cancel_on(stream, side))
     }
 
-    /// Cancels the read of a stream.
+    /// Cancels the read of a stream. `canon stream.cancel-read`. Refused: UnknownGuest, UnknownHandle,
+    /// WrongKind, WrongType, WrongEnd, NoPending, CancelUnderWay (of a host writer's stream).
     pub fn stream_cancel_read(
         &mut self,
         guest: u32,
@@ -309,7 +315,9 @@ impl Store {
         self.cancel_side(Side::Reading, &end)
     }
 
-    /// Cancels the write of a stream.
+    /// Cancels the write of a stream. `canon stream.cancel-write`. Refused: UnknownGuest,
+    /// UnknownHandle, WrongKind, WrongType, WrongEnd, NoPending, CancelUnderWay (of a host reader's
+    /// stream).
     pub fn stream_cancel_write(
         &mut self,
         guest: u32,
@@ -327,6 +335,8 @@ impl Store {
     }
 
     /// Cancels the read of a future; once its value has passed, the answer is Completed.
+    /// `canon future.cancel-read`. Refused: UnknownGuest, UnknownHandle, WrongKind, WrongType,
+    /// WrongEnd, NoPending, CancelUnderWay (of a host writer's future).
     pub fn future_cancel_read(
         &mut self,
         guest: u32,
@@ -344,6 +354,8 @@ impl Store {
     }
 
     /// Cancels the write of a future; once its value has passed, the answer is Completed.
+    /// `canon future.cancel-write`. Refused: UnknownGuest, UnknownHandle, WrongKind, WrongType,
+    /// WrongEnd, NoPending, CancelUnderWay (of a host reader's future).
     pub fn future_cancel_write(
         &mut self,
         guest: u32,

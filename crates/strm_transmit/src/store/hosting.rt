@@ -210,8 +210,7 @@ impl Store {
     }
 
     /// A stream or future that a host writer writes, of its kind and payload: the read end is loose,
-    /// and the answer is the stream's number. Refused, in this order, are a number of no host writer,
-    /// one that was used, and a stream past the limit on places.
+    /// and the answer is the stream's number. Refused: UnknownHost, HostUsed, Full. OutOfMemory.
     pub fn host_new(&mut self, hosts: &Hosts, writer: u32) -> Result<u32, StoreError>
         requires fits { Fits self.old (tells_of writer_tells reader_tells hosts.now) }
         ensures meets { MeetsHosted self.old self.new (tells_of writer_tells reader_tells hosts.now)
@@ -242,7 +241,7 @@ impl Store {
         Ok(())
     }
 
-    /// Passes on bytes from outside to a host writer.
+    /// Passes on bytes from outside to a host writer. Refused: UnknownHost. OutOfMemory.
     pub fn feed(&self, hosts: &mut Hosts, host: u32, bytes: &Chunk) -> Result<(), StoreError>
         requires fits { Fits self.now (tells_of writer_tells reader_tells hosts.old) }
         ensures meets { MeetsHosted self.now self.now (tells_of writer_tells reader_tells hosts.old)
@@ -268,7 +267,8 @@ impl Store {
         Ok(())
     }
 
-    /// Passes on to a host reader that it may take so many items more.
+    /// Passes on to a host reader that it may take `count` items more. Refused: UnknownHost.
+    /// OutOfMemory.
     pub fn grant(&self, hosts: &mut Hosts, host: u32, count: u32) -> Result<(), StoreError>
         requires fits { Fits self.now (tells_of writer_tells reader_tells hosts.old) }
         ensures meets { MeetsHosted self.now self.now (tells_of writer_tells reader_tells hosts.old)

@@ -162,9 +162,8 @@ impl Store {
     }
 
     /// A stream or future between two guests, which may be one: the read end's handle goes into the
-    /// reader's table first, and then the write end's into the writer's. Refused, in this order, are
-    /// an unknown guest, a table without a number left, handles past their limit, and a stream past
-    /// the limit on places.
+    /// reader's table first, and then the write end's into the writer's. Refused: UnknownGuest
+    /// (either), IndexOverflow, HandleLimit, Full. OutOfMemory.
     pub fn new_between(
         &mut self,
         writer: u32,
@@ -180,7 +179,7 @@ impl Store {
     }
 
     /// A stream whose ends one guest gets: their handles go into its table, the read end's first.
-    /// Refused as `new_between` is.
+    /// `canon stream.new`. Refused: UnknownGuest, IndexOverflow, HandleLimit, Full. OutOfMemory.
     pub fn stream_new(&mut self, guest: u32, payload: Payload) -> Result<Pair, StoreError>
         ensures meets { Meets self.old self.new (replied replies.Pair result)
             (react self.old (steps.New guest (index.Stream payload))) }
@@ -190,7 +189,7 @@ impl Store {
     }
 
     /// A future whose ends one guest gets: their handles go into its table, the read end's first.
-    /// Refused as `new_between` is.
+    /// `canon future.new`. Refused: UnknownGuest, IndexOverflow, HandleLimit, Full. OutOfMemory.
     pub fn future_new(&mut self, guest: u32, payload: Payload) -> Result<Pair, StoreError>
         ensures meets { Meets self.old self.new (replied replies.Pair result)
             (react self.old (steps.New guest (index.Future payload))) }

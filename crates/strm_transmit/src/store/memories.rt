@@ -67,7 +67,8 @@ impl Store {
         Ok(number)
     }
 
-    /// A guest with a memory of so many zero bytes. Answers its number; the first is 0.
+    /// A guest with a memory of `size` zero bytes. Answers its number; the first is 0. Refused:
+    /// MemoryTooBig (268,435,456 bytes of all guests together), Full (1,048,576 guests). OutOfMemory.
     pub fn add_guest(&mut self, size: u32) -> Result<u32, StoreError>
         ensures meets { Meets self.old self.new (replied replies.Number result)
             (react self.old (steps.Guest size)) }
@@ -137,7 +138,8 @@ impl Store {
         write_bytes(&mut self.guests, guest as usize, address, bytes);
     }
 
-    /// Bytes put into a guest's memory, from an address on, as many as they are.
+    /// Bytes put into a guest's memory, from an address on, as many as they are. Refused: UnknownGuest,
+    /// OutOfBounds.
     pub fn write_memory(&mut self, guest: u32, address: u32, bytes: &[u8]) -> Result<(), StoreError>
         ensures meets { Meets self.old self.new (replied (λ _. replies.Done) result)
             (react self.old (steps.Poke guest address bytes.now)) }
@@ -149,7 +151,7 @@ impl Store {
         Ok(())
     }
 
-    /// Bytes put into a guest's memory, from an address on.
+    /// Bytes put into a guest's memory, from an address on. Refused: UnknownGuest, OutOfBounds.
     pub fn poke(&mut self, guest: u32, address: u32, bytes: &Chunk) -> Result<(), StoreError>
         ensures meets { Meets self.old self.new (replied (λ _. replies.Done) result)
             (react self.old (steps.Poke guest address bytes.now)) }
@@ -177,7 +179,8 @@ impl Store {
         Chunk::new(read_bytes(&self.guests, guest as usize, address, len)).unwrap()
     }
 
-    /// So many bytes of a guest's memory, from an address on.
+    /// So many bytes of a guest's memory, 64 at most, from an address on. Refused: UnknownGuest,
+    /// OutOfBounds.
     pub fn dump(&self, guest: u32, address: u32, len: u32) -> Result<Chunk, StoreError>
         requires { len ≤ 64 }
         ensures meets { Meets self.now self.now (replied replies.Bytes result)

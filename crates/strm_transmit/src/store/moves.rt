@@ -181,9 +181,9 @@ impl Store {
     }
 
     /// Moves an end of a stream, the reading or the writing one, to another guest, or to the same: its
-    /// handle is freed, and the answer is the one that it gets there. Refused, after what is wrong with
-    /// the guests and the handle, are a busy end, one that was told that the other end is gone, one that
-    /// is in a waitable set, and a table without a number left.
+    /// handle is freed, and the answer is the one that it gets there. Refused: UnknownGuest (either),
+    /// UnknownHandle, WrongKind, WrongType, Busy, LiftDropped, LiftInSet, IndexOverflow. OutOfMemory,
+    /// where the two guests differ.
     pub fn stream_transfer(
         &mut self,
         guest: u32,
@@ -201,8 +201,9 @@ impl Store {
         self.transfer(&end, to)
     }
 
-    /// Moves an end of a future to another guest, or to the same. Refused as `stream_transfer` is, and
-    /// once its value has passed.
+    /// Moves an end of a future to another guest, or to the same. Refused: UnknownGuest (either),
+    /// UnknownHandle, WrongKind, WrongType, Busy, LiftDropped (also once its value has passed),
+    /// LiftInSet, IndexOverflow. OutOfMemory, where the two guests differ.
     pub fn future_transfer(
         &mut self,
         guest: u32,
@@ -249,8 +250,9 @@ impl Store {
         Ok(stream)
     }
 
-    /// Takes the read end of a stream or future out of a guest: its handle is freed, the end is
-    /// loose, and the answer is the stream's number. Refused as a transfer is, but for the number.
+    /// Takes the read end of a stream or future out of a guest: its handle is freed, the end is loose,
+    /// and the answer is the stream's number. Refused: UnknownGuest, UnknownHandle, WrongKind,
+    /// WrongType, WrongEnd, Busy, LiftDropped, LiftInSet.
     pub fn lift(&mut self, guest: u32, ty: TransmitIndex, handle: u32) -> Result<u32, StoreError>
         ensures meets { Meets self.old self.new (replied replies.Number result)
             (react self.old (steps.Lift guest ty handle)) }
@@ -313,8 +315,8 @@ impl Store {
     }
 
     /// Gives a guest the loose read end of a stream or future, by the stream's number: the answer is
-    /// its handle. Refused, in this order, are an unknown guest, a stream without a loose read end or
-    /// of another type, a table without a number left, and handles past their limit.
+    /// its handle. Refused: UnknownGuest, UnknownReader, WrongKind, WrongType, IndexOverflow,
+    /// HandleLimit. OutOfMemory.
     pub fn lower(&mut self, reader: u32, guest: u32, ty: TransmitIndex) -> Result<u32, StoreError>
         ensures meets { Meets self.old self.new (replied replies.Number result)
             (react self.old (steps.Lower reader guest ty)) }
@@ -335,8 +337,8 @@ impl Store {
         Ok(())
     }
 
-    /// Drops the loose read end of a stream or future, by the stream's number; a stream whose both
-    /// ends are gone is removed at once. Refused is a stream without a loose read end.
+    /// Drops the loose read end of a stream or future, by the stream's number; a stream whose both ends
+    /// are gone is removed at once. Refused: UnknownReader.
     pub fn close(&mut self, hosts: &mut Hosts, reader: u32) -> Result<(), StoreError>
         requires fits { Fits self.old (tells_of writer_tells reader_tells hosts.old) }
         ensures meets { MeetsHosted self.old self.new (tells_of writer_tells reader_tells hosts.old)

@@ -314,8 +314,8 @@ impl Store {
         }
     }
 
-    /// A read or write of the end that is named, as the machine without host ends does it: a host end on
-    /// the other side is not polled. A store among guests alone needs no other.
+    /// A read or write of the end that is named, as the machine without host ends does it: a host end
+    /// on the other side is not polled. Refused as the call of that side and type. BadItem.
     #[inline(always)]
     pub fn operate_alone(
         &mut self,
@@ -395,7 +395,10 @@ impl Store {
         }
     }
 
-    /// Reads items from a stream: `count` items go to `address` on in the guest's memory.
+    /// Reads `count` items from a stream, to `address` on in the guest's memory. `canon stream.read`.
+    /// Refused: UnknownGuest, StreamOpTooBig, OutOfBounds, NotAligned, UnknownHandle, WrongKind,
+    /// WrongType, ConcurrentFutureStreamOp, ReadFromDroppedStream, IntraComponent. BadItem; of a host
+    /// writer that is polled HostFailed, HostBroke and OutOfMemory.
     pub fn stream_read(
         &mut self,
         hosts: &mut Hosts,
@@ -420,7 +423,11 @@ impl Store {
         self.operate(hosts, Side::Reading, &end, address, count)
     }
 
-    /// Writes items to a stream: `count` items from `address` on in the guest's memory.
+    /// Writes `count` items to a stream, from `address` on in the guest's memory. A write that waits
+    /// leaves its items there until they move. `canon stream.write`. Refused: UnknownGuest,
+    /// StreamOpTooBig, OutOfBounds, NotAligned, UnknownHandle, WrongKind, WrongType,
+    /// ConcurrentFutureStreamOp, WriteToDroppedStream, IntraComponent. Errors as of `stream_read`, of a
+    /// host reader.
     pub fn stream_write(
         &mut self,
         hosts: &mut Hosts,
@@ -442,7 +449,9 @@ impl Store {
         self.operate(hosts, Side::Writing, &end, address, count)
     }
 
-    /// Reads a future's value, to `address` in the guest's memory.
+    /// Reads a future's value, to `address` in the guest's memory. `canon future.read`. Refused:
+    /// UnknownGuest, OutOfBounds, NotAligned, UnknownHandle, WrongKind, WrongType,
+    /// ConcurrentFutureStreamOp, FutureAlreadyRead, IntraComponent. Errors as of `stream_read`.
     pub fn future_read(
         &mut self,
         hosts: &mut Hosts,
@@ -466,7 +475,9 @@ impl Store {
         self.operate(hosts, Side::Reading, &end, address, 1)
     }
 
-    /// Writes a future's value, from `address` in the guest's memory.
+    /// Writes a future's value, from `address` in the guest's memory. `canon future.write`. Refused:
+    /// UnknownGuest, OutOfBounds, NotAligned, UnknownHandle, WrongKind, WrongType,
+    /// ConcurrentFutureStreamOp, WriteToDroppedFuture, IntraComponent. Errors as of `stream_write`.
     pub fn future_write(
         &mut self,
         hosts: &mut Hosts,

@@ -186,9 +186,8 @@ impl Store {
 
     /// Gives the loose read end of a stream or future to a host reader, by their numbers, and polls
     /// nothing. The report of a write that waits with items left is withdrawn; what it has moved counts
-    /// on. Where nothing comes any more, both ends are gone at once. Refused, in this order, are a
-    /// number of no host reader, one that was used, and a stream without a loose read end or of another
-    /// type. It takes no memory.
+    /// on. Where nothing comes any more, both ends are gone at once. It takes no memory. Refused:
+    /// UnknownHost, HostUsed, UnknownReader, WrongKind, WrongType.
     pub fn pipe(&mut self, hosts: &mut Hosts, reader: u32, host: u32) -> Result<(), StoreError>
         requires fits { Fits self.old (tells_of writer_tells reader_tells hosts.old) }
         ensures meets { MeetsHosted self.old self.new (tells_of writer_tells reader_tells hosts.old)

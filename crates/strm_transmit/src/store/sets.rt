@@ -95,9 +95,8 @@ impl Store {
         Ok(handle)
     }
 
-    /// A waitable set of a guest, without members: the answer is its handle. Refused, in this order,
-    /// are an unknown guest, a table without a number left, handles past their limit, and a set past
-    /// the limit on places.
+    /// A waitable set of a guest, without members: the answer is its handle. `canon waitable-set.new`.
+    /// Refused: UnknownGuest, IndexOverflow, HandleLimit, Full. OutOfMemory.
     pub fn set_new(&mut self, guest: u32) -> Result<u32, StoreError>
         ensures meets { Meets self.old self.new (replied replies.Number result)
             (react self.old (steps.SetNew guest)) }
@@ -163,8 +162,8 @@ impl Store {
     }
 
     /// The end that a handle names joins a waitable set of its guest, and leaves the one that it was
-    /// in; with `set` 0 it leaves that alone. Refused are an unknown guest, what is wrong with the set's
-    /// handle, and then with the end's.
+    /// in; with `set` 0 it leaves that alone. `canon waitable.join`. Refused: UnknownGuest, and
+    /// UnknownHandle, WrongKind of the set's handle, and then of the end's. OutOfMemory.
     pub fn set_join(&mut self, guest: u32, set: u32, handle: u32) -> Result<(), StoreError>
         ensures meets { Meets self.old self.new (replied (λ _. replies.Done) result)
             (react self.old (steps.SetJoin guest set handle)) }
@@ -275,8 +274,8 @@ impl Store {
     }
 
     /// The least member of a waitable set that has a report is told it, as by `take_event`: the answer
-    /// is its handle and the code, or none. Refused are an unknown guest, and what is wrong with the
-    /// set's handle.
+    /// is its handle and the code, or none. `canon waitable-set.poll`. Refused: UnknownGuest,
+    /// UnknownHandle, WrongKind.
     pub fn set_poll(&mut self, guest: u32, set: u32) -> Result<Option<Member>, StoreError>
         ensures meets { Meets self.old self.new (replied replies.Member result)
             (react self.old (steps.SetPoll guest set)) }
@@ -326,8 +325,8 @@ impl Store {
         self.live_sets -= 1;
     }
 
-    /// Drops a waitable set, whose handle is freed. Refused are an unknown guest, what is wrong with
-    /// the handle, and a set that has a member.
+    /// Drops a waitable set, whose handle is freed. `canon waitable-set.drop`. Refused: UnknownGuest,
+    /// UnknownHandle, WrongKind, SetNotEmpty.
     pub fn set_drop(&mut self, guest: u32, set: u32) -> Result<(), StoreError>
         ensures meets { Meets self.old self.new (replied (λ _. replies.Done) result)
             (react self.old (steps.SetDrop guest set)) }
