@@ -1,13 +1,11 @@
 //! Host writers on a store: feeds that a guest reads at once, and a long list that it reads in pieces.
 
 ghost use Rattle.std.specs.Prelude.{IfOk, OnOk};
-ghost use Rattle.strm_buffers.specs.AllTells.{tells_of};
 ghost use Rattle.strm_transmit.specs.Hosted.{StillFits};
 ghost use Rattle.strm_host_machine.specs.Does.{Fits};
 
 use crate::sums::sum_of;
 use std::alloc::{AllocError, Global};
-use strm_buffers::hosts::Hosts;
 use strm_codes::codes::TransmitIndex;
 use strm_codes::payloads::Payload;
 use strm_codes::scalars::Scalar;
@@ -15,6 +13,7 @@ use strm_machine::chunks::Chunk;
 use strm_machine::limits::Limits;
 use strm_machine::steps::Step;
 use strm_transmit::errors::StoreError;
+use strm_transmit::host_ends::HostEnds;
 use strm_transmit::steps::apply;
 use strm_transmit::store::Store;
 
@@ -66,9 +65,9 @@ pub fn touch(store: &mut Store, size: u32) -> Result<(), StoreError>
 
 // A new guest of so many bytes gets the stream of the first host writer: the stream's number, and
 // the guest's handle.
-fn prepare(store: &mut Store, hosts: &Hosts, size: u32) -> Result<(u32, u32), StoreError>
-    requires { Fits store.old (tells_of writer_tells reader_tells hosts.now) }
-    ensures { OnOk result (Fits store.new (tells_of writer_tells reader_tells hosts.now)) }
+fn prepare<H: HostEnds>(store: &mut Store, hosts: &H, size: u32) -> Result<(u32, u32), StoreError>
+    requires { Fits store.old (H.tells hosts.now) }
+    ensures { OnOk result (Fits store.new (H.tells hosts.now)) }
 {
     store.add_guest(size)?;
     touch(store, size)?;
@@ -78,9 +77,9 @@ fn prepare(store: &mut Store, hosts: &Hosts, size: u32) -> Result<(u32, u32), St
 }
 
 /// A step that is no read and no write; its reply is not looked at.
-pub fn done(store: &mut Store, hosts: &mut Hosts, step: &Step) -> Result<(), StoreError>
-    requires { Fits store.old (tells_of writer_tells reader_tells hosts.old) }
-    ensures { Fits store.new (tells_of writer_tells reader_tells hosts.new) }
+pub fn done<H: HostEnds>(store: &mut Store, hosts: &mut H, step: &Step) -> Result<(), StoreError>
+    requires { Fits store.old (H.tells hosts.old) }
+    ensures { Fits store.new (H.tells hosts.new) }
 {
     match apply(store, hosts, step) {
         Ok(_) => Ok(()),
@@ -98,8 +97,8 @@ pub struct Reading {
 
 impl Reading {
     /// The guest has so many bytes.
-    pub fn new(alloc: Global, hosts: &Hosts, size: u32) -> Result<Reading, StoreError>
-        ensures { IfOk result (λ reading. Fits reading.store (tells_of writer_tells reader_tells hosts.now)) }
+    pub fn new<H: HostEnds>(alloc: Global, hosts: &H, size: u32) -> Result<Reading, StoreError>
+        ensures { IfOk result (λ reading. Fits reading.store (H.tells hosts.now)) }
     {
         let mut store = Store::new(alloc, 0, LIMITS);
         match prepare(&mut store, hosts, size) {
@@ -114,9 +113,13 @@ impl Reading {
 
     /// Feeds the writer, and reads what it was fed, so many times.
     #[inline(never)]
-    pub fn feed_and_read(&mut self, hosts: &mut Hosts, rounds: u32) -> Result<(), StoreError>
-        requires { Fits self.old.store (tells_of writer_tells reader_tells hosts.old) }
-        ensures fits { Fits self.new.store (tells_of writer_tells reader_tells hosts.new) }
+    pub fn feed_and_read<H: HostEnds>(
+        &mut self,
+        hosts: &mut H,
+        rounds: u32,
+    ) -> Result<(), StoreError>
+        requires { Fits self.old.store (H.tells hosts.old) }
+        ensures fits { Fits self.new.store (H.tells hosts.new) }
     {
         let step = Step::Feed {
             host: 0,
@@ -133,9 +136,9 @@ impl Reading {
 
     /// Reads a list, piece behind piece.
     #[inline(never)]
-    pub fn read_list(&mut self, hosts: &mut Hosts) -> Result<(), StoreError>
-        requires { Fits self.old.store (tells_of writer_tells reader_tells hosts.old) }
-        ensures fits { Fits self.new.store (tells_of writer_tells reader_tells hosts.new) }
+    pub fn read_list<H: HostEnds>(&mut self, hosts: &mut H) -> Result<(), StoreError>
+        requires { Fits self.old.store (H.tells hosts.old) }
+        ensures fits { Fits self.new.store (H.tells hosts.new) }
     {
         for piece in 0..LISTED / PIECE {
             self.store

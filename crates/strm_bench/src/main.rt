@@ -21,7 +21,6 @@ mod tapes;
 mod windows;
 mod words;
 
-ghost use Rattle.strm_buffers.specs.AllTells.{tells_of};
 ghost use Rattle.strm_host_machine.specs.Does.{Fits};
 
 use crate::copies::{COUNTS, Copies};
@@ -47,6 +46,7 @@ use strm_memory::memories::GuestMemory;
 use strm_memory::payloaded::Payloaded;
 use strm_program_ends::credit_reader::CreditReader;
 use strm_program_ends::queue_writer::QueueWriter;
+use strm_transmit::host_ends::HostEnds;
 
 /// The payload of every stream in the handle tables, and without a second word of the rounds'.
 const BYTES: Payload = Payload::One(Scalar::U8);
@@ -287,13 +287,13 @@ fn time_feeds(rt: &HostRuntime, rounds: u32) -> io::Result<()> {
     }
 }
 
-fn time_fed(
+fn time_fed<H: HostEnds>(
     rt: &HostRuntime,
     reading: &mut Reading,
-    hosts: &mut Hosts,
+    hosts: &mut H,
     rounds: u32,
 ) -> io::Result<()>
-    requires { Fits reading.old.store (tells_of writer_tells reader_tells hosts.old) }
+    requires { Fits reading.old.store (H.tells hosts.old) }
 {
     let start = Instant::now(rt)?;
     match reading.feed_and_read(hosts, rounds) {
@@ -330,8 +330,12 @@ fn time_list(rt: &HostRuntime) -> io::Result<()> {
     }
 }
 
-fn time_listed(rt: &HostRuntime, reading: &mut Reading, hosts: &mut Hosts) -> io::Result<()>
-    requires { Fits reading.old.store (tells_of writer_tells reader_tells hosts.old) }
+fn time_listed<H: HostEnds>(
+    rt: &HostRuntime,
+    reading: &mut Reading,
+    hosts: &mut H,
+) -> io::Result<()>
+    requires { Fits reading.old.store (H.tells hosts.old) }
 {
     let start = Instant::now(rt)?;
     match reading.read_list(hosts) {
@@ -365,13 +369,13 @@ fn time_grants(rt: &HostRuntime, rounds: u32) -> io::Result<()> {
     }
 }
 
-fn time_granted(
+fn time_granted<H: HostEnds>(
     rt: &HostRuntime,
     writing: &mut Writing,
-    hosts: &mut Hosts,
+    hosts: &mut H,
     rounds: u32,
 ) -> io::Result<()>
-    requires { Fits writing.old.store (tells_of writer_tells reader_tells hosts.old) }
+    requires { Fits writing.old.store (H.tells hosts.old) }
 {
     let start = Instant::now(rt)?;
     match writing.grant_and_write(hosts, rounds) {
@@ -408,8 +412,8 @@ fn time_consumer(rt: &HostRuntime) -> io::Result<()> {
     }
 }
 
-fn time_taken(rt: &HostRuntime, writing: &mut Writing, hosts: &mut Hosts) -> io::Result<()>
-    requires { Fits writing.old.store (tells_of writer_tells reader_tells hosts.old) }
+fn time_taken<H: HostEnds>(rt: &HostRuntime, writing: &mut Writing, hosts: &mut H) -> io::Result<()>
+    requires { Fits writing.old.store (H.tells hosts.old) }
 {
     let start = Instant::now(rt)?;
     match writing.write_list(hosts) {
@@ -443,8 +447,12 @@ fn time_drives(rt: &HostRuntime) -> io::Result<()> {
     }
 }
 
-fn time_driven(rt: &HostRuntime, writing: &mut Writing, hosts: &mut Hosts) -> io::Result<()>
-    requires { Fits writing.old.store (tells_of writer_tells reader_tells hosts.old) }
+fn time_driven<H: HostEnds>(
+    rt: &HostRuntime,
+    writing: &mut Writing,
+    hosts: &mut H,
+) -> io::Result<()>
+    requires { Fits writing.old.store (H.tells hosts.old) }
 {
     let start = Instant::now(rt)?;
     match writing.drive(hosts, DRIVES) {

@@ -1,15 +1,14 @@
 //! Pipes from a host writer to a host reader, in drive rounds.
 
 ghost use Rattle.std.specs.Prelude.{IfOk, OnOk};
-ghost use Rattle.strm_buffers.specs.AllTells.{tells_of};
 ghost use Rattle.strm_host_machine.specs.Does.{Fits};
 
 use crate::hosted::{FEED, done, fed};
 use std::alloc::Global;
-use strm_buffers::hosts::Hosts;
 use strm_machine::limits::Limits;
 use strm_machine::steps::Step;
 use strm_transmit::errors::StoreError;
+use strm_transmit::host_ends::HostEnds;
 use strm_transmit::store::Store;
 
 /// Rounds in which 64 bytes pass.
@@ -21,9 +20,9 @@ const LIMITS: Limits = Limits {
 };
 
 // The first host writer is piped to the first host reader: the stream's number.
-fn attach(store: &mut Store, hosts: &mut Hosts) -> Result<u32, StoreError>
-    requires { Fits store.old (tells_of writer_tells reader_tells hosts.old) }
-    ensures { OnOk result (Fits store.new (tells_of writer_tells reader_tells hosts.new)) }
+fn attach<H: HostEnds>(store: &mut Store, hosts: &mut H) -> Result<u32, StoreError>
+    requires { Fits store.old (H.tells hosts.old) }
+    ensures { OnOk result (Fits store.new (H.tells hosts.new)) }
 {
     let stream = store.host_new(hosts, 0)?;
     store.pipe(hosts, stream, 0)?;
@@ -39,8 +38,8 @@ pub struct Piping {
 
 impl Piping {
     /// From the first host writer to the first host reader.
-    pub fn new(alloc: Global, hosts: &mut Hosts) -> Result<Piping, StoreError>
-        ensures { IfOk result (λ piping. Fits piping.store (tells_of writer_tells reader_tells hosts.new)) }
+    pub fn new<H: HostEnds>(alloc: Global, hosts: &mut H) -> Result<Piping, StoreError>
+        ensures { IfOk result (λ piping. Fits piping.store (H.tells hosts.new)) }
     {
         let mut store = Store::new(alloc, 0, LIMITS);
         match attach(&mut store, hosts) {
@@ -51,18 +50,22 @@ impl Piping {
 
     /// One round.
     #[inline(never)]
-    pub fn drive(&mut self, hosts: &mut Hosts) -> Result<(), StoreError>
-        requires { Fits self.old.store (tells_of writer_tells reader_tells hosts.old) }
-        ensures fits { Fits self.new.store (tells_of writer_tells reader_tells hosts.new) }
+    pub fn drive<H: HostEnds>(&mut self, hosts: &mut H) -> Result<(), StoreError>
+        requires { Fits self.old.store (H.tells hosts.old) }
+        ensures fits { Fits self.new.store (H.tells hosts.new) }
     {
         self.store.drive_once(hosts)
     }
 
     /// Feeds the writer, grants the reader as many bytes, and drives, so many times.
     #[inline(never)]
-    pub fn feed_and_drive(&mut self, hosts: &mut Hosts, rounds: u32) -> Result<(), StoreError>
-        requires { Fits self.old.store (tells_of writer_tells reader_tells hosts.old) }
-        ensures fits { Fits self.new.store (tells_of writer_tells reader_tells hosts.new) }
+    pub fn feed_and_drive<H: HostEnds>(
+        &mut self,
+        hosts: &mut H,
+        rounds: u32,
+    ) -> Result<(), StoreError>
+        requires { Fits self.old.store (H.tells hosts.old) }
+        ensures fits { Fits self.new.store (H.tells hosts.new) }
     {
         let step = Step::Feed {
             host: 0,

@@ -1,6 +1,5 @@
 //! Times of pipes from a host writer to a host reader.
 
-ghost use Rattle.strm_buffers.specs.AllTells.{tells_of};
 ghost use Rattle.strm_host_machine.specs.Does.{Fits};
 
 use crate::hosted::{BYTES, LISTED, list};
@@ -17,6 +16,7 @@ use strm_host::erased_readers::ErasedReader;
 use strm_host_tests::copying::Copying;
 use strm_program_ends::credit_reader::CreditReader;
 use strm_program_ends::queue_writer::QueueWriter;
+use strm_transmit::host_ends::HostEnds;
 
 fn tell_passed(rt: &HostRuntime, name: &str, piping: &Piping) -> io::Result<()> {
     let passed = piping.passed();
@@ -48,8 +48,8 @@ pub fn time_list(rt: &HostRuntime) -> io::Result<()> {
     }
 }
 
-fn time_piped(rt: &HostRuntime, piping: &mut Piping, hosts: &mut Hosts) -> io::Result<()>
-    requires { Fits piping.old.store (tells_of writer_tells reader_tells hosts.old) }
+fn time_piped<H: HostEnds>(rt: &HostRuntime, piping: &mut Piping, hosts: &mut H) -> io::Result<()>
+    requires { Fits piping.old.store (H.tells hosts.old) }
 {
     let start = Instant::now(rt)?;
     match piping.drive(hosts) {
@@ -82,8 +82,8 @@ pub fn time_rounds(rt: &HostRuntime) -> io::Result<()> {
     }
 }
 
-fn time_fed(rt: &HostRuntime, piping: &mut Piping, hosts: &mut Hosts) -> io::Result<()>
-    requires { Fits piping.old.store (tells_of writer_tells reader_tells hosts.old) }
+fn time_fed<H: HostEnds>(rt: &HostRuntime, piping: &mut Piping, hosts: &mut H) -> io::Result<()>
+    requires { Fits piping.old.store (H.tells hosts.old) }
 {
     let start = Instant::now(rt)?;
     match piping.feed_and_drive(hosts, ROUNDS) {

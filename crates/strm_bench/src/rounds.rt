@@ -1,6 +1,5 @@
 //! Rounds on a store: a write of 8 items waits, a read takes them, and the write is told.
 
-ghost use Rattle.strm_buffers.specs.AllTells.{tells_of};
 ghost use Rattle.strm_host_machine.specs.Does.{Fits};
 
 use std::alloc::Global;
@@ -9,6 +8,7 @@ use strm_codes::codes::{ReturnCode, TransmitIndex};
 use strm_codes::payloads::Payload;
 use strm_machine::limits::Limits;
 use strm_transmit::errors::StoreError;
+use strm_transmit::host_ends::HostEnds;
 use strm_transmit::store::Store;
 
 /// The guest that is made first writes.
@@ -50,13 +50,13 @@ pub fn run(alloc: Global, items: Payload, rounds: u32) -> Result<Told, StoreErro
 }
 
 // The same on a store that is lent.
-fn run_on(
+fn run_on<H: HostEnds>(
     store: &mut Store,
-    hosts: &mut Hosts,
+    hosts: &mut H,
     items: Payload,
     rounds: u32,
 ) -> Result<Told, StoreError>
-    requires { Fits store.old (tells_of writer_tells reader_tells hosts.old) }
+    requires { Fits store.old (H.tells hosts.old) }
 {
     store.add_guest(SIZE)?;
     store.add_guest(SIZE)?;
@@ -70,15 +70,15 @@ fn run_on(
 }
 
 // So many rounds: the words of all codes.
-fn repeat(
+fn repeat<H: HostEnds>(
     store: &mut Store,
-    hosts: &mut Hosts,
+    hosts: &mut H,
     items: Payload,
     write: u32,
     read: u32,
     rounds: u32,
 ) -> Result<u64, StoreError>
-    requires { Fits store.old (tells_of writer_tells reader_tells hosts.old) }
+    requires { Fits store.old (H.tells hosts.old) }
 {
     let mut words = 0u64;
     for round in 0..rounds {

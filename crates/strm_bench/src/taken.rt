@@ -2,16 +2,15 @@
 //! in pieces, and drive rounds while one write waits.
 
 ghost use Rattle.std.specs.Prelude.{IfOk, OnOk};
-ghost use Rattle.strm_buffers.specs.AllTells.{tells_of};
 ghost use Rattle.strm_transmit.specs.Hosted.{StillFits};
 ghost use Rattle.strm_host_machine.specs.Does.{Fits};
 
 use crate::hosted::{BYTES, FED, FEED, LISTED, PIECE, touch};
 use std::alloc::Global;
-use strm_buffers::hosts::Hosts;
 use strm_codes::codes::TransmitIndex;
 use strm_machine::limits::Limits;
 use strm_transmit::errors::StoreError;
+use strm_transmit::host_ends::HostEnds;
 use strm_transmit::store::Store;
 
 /// Streams beside the one that is driven.
@@ -37,14 +36,14 @@ fn fill(store: &mut Store, count: u32) -> Result<(), StoreError>
 
 // A new guest of so many bytes writes a stream that the first host reader reads, beside so many others:
 // the stream's number, and the guest's handle.
-fn prepare(
+fn prepare<H: HostEnds>(
     store: &mut Store,
-    hosts: &mut Hosts,
+    hosts: &mut H,
     size: u32,
     beside: u32,
 ) -> Result<(u32, u32), StoreError>
-    requires { Fits store.old (tells_of writer_tells reader_tells hosts.old) }
-    ensures { OnOk result (Fits store.new (tells_of writer_tells reader_tells hosts.new)) }
+    requires { Fits store.old (H.tells hosts.old) }
+    ensures { OnOk result (Fits store.new (H.tells hosts.new)) }
 {
     store.add_guest(size)?;
     touch(store, size)?;
@@ -65,13 +64,13 @@ pub struct Writing {
 
 impl Writing {
     /// The guest has so many bytes, and so many other streams.
-    pub fn new(
+    pub fn new<H: HostEnds>(
         alloc: Global,
-        hosts: &mut Hosts,
+        hosts: &mut H,
         size: u32,
         beside: u32,
     ) -> Result<Writing, StoreError>
-        ensures { IfOk result (λ writing. Fits writing.store (tells_of writer_tells reader_tells hosts.new)) }
+        ensures { IfOk result (λ writing. Fits writing.store (H.tells hosts.new)) }
     {
         let mut store = Store::new(alloc, 0, LIMITS);
         match prepare(&mut store, hosts, size, beside) {
@@ -86,9 +85,13 @@ impl Writing {
 
     /// Grants the reader some bytes, and writes as many, so many times.
     #[inline(never)]
-    pub fn grant_and_write(&mut self, hosts: &mut Hosts, rounds: u32) -> Result<(), StoreError>
-        requires { Fits self.old.store (tells_of writer_tells reader_tells hosts.old) }
-        ensures fits { Fits self.new.store (tells_of writer_tells reader_tells hosts.new) }
+    pub fn grant_and_write<H: HostEnds>(
+        &mut self,
+        hosts: &mut H,
+        rounds: u32,
+    ) -> Result<(), StoreError>
+        requires { Fits self.old.store (H.tells hosts.old) }
+        ensures fits { Fits self.new.store (H.tells hosts.new) }
     {
         for round in 0..rounds {
             self.store.grant(hosts, 0, FEED)?;
@@ -101,9 +104,9 @@ impl Writing {
 
     /// Writes a list, piece behind piece.
     #[inline(never)]
-    pub fn write_list(&mut self, hosts: &mut Hosts) -> Result<(), StoreError>
-        requires { Fits self.old.store (tells_of writer_tells reader_tells hosts.old) }
-        ensures fits { Fits self.new.store (tells_of writer_tells reader_tells hosts.new) }
+    pub fn write_list<H: HostEnds>(&mut self, hosts: &mut H) -> Result<(), StoreError>
+        requires { Fits self.old.store (H.tells hosts.old) }
+        ensures fits { Fits self.new.store (H.tells hosts.new) }
     {
         for piece in 0..LISTED / PIECE {
             self.store
@@ -114,9 +117,9 @@ impl Writing {
 
     /// Writes some bytes, for which the reader has no credit, and drives so many times.
     #[inline(never)]
-    pub fn drive(&mut self, hosts: &mut Hosts, rounds: u32) -> Result<(), StoreError>
-        requires { Fits self.old.store (tells_of writer_tells reader_tells hosts.old) }
-        ensures fits { Fits self.new.store (tells_of writer_tells reader_tells hosts.new) }
+    pub fn drive<H: HostEnds>(&mut self, hosts: &mut H, rounds: u32) -> Result<(), StoreError>
+        requires { Fits self.old.store (H.tells hosts.old) }
+        ensures fits { Fits self.new.store (H.tells hosts.new) }
     {
         self.store
             .stream_write(hosts, 0, BYTES, self.handle, 0, FEED)?;

@@ -25,8 +25,9 @@ pub fn memories_may_be_written()
 /// call of `GuestStore` that may change the store is a step by its clause `meets`, or a lowering. It does
 /// nothing.
 pub fn memories_stay()
-    ensures steps { (old new : State) (result : Result Reply StoreError) (step : Step) → IsAmongGuests old →
-        Meets old new result (react old step) → BasesStay old.guests new.guests }
+    ensures steps { (old new : State) (result : Result Reply StoreError) (step : Step)
+        → IsAmongGuests old → Meets old new result (react old step)
+        → BasesStay old.guests new.guests }
     ensures lowerings { (old new : State) (result : Result Reply StoreError) (number guest : ℕ) →
         Meets old new result (lowers_context old number guest) → BasesStay old.guests new.guests }
 {}

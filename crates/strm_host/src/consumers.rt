@@ -85,10 +85,11 @@ pub trait StreamConsumer: Drop {
         requires not_bad { source.offer.now.bad ≡ false }
         ensures same { SameOffer source.entry.offer.now source.exit.0.now }
         ensures untaken { IfNoMemory result (source.exit.0.now.taken ≡ 0) }
-        ensures failed { IfAnswered result (λ answer. Rises answer (faults self.old) (faults self.new)) }
+        ensures failed { IfAnswered result
+            (λ answer. Rises answer (faults self.old) (faults self.new)) }
         ensures faults { faults self.old ≤ faults self.new }
-        ensures took { IfAnswered result (λ _. took self.new ≡
-            with_taken (took self.old) source.exit.0.now.taken (offering_of source.entry.offer.now)) }
+        ensures took { IfAnswered result (λ _. took self.new ≡ with_taken (took self.old)
+            source.exit.0.now.taken (offering_of source.entry.offer.now)) }
         ensures kept { IfNoMemory result (took self.new ≡ took self.old) }
         ensures plan { IfSome (plan self.old) (λ next. IfAnswered result (λ answer.
             next (offering_of source.entry.offer.now) finish

@@ -50,7 +50,8 @@ impl<'a, T: Payloaded, B: WriteBuffer<T> + Drop> Destination<'a, T, B> {
 
     /// Puts this buffer in the place of the one before, whose items count as not produced.
     pub fn set_buffer(&mut self, buffer: B)
-        requires few { length self.old.produced.now.window.marked + length (B.items buffer) < 4294967295 }
+        requires few { length self.old.produced.now.window.marked + length (B.items buffer)
+            < 4294967295 }
         ensures same_reference { self.new.produced.ghost_name ≡ self.old.produced.ghost_name }
         ensures window { self.new.produced.now.window ≡ self.old.produced.now.window }
         ensures buffer { self.new.produced.now.buffer ≡ buffer }
@@ -72,8 +73,10 @@ impl<'a, T: Payloaded, B: WriteBuffer<T> + Drop> Destination<'a, T, B> {
 
     /// How many items more a poll may produce.
     pub fn spare(&self) -> usize
-        requires few { length self.now.produced.now.window.marked + length (B.items self.now.produced.now.buffer) < 4294967295 }
-        ensures { result ≡ 4294967294 - (length self.now.produced.now.window.marked + length (B.items self.now.produced.now.buffer)) }
+        requires few { length self.now.produced.now.window.marked + length
+            (B.items self.now.produced.now.buffer) < 4294967295 }
+        ensures { result ≡ 4294967294 - (length self.now.produced.now.window.marked + length
+            (B.items self.now.produced.now.buffer)) }
     {
         MOST_ITEMS as usize - (self.produced.window.marked() as usize + self.produced.buffer.len())
     }
@@ -96,11 +99,15 @@ impl<'a, B: WriteBuffer<u8> + Drop> Destination<'a, u8, B> {
     pub fn as_direct(self, capacity: usize) -> Result<DirectDestination<'a, B>, OutOfMemory>
         requires payload { self.produced.now.window.payload ≡ One U8 }
         requires prepared { self.produced.now.window.prepared ≡ true }
-        requires few { CanCount self.produced.now.window.place (length self.produced.now.window.marked) capacity }
+        requires few { CanCount self.produced.now.window.place
+            (length self.produced.now.window.marked) capacity }
         ensures* lends { sem 𝓛 (LendsDirect B.row self.entry.produced result) }
-        ensures same_reference { IfOk result (λ direct. direct.produced.ghost_name ≡ self.entry.produced.ghost_name) }
-        ensures window { IfOk result (λ direct. direct.produced.now.window ≡ with_direct self.entry.produced.now.window capacity) }
-        ensures buffer { IfOk result (λ direct. direct.produced.now.buffer ≡ self.entry.produced.now.buffer) }
+        ensures same_reference { IfOk result
+            (λ direct. direct.produced.ghost_name ≡ self.entry.produced.ghost_name) }
+        ensures window { IfOk result (λ direct. direct.produced.now.window
+            ≡ with_direct self.entry.produced.now.window capacity) }
+        ensures buffer { IfOk result
+            (λ direct. direct.produced.now.buffer ≡ self.entry.produced.now.buffer) }
         ensures out_of_memory { OnErr result (self.entry.produced.now.window.place ≡ Between) }
     {
         let Destination { produced, items: _ } = self;

@@ -96,9 +96,12 @@ impl<P: StreamProducer> HostWriter for Erased<P> {
         requires nothing_held { self.old.held.items ≡ [] }
         requires nothing_marked { window.old.marked ≡ [] }
         requires prepared { window.old.prepared ≡ true }
-        ensures polls { IfAnswered result (λ answer. PollsWriter (erased_tells self.old) (erased_tells self.new)
-            (writer_record window.old finish window.new.marked (erased_tells self.new).holds answer) window.new.marked) }
-        ensures no_memory { IfNoMemory result (KeepsWriter (erased_tells self.old) (erased_tells self.new)) }
+        ensures polls { IfAnswered result (λ answer. PollsWriter (erased_tells self.old)
+            (erased_tells self.new)
+            (writer_record window.old finish window.new.marked (erased_tells self.new).holds answer)
+            window.new.marked) }
+        ensures no_memory { IfNoMemory result
+            (KeepsWriter (erased_tells self.old) (erased_tells self.new)) }
         ensures fills { Fills window.old window.new }
 
         // It does what its producer planned.

@@ -65,12 +65,13 @@ pub trait FutureConsumer: Drop {
         ensures untaken { IfWanting result (source.exit.0.now.taken ≡ 0) }
         ensures later { faults self.old ≤ faults self.new }
         ensures failed { IfFailed result (Rose (faults self.old) (faults self.new)) }
-        ensures took { IfPolled result (took self.new ≡
-            with_taken (took self.old) source.exit.0.now.taken (offering_of source.entry.offer.now)) }
+        ensures took { IfPolled result (took self.new ≡ with_taken (took self.old)
+            source.exit.0.now.taken (offering_of source.entry.offer.now)) }
         ensures kept { IfWanting result (took self.new ≡ took self.old) }
         ensures planned { KeepsTaking (plan self.old) (offering_of source.entry.offer.now) finish
             source.exit.0.now.taken result }
-        ensures leaves { IfPolled result (leaves self.old (offering_of source.entry.offer.now) finish self.new) };
+        ensures leaves { IfPolled result
+            (leaves self.old (offering_of source.entry.offer.now) finish self.new) };
 }
 
 /// A consumer of a future as one of a stream: it is done with its first answer.
@@ -112,13 +113,14 @@ impl<F: FutureConsumer> StreamConsumer for Consumer<F> {
         requires not_bad { source.offer.now.bad ≡ false }
         ensures same { SameOffer source.entry.offer.now source.exit.0.now }
         ensures untaken { IfNoMemory result (source.exit.0.now.taken ≡ 0) }
-        ensures failed { IfAnswered result (λ answer. Rises answer (F.faults self.old.future) (F.faults self.new.future)) }
+        ensures failed { IfAnswered result
+            (λ answer. Rises answer (F.faults self.old.future) (F.faults self.new.future)) }
         ensures faults { F.faults self.old.future ≤ F.faults self.new.future }
-        ensures took { IfAnswered result (λ _. F.took self.new.future ≡
-            with_taken (F.took self.old.future) source.exit.0.now.taken (offering_of source.entry.offer.now)) }
+        ensures took { IfAnswered result (λ _. F.took self.new.future ≡ with_taken
+            (F.took self.old.future) source.exit.0.now.taken (offering_of source.entry.offer.now)) }
         ensures kept { IfNoMemory result (F.took self.new.future ≡ F.took self.old.future) }
-        ensures plan { IfSome (consumer_plan (F.plan self.old.future)) (λ next. IfAnswered result (λ answer.
-            next (offering_of source.entry.offer.now) finish
+        ensures plan { IfSome (consumer_plan (F.plan self.old.future)) (λ next. IfAnswered result
+            (λ answer. next (offering_of source.entry.offer.now) finish
             ≡ record { taken = source.exit.0.now.taken; answer = answer })) }
 
         // Where it is done, it answers Completed exactly where nothing is left.

@@ -6,7 +6,6 @@
 
 ghost use Rattle.std.specs.Prelude.{◌≡◌, ◌≢◌, Err, OnOk, OnErr, IfErr};
 ghost use Rattle.strm_codes.specs.declared.codes.TransmitIndex.TheVariants.{Future};
-ghost use Rattle.strm_buffers.specs.AllTells.{tells_of};
 ghost use Rattle.strm_host_machine.specs.Does.{Fits};
 ghost use Rattle.strm_transmit.specs.Hosted.{StillFits};
 ghost use Rattle.strm_host.specs.ReadEnds.{used, no_memory, tested, any_tested, converted, refused_only, Makes, Lifts, Lowers, PipesTo, Closes};
@@ -15,10 +14,10 @@ use crate::read_ends::ReadEnd;
 use crate::reader_errors::ReaderError;
 use std::fmt;
 use std::marker::{Model, PhantomData};
-use strm_buffers::hosts::Hosts;
 use strm_codes::codes::TransmitIndex;
 use strm_codes::payloads::Payload;
 use strm_memory::payloaded::Payloaded;
+use strm_transmit::host_ends::HostEnds;
 use strm_transmit::store::Store;
 
 /// The loose read end of a future of `T`s. A contract sees it as its store's tag and its future's number.
@@ -64,14 +63,15 @@ impl<T: Payloaded> FutureReader<T> {
     /// A future that a host writer writes (`Store::host_new`). Refused, in this order, are a number of no
     /// host writer, one of the other kind, one of another type, one that was used, and a future past the
     /// limit on places.
-    pub fn new(
+    pub fn new<H: HostEnds>(
         store: &mut Store,
-        hosts: &Hosts,
+        hosts: &H,
         writer: u32,
     ) -> Result<FutureReader<T>, ReaderError>
-        requires fits { Fits store.old (tells_of writer_tells reader_tells hosts.now) }
-        ensures calls { Makes store.old store.new (tells_of writer_tells reader_tells hosts.now) writer (Future T.payload) result }
-        ensures fits { Fits store.new (tells_of writer_tells reader_tells hosts.now) }
+        requires fits { Fits store.old (H.tells hosts.now) }
+        ensures calls { Makes store.old store.new (H.tells hosts.now) writer (Future T.payload)
+            result }
+        ensures fits { Fits store.new (H.tells hosts.now) }
     {
         let end = ReadEnd::host(store, hosts, writer, FutureReader::<T>::ty())?;
         Ok(FutureReader::of(end))
@@ -100,31 +100,35 @@ impl<T: Payloaded> FutureReader<T> {
 
     /// Gives the read end to a host reader, by its number (`Store::pipe`). Nothing is polled. The reader is
     /// then used; an error leaves it.
-    pub fn pipe(
+    pub fn pipe<H: HostEnds>(
         &mut self,
         store: &mut Store,
-        hosts: &mut Hosts,
+        hosts: &mut H,
         reader: u32,
     ) -> Result<(), ReaderError>
-        requires fits { Fits store.old (tells_of writer_tells reader_tells hosts.old) }
-        ensures calls { PipesTo self.old store.old store.new (tells_of writer_tells reader_tells hosts.old)
-            (tells_of writer_tells reader_tells hosts.new) reader result }
+        requires fits { Fits store.old (H.tells hosts.old) }
+        ensures calls { PipesTo self.old store.old store.new (H.tells hosts.old) (H.tells hosts.new)
+            reader result }
         ensures ok { OnOk result (self.new ≡ used self.old) }
         ensures err { OnErr result (self.new ≡ self.old) }
-        ensures fits { Fits store.new (tells_of writer_tells reader_tells hosts.new) }
+        ensures fits { Fits store.new (H.tells hosts.new) }
         ensures takes_no_memory { result ≢ Err no_memory }
     {
         self.end.pipe(store, hosts, reader)
     }
 
     /// Drops the read end (`Store::close`). The reader is then used; an error leaves it.
-    pub fn close(&mut self, store: &mut Store, hosts: &mut Hosts) -> Result<(), ReaderError>
-        requires fits { Fits store.old (tells_of writer_tells reader_tells hosts.old) }
-        ensures calls { Closes self.old store.old store.new (tells_of writer_tells reader_tells hosts.old)
-            (tells_of writer_tells reader_tells hosts.new) result }
+    pub fn close<H: HostEnds>(
+        &mut self,
+        store: &mut Store,
+        hosts: &mut H,
+    ) -> Result<(), ReaderError>
+        requires fits { Fits store.old (H.tells hosts.old) }
+        ensures calls { Closes self.old store.old store.new (H.tells hosts.old) (H.tells hosts.new)
+            result }
         ensures ok { OnOk result (self.new ≡ used self.old) }
         ensures err { OnErr result (self.new ≡ self.old) }
-        ensures fits { Fits store.new (tells_of writer_tells reader_tells hosts.new) }
+        ensures fits { Fits store.new (H.tells hosts.new) }
         ensures takes_no_memory { result ≢ Err no_memory }
     {
         self.end.close(store, hosts)
@@ -199,16 +203,16 @@ impl<T: Payloaded> GuardedFutureReader<T> {
     }
 
     /// `FutureReader::close`. The guard comes back with an error.
-    pub fn close(
+    pub fn close<H: HostEnds>(
         self,
         store: &mut Store,
-        hosts: &mut Hosts,
+        hosts: &mut H,
     ) -> Result<(), (GuardedFutureReader<T>, ReaderError)>
-        requires fits { Fits store.old (tells_of writer_tells reader_tells hosts.old) }
-        ensures calls { Closes self.reader store.old store.new (tells_of writer_tells reader_tells hosts.old)
-            (tells_of writer_tells reader_tells hosts.new) (refused_only result) }
+        requires fits { Fits store.old (H.tells hosts.old) }
+        ensures calls { Closes self.reader store.old store.new (H.tells hosts.old)
+            (H.tells hosts.new) (refused_only result) }
         ensures back { IfErr result (λ back. back.0.reader ≡ self.reader) }
-        ensures fits { Fits store.new (tells_of writer_tells reader_tells hosts.new) }
+        ensures fits { Fits store.new (H.tells hosts.new) }
         ensures takes_no_memory { refused_only result ≢ Err no_memory }
     {
         let GuardedFutureReader { mut reader } = self;
@@ -255,13 +259,17 @@ impl FutureAny {
     }
 
     /// `FutureReader::close`.
-    pub fn close(&mut self, store: &mut Store, hosts: &mut Hosts) -> Result<(), ReaderError>
-        requires fits { Fits store.old (tells_of writer_tells reader_tells hosts.old) }
-        ensures calls { Closes self.old.end store.old store.new (tells_of writer_tells reader_tells hosts.old)
-            (tells_of writer_tells reader_tells hosts.new) result }
+    pub fn close<H: HostEnds>(
+        &mut self,
+        store: &mut Store,
+        hosts: &mut H,
+    ) -> Result<(), ReaderError>
+        requires fits { Fits store.old (H.tells hosts.old) }
+        ensures calls { Closes self.old.end store.old store.new (H.tells hosts.old)
+            (H.tells hosts.new) result }
         ensures ok { OnOk result (self.new ≡ record self.old { end = used self.old.end }) }
         ensures err { OnErr result (self.new ≡ self.old) }
-        ensures fits { Fits store.new (tells_of writer_tells reader_tells hosts.new) }
+        ensures fits { Fits store.new (H.tells hosts.new) }
         ensures takes_no_memory { result ≢ Err no_memory }
     {
         self.end.close(store, hosts)

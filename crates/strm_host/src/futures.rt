@@ -95,10 +95,12 @@ impl<F: FutureProducer> StreamProducer for Producer<F> {
         requires nothing_buffered { option_items destination.produced.now.buffer ≡ [] }
         ensures window { destination.exit.0.now.window ≡ destination.entry.produced.now.window }
         ensures valued { IsValued result destination.exit.0.now.buffer }
-        ensures failed { IfAnswered result (λ answer. Rises answer (F.faults self.old.future) (F.faults self.new.future)) }
+        ensures failed { IfAnswered result
+            (λ answer. Rises answer (F.faults self.old.future) (F.faults self.new.future)) }
         ensures faults { F.faults self.old.future ≤ F.faults self.new.future }
-        ensures plan { IfSome (F.plan self.old.future) (λ next. IfAnswered result (λ answer.
-            poll_of F.Item.item (next finish) ≡ polled F.Item.item [] (option_items destination.exit.0.now.buffer) answer)) }
+        ensures plan { IfSome (F.plan self.old.future) (λ next. IfAnswered result
+            (λ answer. poll_of F.Item.item (next finish)
+            ≡ polled F.Item.item [] (option_items destination.exit.0.now.buffer) answer)) }
 
         // The future was polled once.
         ensures leaves { IfAnswered result (λ _. F.leaves self.old.future finish self.new.future) }

@@ -33,11 +33,12 @@ impl<T: Payloaded> StreamProducer for Vec<T> {
         _finish: bool,
     ) -> HostTurn
         requires nothing_marked { destination.produced.now.window.marked ≡ [] }
-        requires nothing_buffered { drop destination.produced.now.buffer.first destination.produced.now.buffer.buffer.items ≡ [] }
+        requires nothing_buffered { drop destination.produced.now.buffer.first
+            destination.produced.now.buffer.buffer.items ≡ [] }
         ensures turn { result ≡ list_turn self.old.items }
         ensures window { destination.exit.0.now.window ≡ destination.entry.produced.now.window }
-        ensures given { drop destination.exit.0.now.buffer.first destination.exit.0.now.buffer.buffer.items
-            ≡ list_gives self.old.items }
+        ensures given { drop destination.exit.0.now.buffer.first
+            destination.exit.0.now.buffer.buffer.items ≡ list_gives self.old.items }
         ensures kept { self.new.items ≡ list_keeps self.old.items }
     {
         let Destination { produced, items } = destination;
@@ -71,11 +72,12 @@ impl<T: Payloaded> StreamProducer for BoxedSlice<T> {
         _finish: bool,
     ) -> HostTurn
         requires nothing_marked { destination.produced.now.window.marked ≡ [] }
-        requires nothing_buffered { drop destination.produced.now.buffer.first destination.produced.now.buffer.buffer.items ≡ [] }
+        requires nothing_buffered { drop destination.produced.now.buffer.first
+            destination.produced.now.buffer.buffer.items ≡ [] }
         ensures turn { result ≡ list_turn (boxed_slice_items self.old) }
         ensures window { destination.exit.0.now.window ≡ destination.entry.produced.now.window }
-        ensures given { drop destination.exit.0.now.buffer.first destination.exit.0.now.buffer.buffer.items
-            ≡ list_gives (boxed_slice_items self.old) }
+        ensures given { drop destination.exit.0.now.buffer.first
+            destination.exit.0.now.buffer.buffer.items ≡ list_gives (boxed_slice_items self.old) }
         ensures kept { boxed_slice_items self.new ≡ list_keeps (boxed_slice_items self.old) }
     {
         let Destination { produced, items } = destination;

@@ -89,21 +89,23 @@ pub trait StreamProducer: Drop {
         ensures fills { Fills destination.entry.produced.now.window destination.exit.0.now.window }
         ensures few { length destination.exit.0.now.window.marked
             + length (Self.Buffer.items destination.exit.0.now.buffer) < 4294967295 }
-        ensures failed { IfAnswered result (λ answer. Rises answer (faults self.old) (faults self.new)) }
+        ensures failed { IfAnswered result
+            (λ answer. Rises answer (faults self.old) (faults self.new)) }
         ensures faults { faults self.old ≤ faults self.new }
         ensures plan { IfSome (plan self.old) (λ next. IfAnswered result (λ answer.
             next (room_of destination.entry.produced.now.window.place) finish
             ≡ polled Self.Item.item destination.exit.0.now.window.marked
             (Self.Buffer.items destination.exit.0.now.buffer) answer)) }
-        ensures leaves { IfAnswered result (λ _.
-            leaves self.old (room_of destination.entry.produced.now.window.place) finish self.new) };
+        ensures leaves { IfAnswered result (λ _. leaves self.old
+            (room_of destination.entry.produced.now.window.place) finish self.new) };
 
     /// What a poll left in its buffer, as items. After `OutOfMemory` it is lost. A producer whose buffer
     /// has bytes of a block gives them without a copy; others leave it as it is here.
     fn items_of(alloc: Global, mut buffer: Self::Buffer) -> Result<Items, OutOfMemory>
         requires { length (Self.Buffer.items buffer) < 4294967295 }
         ensures payload { IfOk result (λ items. items.payload ≡ Self.Item.payload) }
-        ensures items { IfOk result (λ items. items.items ≡ map Self.Item.item (Self.Buffer.items buffer)) }
+        ensures items { IfOk result
+            (λ items. items.items ≡ map Self.Item.item (Self.Buffer.items buffer)) }
     {
         let values = buffer.take_all(alloc)?;
         Items::of_values::<Self::Item>(alloc, values)

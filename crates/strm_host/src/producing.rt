@@ -40,17 +40,22 @@ pub(crate) fn fetch<P: StreamProducer>(
     requires payload { window.old.payload ≡ P.Item.payload }
     requires prepared { window.old.prepared ≡ true }
     requires nothing_marked { window.old.marked ≡ [] }
-    ensures marked { IfOk result (λ f. window.new.marked ≡ in_room (room_of window.old.place) f.items.items) }
-    ensures held { IfOk result (λ f. f.held.items ≡ past_room (room_of window.old.place) f.items.items) }
+    ensures marked { IfOk result
+        (λ f. window.new.marked ≡ in_room (room_of window.old.place) f.items.items) }
+    ensures held { IfOk result
+        (λ f. f.held.items ≡ past_room (room_of window.old.place) f.items.items) }
     ensures typed { IfOk result (λ f. f.held.payload ≡ P.Item.payload) }
     ensures of { IfOk result (λ f. f.items.payload ≡ P.Item.payload) }
     ensures fit { IfOk result (λ f. AreItems (scalars_of P.Item.payload) f.items.items) }
-    ensures failed { IfOk result (λ f. Rises f.answer (P.faults producer.old) (P.faults producer.new)) }
+    ensures failed { IfOk result
+        (λ f. Rises f.answer (P.faults producer.old) (P.faults producer.new)) }
     ensures faults { P.faults producer.old ≤ P.faults producer.new }
     ensures fills { Fills window.old window.new }
-    ensures plan { IfSome (P.plan producer.old) (λ next. IfOk result (λ f.
-        next (room_of window.old.place) finish ≡ record { items = f.items.items; answer = f.answer })) }
-    ensures leaves { IfOk result (λ _. P.leaves producer.old (room_of window.old.place) finish producer.new) }
+    ensures plan { IfSome (P.plan producer.old) (λ next. IfOk result
+        (λ f. next (room_of window.old.place) finish
+        ≡ record { items = f.items.items; answer = f.answer })) }
+    ensures leaves { IfOk result
+        (λ _. P.leaves producer.old (room_of window.old.place) finish producer.new) }
 {
     window.sound();
     let (answer, mut items) = produce(alloc, producer, window, finish)?;
@@ -93,13 +98,17 @@ fn produce<P: StreamProducer>(
     requires prepared { window.old.prepared ≡ true }
     requires nothing_marked { window.old.marked ≡ [] }
     ensures payload { IfOk result (λ done. done.1.payload ≡ P.Item.payload) }
-    ensures begun { IfOk result (λ done. window.new.marked ≡ take (length window.new.marked) done.1.items) }
-    ensures failed { IfOk result (λ done. Rises done.0 (P.faults producer.old) (P.faults producer.new)) }
+    ensures begun { IfOk result
+        (λ done. window.new.marked ≡ take (length window.new.marked) done.1.items) }
+    ensures failed { IfOk result
+        (λ done. Rises done.0 (P.faults producer.old) (P.faults producer.new)) }
     ensures faults { P.faults producer.old ≤ P.faults producer.new }
     ensures fills { Fills window.old window.new }
-    ensures plan { IfSome (P.plan producer.old) (λ next. IfOk result (λ done.
-        next (room_of window.old.place) finish ≡ record { items = done.1.items; answer = done.0 })) }
-    ensures leaves { IfOk result (λ _. P.leaves producer.old (room_of window.old.place) finish producer.new) }
+    ensures plan { IfSome (P.plan producer.old) (λ next. IfOk result
+        (λ done. next (room_of window.old.place) finish
+        ≡ record { items = done.1.items; answer = done.0 })) }
+    ensures leaves { IfOk result
+        (λ _. P.leaves producer.old (room_of window.old.place) finish producer.new) }
 {
     let lent = mem::replace(window, Window::unbounded(alloc, P::Item::payload()));
     let mut produced = Produced {
@@ -134,7 +143,8 @@ fn gather<P: StreamProducer>(
     requires payload { window.now.payload ≡ P.Item.payload }
     requires few { length window.now.marked + length (P.Buffer.items buffer) < 4294967295 }
     ensures payload { IfOk result (λ items. items.payload ≡ P.Item.payload) }
-    ensures items { IfOk result (λ items. items.items ≡ window.now.marked ++ map P.Item.item (P.Buffer.items buffer)) }
+    ensures items { IfOk result
+        (λ items. items.items ≡ window.now.marked ++ map P.Item.item (P.Buffer.items buffer)) }
 {
     let items = P::items_of(alloc, buffer)?;
     put_behind_marked(window, items)

@@ -5,16 +5,15 @@
 //! `FutureAny`. Ours: the store's tag.
 
 ghost use Rattle.std.specs.Prelude.{◌≡◌, ◌≢◌, ◌==◌, Err, OnOk, OnErr};
-ghost use Rattle.strm_buffers.specs.AllTells.{tells_of};
 ghost use Rattle.strm_host_machine.specs.Does.{Fits};
 ghost use Rattle.strm_transmit.specs.Hosted.{StillFits, StillKnows};
 ghost use Rattle.strm_host.specs.ReadEnds.{read_end, used, no_memory, tested, host_tested, any_tested, Makes, Lifts, Lowers, PipesTo, Closes, Releases, left_by};
 
 use crate::reader_errors::ReaderError;
-use strm_buffers::hosts::Hosts;
 use strm_codes::codes::TransmitIndex;
 use strm_codes::ids::{TableId, TransmitHandle};
 use strm_codes::payloads::Payload;
+use strm_transmit::host_ends::HostEnds;
 use strm_transmit::store::Store;
 
 // The number of a read end that was used. No stream has it.
@@ -92,15 +91,15 @@ impl ReadEnd {
     }
 
     /// `Store::host_new` of a host writer of this type.
-    pub(crate) fn host(
+    pub(crate) fn host<H: HostEnds>(
         store: &mut Store,
-        hosts: &Hosts,
+        hosts: &H,
         writer: u32,
         ty: TransmitIndex,
     ) -> Result<ReadEnd, ReaderError>
-        requires fits { Fits store.old (tells_of writer_tells reader_tells hosts.now) }
-        ensures calls { Makes store.old store.new (tells_of writer_tells reader_tells hosts.now) writer ty result }
-        ensures fits { Fits store.new (tells_of writer_tells reader_tells hosts.now) }
+        requires fits { Fits store.old (H.tells hosts.now) }
+        ensures calls { Makes store.old store.new (H.tells hosts.now) writer ty result }
+        ensures fits { Fits store.new (H.tells hosts.now) }
     {
         match test_host(store, hosts, writer, &ty) {
             Some(error) => return Err(error),
@@ -149,18 +148,18 @@ impl ReadEnd {
     }
 
     /// `Store::pipe`. After Ok it is used.
-    pub(crate) fn pipe(
+    pub(crate) fn pipe<H: HostEnds>(
         &mut self,
         store: &mut Store,
-        hosts: &mut Hosts,
+        hosts: &mut H,
         reader: u32,
     ) -> Result<(), ReaderError>
-        requires fits { Fits store.old (tells_of writer_tells reader_tells hosts.old) }
-        ensures calls { PipesTo self.old store.old store.new (tells_of writer_tells reader_tells hosts.old)
-            (tells_of writer_tells reader_tells hosts.new) reader result }
+        requires fits { Fits store.old (H.tells hosts.old) }
+        ensures calls { PipesTo self.old store.old store.new (H.tells hosts.old) (H.tells hosts.new)
+            reader result }
         ensures ok { OnOk result (self.new ≡ used self.old) }
         ensures err { OnErr result (self.new ≡ self.old) }
-        ensures fits { Fits store.new (tells_of writer_tells reader_tells hosts.new) }
+        ensures fits { Fits store.new (H.tells hosts.new) }
         ensures takes_no_memory { result ≢ Err no_memory }
     {
         match self.test(store) {
@@ -193,13 +192,17 @@ impl ReadEnd {
     }
 
     /// `Store::close`. After Ok it is used.
-    pub(crate) fn close(&mut self, store: &mut Store, hosts: &mut Hosts) -> Result<(), ReaderError>
-        requires fits { Fits store.old (tells_of writer_tells reader_tells hosts.old) }
-        ensures calls { Closes self.old store.old store.new (tells_of writer_tells reader_tells hosts.old)
-            (tells_of writer_tells reader_tells hosts.new) result }
+    pub(crate) fn close<H: HostEnds>(
+        &mut self,
+        store: &mut Store,
+        hosts: &mut H,
+    ) -> Result<(), ReaderError>
+        requires fits { Fits store.old (H.tells hosts.old) }
+        ensures calls { Closes self.old store.old store.new (H.tells hosts.old) (H.tells hosts.new)
+            result }
         ensures ok { OnOk result (self.new ≡ used self.old) }
         ensures err { OnErr result (self.new ≡ self.old) }
-        ensures fits { Fits store.new (tells_of writer_tells reader_tells hosts.new) }
+        ensures fits { Fits store.new (H.tells hosts.new) }
         ensures takes_no_memory { result ≢ Err no_memory }
     {
         match self.test(store) {
@@ -213,8 +216,13 @@ impl ReadEnd {
 }
 
 // Why a host writer is not of a type, if it isn't.
-fn test_host(store: &Store, hosts: &Hosts, writer: u32, ty: &TransmitIndex) -> Option<ReaderError>
-    ensures { result ≡ host_tested store.now (tells_of writer_tells reader_tells hosts.now) writer ty.now }
+fn test_host<H: HostEnds>(
+    store: &Store,
+    hosts: &H,
+    writer: u32,
+    ty: &TransmitIndex,
+) -> Option<ReaderError>
+    ensures { result ≡ host_tested store.now (H.tells hosts.now) writer ty.now }
 {
     let number = writer as usize;
     if store.trapped() || number >= hosts.count_writers() || number >= 64 {

@@ -32,9 +32,13 @@ impl StreamProducer for Greeting {
         requires payload { destination.produced.now.window.payload ≡ One U8 }
         requires prepared { destination.produced.now.window.prepared ≡ true }
         requires nothing_marked { destination.produced.now.window.marked ≡ [] }
-        requires nothing_buffered { drop destination.produced.now.buffer.first destination.produced.now.buffer.buffer.items ≡ [] }
-        ensures greets { Greets destination.entry.produced.now.window destination.exit.0.now.window }
-        ensures few { length (drop destination.exit.0.now.buffer.first destination.exit.0.now.buffer.buffer.items) < 4 }
+        requires nothing_buffered { drop destination.produced.now.buffer.first
+            destination.produced.now.buffer.buffer.items ≡ [] }
+        ensures greets { Greets destination.entry.produced.now.window
+            destination.exit.0.now.window }
+        ensures few { length
+            (drop destination.exit.0.now.buffer.first destination.exit.0.now.buffer.buffer.items)
+            < 4 }
         ensures turn { NeverFails result }
     {
         let Destination { produced, items } = destination;

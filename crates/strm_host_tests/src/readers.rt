@@ -1,7 +1,6 @@
 //! Readers, guards and error contexts on a store, and what they refuse.
 
 ghost use Rattle.std.specs.Prelude.{◌≡◌};
-ghost use Rattle.strm_buffers.specs.AllTells.{tells_of};
 ghost use Rattle.strm_host_machine.specs.Does.{Fits};
 
 use crate::answers::is;
@@ -26,6 +25,7 @@ use strm_host::stream_readers::{StreamAny, StreamReader};
 use strm_memory::payloaded::Payloaded;
 use strm_transmit::Limits;
 use strm_transmit::errors::StoreError;
+use strm_transmit::host_ends::HostEnds;
 use strm_transmit::store::Store;
 
 const LIMITS: Limits = Limits {
@@ -53,8 +53,8 @@ fn hosts_of(rt: &impl Abort, alloc: Global, writer: Box<dyn HostWriter>) -> Host
 }
 
 // The host ends are those that the store needs.
-fn must_fit(rt: &impl Abort, store: &Store, hosts: &Hosts)
-    ensures { Fits store.now (tells_of writer_tells reader_tells hosts.now) }
+fn must_fit<H: HostEnds>(rt: &impl Abort, store: &Store, hosts: &H)
+    ensures { Fits store.now (H.tells hosts.now) }
 {
     if store.fits(hosts) {
         return;

@@ -63,7 +63,8 @@ impl Desk {
 
     // Whether a handle is in a set.
     pub(crate) fn is_member(&self, place: Place) -> bool
-        ensures { result ≡ is_in_set (state_of self.now.limits self.now.log) place.guest place.handle }
+        ensures { result
+            ≡ is_in_set (state_of self.now.limits self.now.log) place.guest place.handle }
     {
         self.ledger.is_member(place)
     }
@@ -77,7 +78,8 @@ impl Desk {
     ) -> Result<Reply, OutOfMemory>
         requires clear { IsClear step.now self.old.waits }
         requires guests { is_host_step step.now ≡ false }
-        ensures ok { IfOk result (λ reply. self.new ≡ entered self.old (entry seat step.now reply)) }
+        ensures ok { IfOk result
+            (λ reply. self.new ≡ entered self.old (entry seat step.now reply)) }
         ensures legal { IsLegal self.new.limits self.new.log }
         ensures err { OnErr result (self.new ≡ self.old) }
     {
@@ -94,7 +96,8 @@ impl Desk {
         place: Place,
     ) -> Result<Reply, OutOfMemory>
         requires operates { operated step.now ≡ Some place }
-        requires free { is_in_set (state_of self.old.limits self.old.log) place.guest place.handle ≡ false }
+        requires free { is_in_set (state_of self.old.limits self.old.log) place.guest place.handle
+            ≡ false }
         ensures ok { IfOk result (λ reply. self.new ≡ entered_with self.old
             (entry seat step.now reply) (begun reply self.old.waits (wait seat place))) }
         ensures legal { IsLegal self.new.limits self.new.log }
@@ -110,7 +113,8 @@ impl Desk {
         requires room { self.old.idle < 2 ^ 64 - 1 }
         ensures turn { MatchOption result (self.new ≡ idled self.old) (λ reply. Delivers reply
             × (self.new ≡ entered_with self.old
-            (entry seat (steps.Event place.guest place.handle) reply) (without seat self.old.waits))) }
+            (entry seat (steps.Event place.guest place.handle) reply)
+            (without seat self.old.waits))) }
         ensures legal { IsLegal self.new.limits self.new.log }
     {
         self.ledger.deliver(seat, place)

@@ -78,7 +78,8 @@ impl Ledger {
 
     // Whether a handle is in a set.
     pub(crate) fn is_member(&self, place: Place) -> bool
-        ensures { result ≡ is_in_set (state_of self.now.limits self.now.log) place.guest place.handle }
+        ensures { result
+            ≡ is_in_set (state_of self.now.limits self.now.log) place.guest place.handle }
     {
         self.store.is_in_set(place.guest, place.handle)
     }
@@ -92,7 +93,8 @@ impl Ledger {
     ) -> Result<Reply, OutOfMemory>
         requires clear { IsClear step.now self.old.waits }
         requires guests { is_host_step step.now ≡ false }
-        ensures ok { IfOk result (λ reply. self.new ≡ entered self.old (entry seat step.now reply)) }
+        ensures ok { IfOk result
+            (λ reply. self.new ≡ entered self.old (entry seat step.now reply)) }
         ensures legal { IsLegal self.new.limits self.new.log }
         ensures err { OnErr result (self.new ≡ self.old) }
     {
@@ -115,7 +117,8 @@ impl Ledger {
         place: Place,
     ) -> Result<Reply, OutOfMemory>
         requires operates { operated step.now ≡ Some place }
-        requires free { is_in_set (state_of self.old.limits self.old.log) place.guest place.handle ≡ false }
+        requires free { is_in_set (state_of self.old.limits self.old.log) place.guest place.handle
+            ≡ false }
         ensures ok { IfOk result (λ reply. self.new ≡ entered_with self.old
             (entry seat step.now reply) (begun reply self.old.waits (wait seat place))) }
         ensures legal { IsLegal self.new.limits self.new.log }
@@ -141,7 +144,8 @@ impl Ledger {
         requires room { self.old.idle < 2 ^ 64 - 1 }
         ensures turn { MatchOption result (self.new ≡ idled self.old) (λ reply. Delivers reply
             × (self.new ≡ entered_with self.old
-            (entry seat (steps.Event place.guest place.handle) reply) (without seat self.old.waits))) }
+            (entry seat (steps.Event place.guest place.handle) reply)
+            (without seat self.old.waits))) }
         ensures legal { IsLegal self.new.limits self.new.log }
     {
         let Some(reply) = self.store.take_report(place) else {

@@ -1,12 +1,12 @@
 //! The rounds on a store of one owner, which keeps no history.
 
-ghost use Rattle.strm_buffers.specs.AllTells.{tells_of};
 ghost use Rattle.strm_host_machine.specs.Does.{Fits};
 
 use crate::rounds::{GUEST, LIMITS, event, items, new, read, write};
 use std::alloc::Global;
 use strm_buffers::hosts::Hosts;
 use strm_machine::steps::Step;
+use strm_transmit::host_ends::HostEnds;
 use strm_transmit::steps::apply;
 use strm_transmit::store::Store;
 
@@ -23,8 +23,8 @@ pub(crate) fn rounds(alloc: Global, rounds: u32) -> u64 {
     repeat(&mut store, &mut hosts, rounds)
 }
 
-fn repeat(store: &mut Store, hosts: &mut Hosts, rounds: u32) -> u64
-    requires { Fits store.old (tells_of writer_tells reader_tells hosts.old) }
+fn repeat<H: HostEnds>(store: &mut Store, hosts: &mut H, rounds: u32) -> u64
+    requires { Fits store.old (H.tells hosts.old) }
 {
     let mut moved = does(store, hosts, &GUEST).wrapping_add(does(store, hosts, &new(0)));
     for round in 0..rounds {
@@ -36,9 +36,9 @@ fn repeat(store: &mut Store, hosts: &mut Hosts, rounds: u32) -> u64
 }
 
 // One step: how many items it moved.
-fn does(store: &mut Store, hosts: &mut Hosts, step: &Step) -> u64
-    requires { Fits store.old (tells_of writer_tells reader_tells hosts.old) }
-    ensures { Fits store.new (tells_of writer_tells reader_tells hosts.new) }
+fn does<H: HostEnds>(store: &mut Store, hosts: &mut H, step: &Step) -> u64
+    requires { Fits store.old (H.tells hosts.old) }
+    ensures { Fits store.new (H.tells hosts.new) }
 {
     match apply(store, hosts, step) {
         Ok(reply) => items(&reply),

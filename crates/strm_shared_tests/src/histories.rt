@@ -1,7 +1,6 @@
 //! What is asked of a history: that a store of one owner gives the same replies.
 
 ghost use Rattle.std.specs.Prelude.{OnOk};
-ghost use Rattle.strm_buffers.specs.AllTells.{tells_of};
 ghost use Rattle.strm_shared.specs.Causes.{IsOf};
 ghost use Rattle.strm_host_machine.specs.Does.{Fits};
 
@@ -13,12 +12,13 @@ use strm_machine::replies::Reply;
 use strm_machine::steps::Step;
 use strm_shared::{Entry, History, Seat, SharedStore};
 use strm_transmit::errors::StoreError;
+use strm_transmit::host_ends::HostEnds;
 use strm_transmit::steps::apply;
 use strm_transmit::store::Store;
 
 // Sees that the host ends are those that the store needs.
-fn fit(store: &Store, hosts: &Hosts) -> Result<(), ()>
-    ensures { OnOk result (Fits store.now (tells_of writer_tells reader_tells hosts.now)) }
+fn fit<H: HostEnds>(store: &Store, hosts: &H) -> Result<(), ()>
+    ensures { OnOk result (Fits store.now (H.tells hosts.now)) }
 {
     if store.fits(hosts) { Ok(()) } else { Err(()) }
 }

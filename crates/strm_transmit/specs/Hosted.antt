@@ -15,6 +15,7 @@ use Rattle.strm_machine.specs.declared.streams.Owner.TheVariants.{Host}
 use Rattle.strm_machine.specs.declared.streams.Side.{Side}
 use Rattle.strm_machine.specs.declared.streams.Side.TheVariants.{Writing, Reading}
 use Rattle.strm_machine.specs.declared.stops.Stop.TheVariants as stops
+use Rattle.strm_host_machine.specs.Outcomes.{Outcome}
 use Rattle.strm_host_machine.specs.World.{World, stream_in, with_stream_in}
 use Rattle.strm_host_machine.specs.Attaching.{forsaken}
 use Rattle.strm_host_machine.specs.Releasing.{KnowsHeld}
@@ -22,8 +23,8 @@ use Rattle.strm_host_machine.specs.HostRefusals.{refusal_in}
 use Rattle.strm_host_machine.specs.LastRecord.{HaltsByRecord}
 use Rattle.strm_host_machine.specs.Steps.{outcome, may_poll, touches}
 use Rattle.strm_host_machine.specs.Does.{Logs, world_of, Answered, FitsWriter, FitsReader, Fits, Does}
-use Rattle.strm_transmit.specs.Meets.{Meets}
-use Rattle.strm_transmit.specs.WantsMemory.{WantsIn}
+use Rattle.strm_transmit.specs.Meets.{Meets, replied, act_takes_memory}
+use Rattle.strm_transmit.specs.WantsMemory.{WantsIn, IfWanting}
 use Rattle.strm_transmit.specs.declared.errors.StoreError.{StoreError}
 use Rattle.strm_transmit.specs.declared.errors.StoreError.TheVariants.{Refused, HostFailed, HostBroke, BadItem, StoreTrapped, OutOfMemory}
 
@@ -103,6 +104,18 @@ abbrev pub IsHandedOver : State → Tells → Act → Type 0
 IsHandedOver state tells (OnEnd Reading end (Operate address count)) = HasHeld state tells (stream_named (named state end))
 IsHandedOver state tells act = ⊥
 
+-- memory is wanting only where a host end may be polled
+abbrev pub WantsOnlyPolling : {T : Type 0} → State → Act → Result T StoreError → Type 0
+WantsOnlyPolling state act result = may_poll (lone state) act ≡ false → result ≢ Err OutOfMemory
+
+-- or where the act takes memory
+abbrev pub WantsOnlyTaking : {T : Type 0} → State → Act → Result T StoreError → Type 0
+WantsOnlyTaking state act result = act_takes_memory act ≡ false → WantsOnlyPolling state act result
+
+-- and never for items that are handed over
+abbrev pub WantsNoneHeld : {T : Type 0} → State → Tells → Act → Result T StoreError → Type 0
+WantsNoneHeld state tells act result = IsHandedOver state tells act → result ≢ Err OutOfMemory
+
 -- an error that a host end failed, or broke the rules of its kind: the end says so by its last record, which it
 -- made in the call
 abbrev pub ErrsByRecord : Tells → Tells → StoreError → Type 0
@@ -115,6 +128,19 @@ abbrev pub IsStop : StoreError → Type 0
 IsStop (Refused refusal) = ⊥
 IsStop StoreTrapped = ⊥
 IsStop _ = Unit {0}
+
+-- a part of a step among host ends, and its answer: the machine does the same, and the store needs these host ends
+-- still; an error is a stop, and traps the store; for want of memory host ends tell what `Wants` says
+pub record IsPartAs {T : Type 0} (reply : T → Reply) (old new : State) (tells told : Tells) (result : Result T StoreError) (part : World → Outcome) (Wants : (World → Outcome) → State → Tells → Tells → Type 0) : Type 0 where
+  pub does : Does old new tells told (answered (replied reply result)) part
+  pub fits : Fits new told
+  pub stop : IfErr result IsStop
+  pub trapped : IfErr result (λ _. new.trapped ≡ true)
+  pub wanting : IfErr result (λ error. IfWanting error (Wants part old tells told))
+
+-- one that answers nothing
+abbrev pub IsPart : State → State → Tells → Tells → Result (Unit {0}) StoreError → (World → Outcome) → ((World → Outcome) → State → Tells → Tells → Type 0) → Type 0
+IsPart old new tells told result part Wants = IsPartAs (λ _. replies.Done) old new tells told result part Wants
 
 -- a call of an act that touches no host end: the answer and the state are the machine's without them
 pub record MeetsAlone (old new : State) (tells told : Tells) (result : Result Reply StoreError) (act : Act) : Type 0 where

@@ -5,6 +5,7 @@ pub mod Keeping
 pub mod Lending
 pub mod Meets
 pub mod WantsMemory
+pub mod HostEnds
 pub mod Hosted
 pub mod Turning
 pub mod Piping

@@ -1,9 +1,11 @@
 -- What the turn of a host end does to a store, and which streams a drive round goes through. Ours.
-use Rattle.std.specs.Prelude.{◌≡◌, ℕ, ◌≤◌, nat_le, not, ◌&&◌, if◌then◌else◌, slice_set, Option, Some, None, Result}
+use Rattle.std.specs.Prelude.{◌≡◌, ℕ, ◌<◌, ◌≤◌, true, length, nat_le, not, ◌&&◌, if◌then◌else◌, slice_set, Option, Some, None, Result, IsTrue}
 use Rattle.strm_buffers.specs.Tells.{Tells, told_by, with_told, told_by_reader, with_told_reader}
 use Rattle.strm_machine.specs.State.{State, producer_at, consumer_at, stream_at, is_host}
 use Rattle.strm_machine.specs.Hosting.{duty_of}
 use Rattle.strm_machine.specs.Sides.{opposite, end_of}
+use Rattle.strm_machine.specs.Soundness.{sizes_of, IsPlaced}
+use Rattle.strm_host_machine.specs.Does.{Fits}
 use Rattle.strm_machine.specs.declared.streams.Duty.{Duty}
 use Rattle.strm_machine.specs.declared.streams.Duty.TheVariants.{Serves}
 use Rattle.strm_machine.specs.declared.streams.HostEnd.TheVariants as ends
@@ -26,6 +28,31 @@ use Rattle.strm_host_turns.specs.declared.turns.TurnError.{TurnError}
 use Rattle.strm_host_turns.specs.declared.turns.TurnError.TheVariants.{Failed, OutOfMemory, Broke}
 use Rattle.strm_transmit.specs.declared.errors.StoreError.{StoreError}
 use Rattle.strm_transmit.specs.declared.errors.StoreError.TheVariants as errors
+use Rattle.strm_machine.specs.declared.streams.End.{End}
+use Rattle.strm_machine.specs.Tests.{is_open_of}
+use Rattle.strm_memory.specs.Items.{is_number_or_none}
+
+-- the end across from a side of stream s
+abbrev pub across : State → Side → ℕ → End
+across state side s = end_of (opposite side) (stream_at state s)
+
+-- the items of an operation on stream s lie in its guest's memory
+abbrev pub IsPlacedOn : State → ℕ → Operation → Type 0
+IsPlacedOn state s operation = IsPlaced (sizes_of state.guests) (stream_at state s).payload operation
+
+-- where the guest of an operation on a side of stream s has one open across, the items are numbers or none
+abbrev pub IsNumberWithin : State → Side → ℕ → ℕ → Type 0
+IsNumberWithin state side s guest =
+    IsTrue (is_open_of guest (across state side s).operation) → IsTrue (is_number_or_none (stream_at state s).payload)
+
+-- this operation waits open on a side of stream s, across from host end n, in a store that its host ends fit
+pub record IsAcross (state : State) (tells : Tells) (side : Side) (s n : ℕ) (operation : Operation) : Type 0 where
+  pub waiting : (end_of side (stream_at state s)).operation ≡ Some operation
+  pub is_open : operation.is_open ≡ true
+  pub there : s < length state.streams
+  pub owner : (across state side s).owner ≡ Host n
+  pub placed : IsPlacedOn state s operation
+  pub fits : Fits state tells
 
 -- why a turn of host writer n stops a call
 abbrev pub stops_by : TurnError → ℕ → StoreError

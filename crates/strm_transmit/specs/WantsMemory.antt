@@ -60,6 +60,10 @@ pub record WantsInPoll (old : State) (tells told : Tells) (machine : World → O
   pub state : State
   pub does : Does old state tells more (Err (Some (HostFailed end))) machine
 
+-- the same of this part of a step
+abbrev pub OfPoll : (World → Outcome) → State → Tells → Tells → Type 0
+OfPoll part old tells told = WantsInPoll old tells told part
+
 -- ALONG A PIPE
 
 -- host writer n holds items itself, which are to be offered to host reader r along stream s
@@ -85,10 +89,22 @@ pub data WantsInOffer (n : ℕ) (old : State) (tells told : Tells) (offer : Worl
   Polled : WantsInPoll old tells told offer → WantsInOffer n old tells told offer
   Unpolled : told ≡ tells → (told_by told n).holds ≢ [] → WantsInOffer n old tells told offer
 
+-- the same of this part of a step
+abbrev pub OfOffer : ℕ → (World → Outcome) → State → Tells → Tells → Type 0
+OfOffer n part old tells told = WantsInOffer n old tells told part
+
+-- in the round of the pipe of stream s, from host writer n to host reader r
+abbrev pub OfRound : ℕ → ℕ → ℕ → (World → Outcome) → State → Tells → Tells → Type 0
+OfRound s n r part old tells told = WantsAt s n r old tells told part (λ w. fetches w s n r)
+
 -- in the turn of stream s
 abbrev pub WantsInTurn : ℕ → State → Tells → Tells → Type 0
 WantsInTurn s old tells told =
     (n : ℕ) × (r : ℕ) × WantsAt s n r old tells told (λ w. drive_turn w s) (λ w. fetches w s n r)
+
+-- the same of this part of a step
+abbrev pub OfTurn : ℕ → (World → Outcome) → State → Tells → Tells → Type 0
+OfTurn s part old tells told = WantsInTurn s old tells told
 
 -- a drive round up to an offer along stream s: the turns of the streams before it, and its own fetch
 abbrev pub up_to_offer : ℕ → ℕ → ℕ → World → Outcome
@@ -98,6 +114,10 @@ up_to_offer s n r world = then_on (driven world (numbers_from 0 s)) (λ w. fetch
 abbrev pub WantsInDrive : State → Tells → Tells → Type 0
 WantsInDrive old tells told =
     (s : ℕ) × (n : ℕ) × (r : ℕ) × WantsAt s n r old tells told (λ w. driven w (round_of w)) (up_to_offer s n r)
+
+-- the same of this part of a step
+abbrev pub OfDrive : (World → Outcome) → State → Tells → Tells → Type 0
+OfDrive part old tells told = WantsInDrive old tells told
 
 -- IN A STEP
 

@@ -8,6 +8,7 @@
 #![tactic(auto)]
 
 pub mod errors;
+pub mod host_ends;
 pub mod steps;
 pub mod store;
 mod telling;

@@ -4,7 +4,6 @@
 
 ghost use Rattle.std.specs.Prelude.{◌≡◌, ◌≢◌, ◌≤◌, false, Err, IfOk, IfErr, IfSome, IsTrue};
 ghost use Rattle.strm_codes.specs.declared.refusals.Refusal.{Refusal};
-ghost use Rattle.strm_buffers.specs.AllTells.{tells_of};
 ghost use Rattle.strm_machine.specs.Acts.{act_of};
 ghost use Rattle.strm_machine.specs.Reactions.{reaction};
 ghost use Rattle.strm_machine.specs.declared.acts.Act.TheVariants as acts;
@@ -13,14 +12,14 @@ ghost use Rattle.strm_machine.specs.declared.acts.SetAct.TheVariants as set_acts
 ghost use Rattle.strm_machine.specs.declared.replies.Reply.TheVariants as replies;
 ghost use Rattle.strm_machine.specs.declared.acts.EndAct.TheVariants as end_acts;
 ghost use Rattle.strm_machine.specs.declared.acts.LooseAct.TheVariants as loose_acts;
-ghost use Rattle.strm_host_machine.specs.Steps.{step_of, may_poll, touches};
+ghost use Rattle.strm_host_machine.specs.Steps.{step_of, touches};
 ghost use Rattle.strm_host_machine.specs.Does.{Fits, Does};
-ghost use Rattle.strm_transmit.specs.Meets.{Meets, replied, refused_too, is_settled, act_takes_memory, takes_memory};
-ghost use Rattle.strm_transmit.specs.Hosted.{answered, lone, MayBeDone, Leaves, IsHandedOver, MeetsAlone, MeetsHosted};
+ghost use Rattle.strm_transmit.specs.Meets.{Meets, replied, refused_too, is_settled, act_takes_memory};
+ghost use Rattle.strm_transmit.specs.Hosted.{answered, lone, MayBeDone, Leaves, MeetsAlone, MeetsHosted, WantsOnlyTaking, WantsNoneHeld};
 
 use crate::errors::StoreError;
+use crate::host_ends::HostEnds;
 use crate::store::Store;
-use strm_buffers::hosts::Hosts;
 use strm_codes::codes::{ReturnCode, TransmitIndex};
 use strm_machine::acts::{
     Act, ContextAct, EndAct, HostAct, LooseAct, Making, MemoryAct, NamedEnd, SetAct,
@@ -33,40 +32,43 @@ use strm_machine::streams::Side;
 /// the store needs (`Store::fits`). It is inlined, so that a reply of a few bytes is not copied as one that
 /// may have 64.
 #[inline(always)]
-pub fn apply(store: &mut Store, hosts: &mut Hosts, step: &Step) -> Result<Reply, StoreError>
-    requires fits { Fits store.old (tells_of writer_tells reader_tells hosts.old) }
-    ensures does { Does store.old store.new (tells_of writer_tells reader_tells hosts.old)
-        (tells_of writer_tells reader_tells hosts.new) (answered result) (λ world. step_of world step.now) }
-    ensures fits { Fits store.new (tells_of writer_tells reader_tells hosts.new) }
-    ensures alone { touches (lone store.old) (act_of step.now) ≡ false
-        → MeetsAlone store.old store.new (tells_of writer_tells reader_tells hosts.old)
-        (tells_of writer_tells reader_tells hosts.new) result (act_of step.now) }
-    ensures err { IfErr result (Leaves (act_of step.now) store.old store.new
-        (tells_of writer_tells reader_tells hosts.old) (tells_of writer_tells reader_tells hosts.new)) }
+pub fn apply<H: HostEnds>(
+    store: &mut Store,
+    hosts: &mut H,
+    step: &Step,
+) -> Result<Reply, StoreError>
+    requires fits { Fits store.old (H.tells hosts.old) }
+    ensures does { Does store.old store.new (H.tells hosts.old) (H.tells hosts.new)
+        (answered result) (λ world. step_of world step.now) }
+    ensures fits { Fits store.new (H.tells hosts.new) }
+    ensures alone { touches (lone store.old) (act_of step.now) ≡ false → MeetsAlone store.old
+        store.new (H.tells hosts.old) (H.tells hosts.new) result (act_of step.now) }
+    ensures err { IfErr result
+        (Leaves (act_of step.now) store.old store.new (H.tells hosts.old) (H.tells hosts.new)) }
     ensures wanting { result ≡ Err StoreError.OutOfMemory
-        → MayBeDone store.old (tells_of writer_tells reader_tells hosts.old) (act_of step.now) }
+        → MayBeDone store.old (H.tells hosts.old) (act_of step.now) }
     ensures settled { IfOk result (λ reply. IsTrue (is_settled reply)) }
     ensures refused { (refusal : Refusal) → result ≢ Err (StoreError.Refused refusal) }
-    ensures takes_no_memory { takes_memory step.now ≡ false → may_poll (lone store.old) (act_of step.now) ≡ false
-        → result ≢ Err StoreError.OutOfMemory }
-    ensures held { IsHandedOver store.old (tells_of writer_tells reader_tells hosts.old) (act_of step.now)
-        → result ≢ Err StoreError.OutOfMemory }
+    ensures takes_no_memory { WantsOnlyTaking store.old (act_of step.now) result }
+    ensures held { WantsNoneHeld store.old (H.tells hosts.old) (act_of step.now) result }
 {
     perform_step(store, hosts, step)
 }
 
 // What a step does. Reads, writes and events, of which a run has most, go to their calls at once.
 #[inline(always)]
-fn perform_step(store: &mut Store, hosts: &mut Hosts, step: &Step) -> Result<Reply, StoreError>
-    requires fits { Fits store.old (tells_of writer_tells reader_tells hosts.old) }
-    ensures meets { MeetsHosted store.old store.new (tells_of writer_tells reader_tells hosts.old)
-        (tells_of writer_tells reader_tells hosts.new) result (act_of step.now) }
+fn perform_step<H: HostEnds>(
+    store: &mut Store,
+    hosts: &mut H,
+    step: &Step,
+) -> Result<Reply, StoreError>
+    requires fits { Fits store.old (H.tells hosts.old) }
+    ensures meets { MeetsHosted store.old store.new (H.tells hosts.old) (H.tells hosts.new) result
+        (act_of step.now) }
     ensures settled { IfOk result (λ reply. IsTrue (is_settled reply)) }
     ensures refused { (refusal : Refusal) → result ≢ Err (StoreError.Refused refusal) }
-    ensures takes_no_memory { act_takes_memory (act_of step.now) ≡ false → may_poll (lone store.old) (act_of step.now) ≡ false
-        → result ≢ Err StoreError.OutOfMemory }
-    ensures held { IsHandedOver store.old (tells_of writer_tells reader_tells hosts.old) (act_of step.now)
-        → result ≢ Err StoreError.OutOfMemory }
+    ensures takes_no_memory { WantsOnlyTaking store.old (act_of step.now) result }
+    ensures held { WantsNoneHeld store.old (H.tells hosts.old) (act_of step.now) result }
 {
     match operation_of(step) {
         Some(asked) => {
@@ -84,16 +86,18 @@ fn perform_step(store: &mut Store, hosts: &mut Hosts, step: &Step) -> Result<Rep
 
 // The same of a step that is no read or write.
 #[inline(always)]
-fn perform_other(store: &mut Store, hosts: &mut Hosts, step: &Step) -> Result<Reply, StoreError>
-    requires fits { Fits store.old (tells_of writer_tells reader_tells hosts.old) }
-    ensures meets { MeetsHosted store.old store.new (tells_of writer_tells reader_tells hosts.old)
-        (tells_of writer_tells reader_tells hosts.new) result (act_of step.now) }
+fn perform_other<H: HostEnds>(
+    store: &mut Store,
+    hosts: &mut H,
+    step: &Step,
+) -> Result<Reply, StoreError>
+    requires fits { Fits store.old (H.tells hosts.old) }
+    ensures meets { MeetsHosted store.old store.new (H.tells hosts.old) (H.tells hosts.new) result
+        (act_of step.now) }
     ensures settled { IfOk result (λ reply. IsTrue (is_settled reply)) }
     ensures refused { (refusal : Refusal) → result ≢ Err (StoreError.Refused refusal) }
-    ensures takes_no_memory { act_takes_memory (act_of step.now) ≡ false → may_poll (lone store.old) (act_of step.now) ≡ false
-        → result ≢ Err StoreError.OutOfMemory }
-    ensures held { IsHandedOver store.old (tells_of writer_tells reader_tells hosts.old) (act_of step.now)
-        → result ≢ Err StoreError.OutOfMemory }
+    ensures takes_no_memory { WantsOnlyTaking store.old (act_of step.now) result }
+    ensures held { WantsNoneHeld store.old (H.tells hosts.old) (act_of step.now) result }
 {
     store.sound();
     store.served();
@@ -114,8 +118,8 @@ struct Asked {
 // What a step asks for, if it is a read or a write. Both are one, so that what is inlined stands there once.
 #[inline(always)]
 fn operation_of(step: &Step) -> Option<Asked>
-    ensures { IfSome result (λ asked.
-        act_of step.now ≡ acts.OnEnd asked.side asked.end (end_acts.Operate asked.address asked.count)) }
+    ensures { IfSome result (λ asked. act_of step.now
+        ≡ acts.OnEnd asked.side asked.end (end_acts.Operate asked.address asked.count)) }
 {
     match *step {
         Step::Write {
@@ -149,16 +153,18 @@ fn operation_of(step: &Step) -> Option<Asked>
 // What any step does, seen as its act. Inlined, so that the place of its answer is made ready where it is
 // wanted alone.
 #[inline(always)]
-fn perform_act(store: &mut Store, hosts: &mut Hosts, step: &Step) -> Result<Reply, StoreError>
-    requires fits { Fits store.old (tells_of writer_tells reader_tells hosts.old) }
-    ensures meets { MeetsHosted store.old store.new (tells_of writer_tells reader_tells hosts.old)
-        (tells_of writer_tells reader_tells hosts.new) result (act_of step.now) }
+fn perform_act<H: HostEnds>(
+    store: &mut Store,
+    hosts: &mut H,
+    step: &Step,
+) -> Result<Reply, StoreError>
+    requires fits { Fits store.old (H.tells hosts.old) }
+    ensures meets { MeetsHosted store.old store.new (H.tells hosts.old) (H.tells hosts.new) result
+        (act_of step.now) }
     ensures settled { IfOk result (λ reply. IsTrue (is_settled reply)) }
     ensures refused { (refusal : Refusal) → result ≢ Err (StoreError.Refused refusal) }
-    ensures takes_no_memory { act_takes_memory (act_of step.now) ≡ false → may_poll (lone store.old) (act_of step.now) ≡ false
-        → result ≢ Err StoreError.OutOfMemory }
-    ensures held { IsHandedOver store.old (tells_of writer_tells reader_tells hosts.old) (act_of step.now)
-        → result ≢ Err StoreError.OutOfMemory }
+    ensures takes_no_memory { WantsOnlyTaking store.old (act_of step.now) result }
+    ensures held { WantsNoneHeld store.old (H.tells hosts.old) (act_of step.now) result }
 {
     // A copy, so that steps which are done at once need not lie in memory.
     let apart = *step;
@@ -167,15 +173,17 @@ fn perform_act(store: &mut Store, hosts: &mut Hosts, step: &Step) -> Result<Repl
 
 // The same, apart from the code of reads, writes and events; a refusal is an error still.
 #[inline(never)]
-fn perform_apart(store: &mut Store, hosts: &mut Hosts, step: &Step) -> Result<Reply, StoreError>
-    requires fits { Fits store.old (tells_of writer_tells reader_tells hosts.old) }
-    ensures meets { MeetsHosted store.old store.new (tells_of writer_tells reader_tells hosts.old)
-        (tells_of writer_tells reader_tells hosts.new) result (act_of step.now) }
+fn perform_apart<H: HostEnds>(
+    store: &mut Store,
+    hosts: &mut H,
+    step: &Step,
+) -> Result<Reply, StoreError>
+    requires fits { Fits store.old (H.tells hosts.old) }
+    ensures meets { MeetsHosted store.old store.new (H.tells hosts.old) (H.tells hosts.new) result
+        (act_of step.now) }
     ensures settled { IfOk result (λ reply. IsTrue (is_settled reply)) }
-    ensures takes_no_memory { act_takes_memory (act_of step.now) ≡ false → may_poll (lone store.old) (act_of step.now) ≡ false
-        → result ≢ Err StoreError.OutOfMemory }
-    ensures held { IsHandedOver store.old (tells_of writer_tells reader_tells hosts.old) (act_of step.now)
-        → result ≢ Err StoreError.OutOfMemory }
+    ensures takes_no_memory { WantsOnlyTaking store.old (act_of step.now) result }
+    ensures held { WantsNoneHeld store.old (H.tells hosts.old) (act_of step.now) result }
 {
     perform(store, hosts, &Act::of(step))
 }
@@ -213,15 +221,13 @@ fn done(_nothing: ()) -> Reply
 // The one call that an act names. Acts are not moved, since one may hold the bytes of a feed; and those
 // groups of calls that are not inlined write their replies in place.
 #[inline(always)]
-fn perform(store: &mut Store, hosts: &mut Hosts, act: &Act) -> Result<Reply, StoreError>
-    requires fits { Fits store.old (tells_of writer_tells reader_tells hosts.old) }
-    ensures meets { MeetsHosted store.old store.new (tells_of writer_tells reader_tells hosts.old)
-        (tells_of writer_tells reader_tells hosts.new) result act.now }
+fn perform<H: HostEnds>(store: &mut Store, hosts: &mut H, act: &Act) -> Result<Reply, StoreError>
+    requires fits { Fits store.old (H.tells hosts.old) }
+    ensures meets { MeetsHosted store.old store.new (H.tells hosts.old) (H.tells hosts.new) result
+        act.now }
     ensures settled { IfOk result (λ reply. IsTrue (is_settled reply)) }
-    ensures takes_no_memory { act_takes_memory act.now ≡ false → may_poll (lone store.old) act.now ≡ false
-        → result ≢ Err StoreError.OutOfMemory }
-    ensures held { IsHandedOver store.old (tells_of writer_tells reader_tells hosts.old) act.now
-        → result ≢ Err StoreError.OutOfMemory }
+    ensures takes_no_memory { WantsOnlyTaking store.old act.now result }
+    ensures held { WantsNoneHeld store.old (H.tells hosts.old) act.now result }
 {
     store.sound();
     store.served();
@@ -295,21 +301,20 @@ fn lift(store: &mut Store, side: Side, end: &NamedEnd) -> Result<Reply, StoreErr
 
 // What is done to the end that is named.
 #[inline(always)]
-fn on_end(
+fn on_end<H: HostEnds>(
     store: &mut Store,
-    hosts: &mut Hosts,
+    hosts: &mut H,
     side: Side,
     end: &NamedEnd,
     act: EndAct,
 ) -> Result<Reply, StoreError>
-    requires fits { Fits store.old (tells_of writer_tells reader_tells hosts.old) }
-    ensures meets { MeetsHosted store.old store.new (tells_of writer_tells reader_tells hosts.old)
-        (tells_of writer_tells reader_tells hosts.new) result (acts.OnEnd side end.now act) }
+    requires fits { Fits store.old (H.tells hosts.old) }
+    ensures meets { MeetsHosted store.old store.new (H.tells hosts.old) (H.tells hosts.new) result
+        (acts.OnEnd side end.now act) }
     ensures settled { IfOk result (λ reply. IsTrue (is_settled reply)) }
-    ensures takes_no_memory { act_takes_memory (acts.OnEnd side end.now act) ≡ false → may_poll (lone store.old) (acts.OnEnd side end.now act) ≡ false
-        → result ≢ Err StoreError.OutOfMemory }
-    ensures held { IsHandedOver store.old (tells_of writer_tells reader_tells hosts.old) (acts.OnEnd side end.now act)
-        → result ≢ Err StoreError.OutOfMemory }
+    ensures takes_no_memory { WantsOnlyTaking store.old (acts.OnEnd side end.now act) result }
+    ensures held { WantsNoneHeld store.old (H.tells hosts.old) (acts.OnEnd side end.now act)
+        result }
 {
     store.sound();
     store.served();
@@ -336,15 +341,15 @@ fn lower(store: &mut Store, reader: u32, guest: u32, ty: TransmitIndex) -> Resul
 
 // What is done to the loose read end of a stream.
 #[inline(never)]
-fn on_loose(
+fn on_loose<H: HostEnds>(
     store: &mut Store,
-    hosts: &mut Hosts,
+    hosts: &mut H,
     reader: u32,
     act: LooseAct,
 ) -> Result<Reply, StoreError>
-    requires fits { Fits store.old (tells_of writer_tells reader_tells hosts.old) }
-    ensures meets { MeetsHosted store.old store.new (tells_of writer_tells reader_tells hosts.old)
-        (tells_of writer_tells reader_tells hosts.new) result (acts.OnLoose reader act) }
+    requires fits { Fits store.old (H.tells hosts.old) }
+    ensures meets { MeetsHosted store.old store.new (H.tells hosts.old) (H.tells hosts.new) result
+        (acts.OnLoose reader act) }
     ensures settled { IfOk result (λ reply. IsTrue (is_settled reply)) }
     ensures takes_no_memory { act_takes_memory (acts.OnLoose reader act) ≡ false
         → result ≢ Err StoreError.OutOfMemory }
@@ -359,15 +364,15 @@ fn on_loose(
 
 // What is done to a host end.
 #[inline(never)]
-fn on_host(
+fn on_host<H: HostEnds>(
     store: &mut Store,
-    hosts: &mut Hosts,
+    hosts: &mut H,
     host: u32,
     act: &HostAct,
 ) -> Result<Reply, StoreError>
-    requires fits { Fits store.old (tells_of writer_tells reader_tells hosts.old) }
-    ensures meets { MeetsHosted store.old store.new (tells_of writer_tells reader_tells hosts.old)
-        (tells_of writer_tells reader_tells hosts.new) result (acts.OnHost host act.now) }
+    requires fits { Fits store.old (H.tells hosts.old) }
+    ensures meets { MeetsHosted store.old store.new (H.tells hosts.old) (H.tells hosts.new) result
+        (acts.OnHost host act.now) }
     ensures settled { IfOk result (λ reply. IsTrue (is_settled reply)) }
     ensures takes_no_memory { act_takes_memory (acts.OnHost host act.now) ≡ false
         → result ≢ Err StoreError.OutOfMemory }

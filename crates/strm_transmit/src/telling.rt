@@ -4,8 +4,8 @@
 //! Meaning: `Telling.antt`, and `Ready.antt` of `strm_waitable_sets`. Source: Component Model,
 //! `Waitable.has_pending_event`. Ours: that it is kept. No memory is taken but by a join.
 
-ghost use Rattle.std.specs.Prelude.{◌≡◌, ◌≢◌, ℕ, Bool, true, false, nat_eq, ◌<◌, length, [], slice_index_or, Some, is_some};
-ghost use Rattle.strm_waitable_sets.specs.Sets.{set_of, is_number};
+ghost use Rattle.std.specs.Prelude.{◌≡◌, ◌≢◌, ℕ, Bool, true, false, ◌<◌, length, [], slice_index_or, Some, is_some};
+ghost use Rattle.strm_waitable_sets.specs.Sets.{set_of};
 ghost use Rattle.strm_machine.specs.State.{sets_in};
 ghost use Rattle.strm_machine.specs.Sides.{end_of};
 ghost use Rattle.strm_machine.specs.declared.streams.Owner.TheVariants.{Held};
@@ -50,9 +50,9 @@ fn retell_held(
 )
     ensures told { (number : ℕ) → member_of (seen guests.now.items) guest number handle ≡ true
         → SaysOf ready.new.items guest number handle is_ready }
-    ensures others { (g number other : ℕ) (b : Bool) → SaysOf ready.old.items g number other b
-        → (g ≡ guest → other ≡ handle → member_of (seen guests.now.items) g number other ≡ true → b ≡ is_ready)
-        → SaysOf ready.new.items g number other b }
+    ensures others { (g number other : ℕ) (b : Bool) → SaysOf ready.old.items g number other b → (g
+        ≡ guest → other ≡ handle → member_of (seen guests.now.items) g number other ≡ true → b
+        ≡ is_ready) → SaysOf ready.new.items g number other b }
 {
     if guest >= guests.len() {
         return;

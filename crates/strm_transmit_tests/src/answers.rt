@@ -1,6 +1,5 @@
 //! What a call is to answer, a function for each type of answer; codes are told by their words.
 
-ghost use Rattle.strm_buffers.specs.AllTells.{tells_of};
 ghost use Rattle.strm_host_machine.specs.Does.{Fits};
 
 use std::alloc::Global;
@@ -14,6 +13,7 @@ use strm_machine::chunks::Chunk;
 use strm_machine::limits::Limits;
 use strm_machine::replies::{Member, Pair};
 use strm_transmit::errors::StoreError;
+use strm_transmit::host_ends::HostEnds;
 use strm_transmit::store::Store;
 
 pub(crate) const BYTES: Payload = Payload::One(Scalar::U8);
@@ -44,8 +44,8 @@ pub(crate) fn one_guest(rt: &impl Abort, alloc: Global) -> Store {
 }
 
 /// The host ends are those that the store needs.
-pub(crate) fn must_fit(rt: &impl Abort, store: &Store, hosts: &Hosts)
-    ensures { Fits store.now (tells_of writer_tells reader_tells hosts.now) }
+pub(crate) fn must_fit<H: HostEnds>(rt: &impl Abort, store: &Store, hosts: &H)
+    ensures { Fits store.now (H.tells hosts.now) }
 {
     if store.fits(hosts) {
         return;

@@ -26,13 +26,16 @@ pub fn fetch(
     room: u32,
     finish: bool,
 ) -> HostTurn
-    requires inside { address + item_size (scalars_of (writer_tells writer.old).payload) * room ≤ length memory.old.bytes }
+    requires inside { address + item_size (scalars_of (writer_tells writer.old).payload) * room
+        ≤ length memory.old.bytes }
     requires nothing_held { (writer_tells writer.old).holds ≡ [] }
     ensures fetched { IfAnswered result (Fetches (writer_tells writer.old) (writer_tells writer.new)
         memory.old.bytes memory.new.bytes address room finish) }
-    ensures no_record { IfNoMemory result ((writer_tells writer.new).said ≡ (writer_tells writer.old).said) }
-    ensures outside { (other n : ℕ) → IsApart address (item_size (scalars_of (writer_tells writer.old).payload) * room) other n →
-        bytes_at memory.new.bytes other n ≡ bytes_at memory.old.bytes other n }
+    ensures no_record { IfNoMemory result
+        ((writer_tells writer.new).said ≡ (writer_tells writer.old).said) }
+    ensures outside { (other n : ℕ)
+        → IsApart address (item_size (scalars_of (writer_tells writer.old).payload) * room) other n
+        → bytes_at memory.new.bytes other n ≡ bytes_at memory.old.bytes other n }
     ensures stays { memory.new.base ≡ memory.old.base }
 {
     let lent = mem::replace(memory, GuestMemory::empty(alloc));
@@ -60,10 +63,12 @@ pub fn deliver(
     count: u32,
     finish: bool,
 ) -> (HostTurn, u32)
-    requires inside { address + item_size (scalars_of (reader_tells reader.old).payload) * count ≤ length memory.old.bytes }
-    ensures delivered { IfAnswered result.0 (Delivers (reader_tells reader.old) (reader_tells reader.new)
-        memory.old.bytes address count finish result.1) }
-    ensures no_record { IfNoMemory result.0 ((reader_tells reader.new).said ≡ (reader_tells reader.old).said) }
+    requires inside { address + item_size (scalars_of (reader_tells reader.old).payload) * count
+        ≤ length memory.old.bytes }
+    ensures delivered { IfAnswered result.0 (Delivers (reader_tells reader.old)
+        (reader_tells reader.new) memory.old.bytes address count finish result.1) }
+    ensures no_record { IfNoMemory result.0
+        ((reader_tells reader.new).said ≡ (reader_tells reader.old).said) }
     ensures memory { memory.new ≡ memory.old }
 {
     let lent = mem::replace(memory, GuestMemory::empty(alloc));

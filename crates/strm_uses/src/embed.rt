@@ -80,7 +80,8 @@ pub fn read_for(
 /// Fills a guest's memory in place; false where there is no such guest.
 pub fn fill(store: &mut GuestStore, guest: u32, byte: u8) -> bool
     ensures unknown { result ≡ false → store.new ≡ store.old }
-    ensures others { (other : ℕ) → other ≢ guest → memory_in store.new.guests other ≡ memory_in store.old.guests other }
+    ensures others { (other : ℕ) → other ≢ guest → memory_in store.new.guests other
+        ≡ memory_in store.old.guests other }
 {
     if !store.has_guest(guest) {
         return false;

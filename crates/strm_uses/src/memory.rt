@@ -20,9 +20,10 @@ pub fn send(
     to: u32,
     count: ItemCount,
 ) -> Result<(), RegionError>
-    ensures arrived { OnOk result (reader.new
-        ≡ with_contents reader.old (put_at reader.old.bytes to (bytes_at writer.now.bytes from count))) }
-    ensures inside { from + count ≤ length writer.now.bytes → to + count ≤ length reader.old.bytes → IsOk result }
+    ensures arrived { OnOk result (reader.new ≡ with_contents reader.old
+        (put_at reader.old.bytes to (bytes_at writer.now.bytes from count))) }
+    ensures inside { from + count ≤ length writer.now.bytes → to + count ≤ length reader.old.bytes
+        → IsOk result }
     ensures refused { OnErr result (reader.new ≡ reader.old) }
 {
     if count.equals_u32(0) {

@@ -1,7 +1,6 @@
 //! A store: three bytes go from one guest to another.
 
 ghost use Rattle.std.specs.Prelude.{◌≡◌, take, length, Some, Ok, Err, IfOk};
-ghost use Rattle.strm_buffers.specs.AllTells.{tells_of};
 ghost use Rattle.strm_codes.specs.declared.codes.ReturnCode.TheVariants.{Completed};
 ghost use Rattle.strm_machine.specs.State.{memory_in, stream_at};
 ghost use Rattle.strm_host_machine.specs.Does.{Fits};
@@ -13,6 +12,7 @@ use strm_codes::payloads::Payload;
 use strm_codes::refusals::Refusal;
 use strm_codes::scalars::Scalar;
 use strm_transmit::errors::StoreError;
+use strm_transmit::host_ends::HostEnds;
 use strm_transmit::store::Store;
 use strm_transmit::{Chunk, Limits};
 
@@ -58,15 +58,15 @@ pub fn pass_three(alloc: Global, bytes: &Chunk) -> Result<Passed, StoreError>
 
 /// Reads for a guest: the word of its read's code, or why the guest traps. A refusal has changed nothing;
 /// any other error is the runtime's.
-pub fn read_for(
+pub fn read_for<H: HostEnds>(
     store: &mut Store,
-    hosts: &mut Hosts,
+    hosts: &mut H,
     guest: u32,
     handle: u32,
     address: u32,
     count: u32,
 ) -> Result<Result<u32, Refusal>, StoreError>
-    requires fits { Fits store.old (tells_of writer_tells reader_tells hosts.old) }
+    requires fits { Fits store.old (H.tells hosts.old) }
     ensures trapped { (refusal : Refusal) → result ≡ Ok (Err refusal) → store.new ≡ store.old }
 {
     match store.stream_read(hosts, guest, BYTES, handle, address, count) {

@@ -77,8 +77,9 @@ impl SharedStore {
         ensures of { (seat.new.table_id ≡ seat.old.table_id)
             × (seat.new.me.0.limits ≡ seat.old.me.0.limits) }
         ensures rests { Sits number seat.new.me }
-        ensures ok { IfOk result (λ reply. MovesBy true (token seat.old.table_id number seat.old.me.0)
-            step.now reply (token seat.new.table_id number seat.new.me.0)) }
+        ensures ok { IfOk result (λ reply. MovesBy true
+            (token seat.old.table_id number seat.old.me.0) step.now reply
+            (token seat.new.table_id number seat.new.me.0)) }
         ensures err { IfErr result (λ error. FailsToMoveBy true
             (token seat.old.table_id number seat.old.me.0) step.now error
             (token seat.new.table_id number seat.new.me.0)) }

@@ -26,7 +26,8 @@ impl SharedStore {
         ensures drawn { MatchOption result
             (seat.new.me ≡ (looked_seats seat.old.me.0 (2 ^ 64 - 1), seat.old.me.1))
             (λ t. (seat.new.me ≡ (numbered (looked_seats seat.old.me.0 t) t, seat.old.me.1))
-            × (t < 2 ^ 64 - 1) × (seat.old.me.0.top_seats ≤ t) × (calls_by t seat.old.me.0.seen ≡ [])) }
+            × (t < 2 ^ 64 - 1) × (seat.old.me.0.top_seats ≤ t)
+            × (calls_by t seat.old.me.0.seen ≡ [])) }
         ensures top { seat.old.me.0.top_seats ≤ seat.new.me.0.top_seats }
     {
         for _ in rt.forever() {

@@ -38,8 +38,8 @@ impl SharedStore {
         ensures of { (seat.new.table_id ≡ seat.old.table_id)
             × (seat.new.me.0.limits ≡ seat.old.me.0.limits) }
         ensures rests { Pauses number seat.new.me }
-        ensures ok { IfOk result (λ reply. (seat.new.me.0.waiting ≡ waits_for reply place)
-            × Begun (token seat.old.table_id number seat.old.me.0) place (entry number step.now reply)
+        ensures ok { IfOk result (λ reply. (seat.new.me.0.waiting ≡ waits_for reply place) × Begun
+            (token seat.old.table_id number seat.old.me.0) place (entry number step.now reply)
             (token seat.new.table_id number seat.new.me.0)) }
         ensures err { IfErr result (λ error. Unbound seat.new.me.0
             × NotBegun (token seat.old.table_id number seat.old.me.0) place error
@@ -163,8 +163,9 @@ impl SharedStore {
         ensures rests { Sits number seat.new.me }
         ensures ok { IfOk result (λ reply. Synced (token seat.old.table_id number seat.old.me.0)
             step.now place reply (token seat.new.table_id number seat.new.me.0)) }
-        ensures err { IfErr result (λ error. NotSynced (token seat.old.table_id number seat.old.me.0)
-            step.now place error (token seat.new.table_id number seat.new.me.0)) }
+        ensures err { IfErr result (λ error. NotSynced
+            (token seat.old.table_id number seat.old.me.0) step.now place error
+            (token seat.new.table_id number seat.new.me.0)) }
     {
         let begun = self.begin(rt, alloc, seat, number, step, place)?;
         if !is_blocked(&begun) {

@@ -73,7 +73,8 @@ impl SharedStore {
         ensures id { seat.new.table_id ≡ seat.old.table_id }
         ensures drawn { MatchOption result
             (seat.new.me ≡ (looked seat.old.me.0 (2 ^ 64 - 1), seat.old.me.1))
-            (λ t. (seat.new.me ≡ (queued (looked seat.old.me.0 t) t, seat.old.me.1)) × (t < 2 ^ 64 - 1)) }
+            (λ t. (seat.new.me ≡ (queued (looked seat.old.me.0 t) t, seat.old.me.1))
+            × (t < 2 ^ 64 - 1)) }
         ensures top { seat.old.me.0.top_ticket ≤ seat.new.me.0.top_ticket }
     {
         self.stand_back(rt);
@@ -100,8 +101,9 @@ impl SharedStore {
         requires queues { (seat.old.me.0.ticket ≡ Some ticket) × (seat.old.me.0.holds ≡ false)
             × (seat.old.me.1 ≡ []) }
         ensures id { seat.new.table_id ≡ seat.old.table_id }
-        ensures turn { MatchOption result (seat.new.me ≡ seat.old.me) (λ desk.
-            (seat.new.me ≡ (holding seat.old.me.0 desk, (0, None) ∷ [])) × Enters seat.old.me.0 desk) }
+        ensures turn { MatchOption result (seat.new.me ≡ seat.old.me)
+            (λ desk. (seat.new.me ≡ (holding seat.old.me.0 desk, (0, None) ∷ []))
+            × Enters seat.old.me.0 desk) }
     {
         if self.table.shared.load::<Await>(seat, SERVING) == ticket {
             return Some(self.table.shared.exchange(seat, 0, None).unwrap());

@@ -3,25 +3,24 @@
 //! Meaning: `Driving.antt` of `strm_host_machine`. Ours: wasmtime's event loop polls the futures of its host
 //! ends.
 
-ghost use Rattle.std.specs.Prelude.{◌≡◌, ◌<◌, ◌≤◌, true, length, None, Some, IfErr, IfSome};
-ghost use Rattle.strm_buffers.specs.AllTells.{tells_of};
+ghost use Rattle.std.specs.Prelude.{◌≡◌, ◌<◌, ◌≤◌, true, length, None, Some, IfSome};
 ghost use Rattle.strm_machine.specs.State.{stream_at, host_limit, producer_at, consumer_at};
 ghost use Rattle.strm_machine.specs.Sides.{end_of};
 ghost use Rattle.strm_machine.specs.declared.acts.Act.TheVariants.{Drive};
 ghost use Rattle.strm_machine.specs.declared.replies.Reply.TheVariants as replies;
 ghost use Rattle.strm_host_machine.specs.Driving.{drive_turn, driven, round_of};
-ghost use Rattle.strm_host_machine.specs.Does.{Fits, Does};
+ghost use Rattle.strm_host_machine.specs.Does.{Fits};
 ghost use Rattle.strm_transmit.specs.Inside.{AreServed};
 ghost use Rattle.strm_transmit.specs.Meets.{replied};
-ghost use Rattle.strm_transmit.specs.Hosted.{answered, IsStop, MeetsHosted};
-ghost use Rattle.strm_transmit.specs.WantsMemory.{WantsInTurn, WantsInDrive, IfWanting};
+ghost use Rattle.strm_transmit.specs.Hosted.{IsPart, MeetsHosted};
+ghost use Rattle.strm_transmit.specs.WantsMemory.{OfTurn, OfDrive};
 ghost use Rattle.strm_transmit.specs.Rounds.{pipe_ends};
 ghost use Rattle.strm_transmit.specs.Turning.{due_on, least_of, next_of, NextServed};
 
 use crate::errors::StoreError;
+use crate::host_ends::HostEnds;
 use crate::store::Store;
 use crate::store::hosting::MOST_HOSTS;
-use strm_buffers::hosts::Hosts;
 use strm_channels::sides::opposite;
 use strm_machine::streams::{Duty, Operation, Owner, Side};
 
@@ -113,19 +112,13 @@ impl Store {
 
     // The turn of a stream that is no pipe in a drive round: that of its host end, if it has one, for the
     // open operation of the other end.
-    fn serve(&mut self, hosts: &mut Hosts, stream: u32) -> Result<(), StoreError>
+    fn serve<H: HostEnds>(&mut self, hosts: &mut H, stream: u32) -> Result<(), StoreError>
         requires there { stream < length self.old.streams }
         requires unpiped { pipe_ends (stream_at self.old stream) ≡ None }
-        requires fits { Fits self.old (tells_of writer_tells reader_tells hosts.old) }
-        ensures does { Does self.old self.new (tells_of writer_tells reader_tells hosts.old)
-            (tells_of writer_tells reader_tells hosts.new) (answered (replied (λ _. replies.Done) result))
-            (λ world. drive_turn world stream) }
-        ensures fits { Fits self.new (tells_of writer_tells reader_tells hosts.new) }
+        requires fits { Fits self.old (H.tells hosts.old) }
+        ensures part { IsPart self.old self.new (H.tells hosts.old) (H.tells hosts.new) result
+            (λ world. drive_turn world stream) (OfTurn stream) }
         ensures there { length self.new.streams ≡ length self.old.streams }
-        ensures stop { IfErr result IsStop }
-        ensures trapped { IfErr result (λ _. self.new.trapped ≡ true) }
-        ensures wanting { IfErr result (λ error. IfWanting error (WantsInTurn stream self.old
-            (tells_of writer_tells reader_tells hosts.old) (tells_of writer_tells reader_tells hosts.new))) }
     {
         self.sound();
         if let Some(read) = self.due(stream, Side::Reading) {
@@ -138,18 +131,12 @@ impl Store {
     }
 
     // The turn of a stream in a drive round.
-    fn drive_stream(&mut self, hosts: &mut Hosts, stream: u32) -> Result<(), StoreError>
+    fn drive_stream<H: HostEnds>(&mut self, hosts: &mut H, stream: u32) -> Result<(), StoreError>
         requires there { stream < length self.old.streams }
-        requires fits { Fits self.old (tells_of writer_tells reader_tells hosts.old) }
-        ensures does { Does self.old self.new (tells_of writer_tells reader_tells hosts.old)
-            (tells_of writer_tells reader_tells hosts.new) (answered (replied (λ _. replies.Done) result))
-            (λ world. drive_turn world stream) }
-        ensures fits { Fits self.new (tells_of writer_tells reader_tells hosts.new) }
+        requires fits { Fits self.old (H.tells hosts.old) }
+        ensures part { IsPart self.old self.new (H.tells hosts.old) (H.tells hosts.new) result
+            (λ world. drive_turn world stream) (OfTurn stream) }
         ensures there { length self.new.streams ≡ length self.old.streams }
-        ensures stop { IfErr result IsStop }
-        ensures trapped { IfErr result (λ _. self.new.trapped ≡ true) }
-        ensures wanting { IfErr result (λ error. IfWanting error (WantsInTurn stream self.old
-            (tells_of writer_tells reader_tells hosts.old) (tells_of writer_tells reader_tells hosts.new))) }
     {
         match self.pipe_ends(stream) {
             Some(ends) => self.pipe_round(hosts, stream, ends.0, ends.1),
@@ -158,16 +145,10 @@ impl Store {
     }
 
     // The turns of all streams that a host end serves, by their numbers.
-    fn drive_all(&mut self, hosts: &mut Hosts) -> Result<(), StoreError>
-        requires fits { Fits self.old (tells_of writer_tells reader_tells hosts.old) }
-        ensures does { Does self.old self.new (tells_of writer_tells reader_tells hosts.old)
-            (tells_of writer_tells reader_tells hosts.new) (answered (replied (λ _. replies.Done) result))
-            (λ world. driven world (round_of world)) }
-        ensures fits { Fits self.new (tells_of writer_tells reader_tells hosts.new) }
-        ensures stop { IfErr result IsStop }
-        ensures trapped { IfErr result (λ _. self.new.trapped ≡ true) }
-        ensures wanting { IfErr result (λ error. IfWanting error (WantsInDrive self.old
-            (tells_of writer_tells reader_tells hosts.old) (tells_of writer_tells reader_tells hosts.new))) }
+    fn drive_all<H: HostEnds>(&mut self, hosts: &mut H) -> Result<(), StoreError>
+        requires fits { Fits self.old (H.tells hosts.old) }
+        ensures { IsPart self.old self.new (H.tells hosts.old) (H.tells hosts.new) result
+            (λ world. driven world (round_of world)) OfDrive }
     {
         let mut next = 0;
         while let Some(stream) = self.next_served(next) {
@@ -180,10 +161,10 @@ impl Store {
     /// Gives each host end that has an open read or write to serve its turn, and each pipe from a host
     /// writer to a host reader its round, by the streams' numbers. It costs nothing by all streams ever
     /// made, and is never refused. HostFailed, HostBroke, BadItem, OutOfMemory: each traps the store.
-    pub fn drive_once(&mut self, hosts: &mut Hosts) -> Result<(), StoreError>
-        requires fits { Fits self.old (tells_of writer_tells reader_tells hosts.old) }
-        ensures meets { MeetsHosted self.old self.new (tells_of writer_tells reader_tells hosts.old)
-            (tells_of writer_tells reader_tells hosts.new) (replied (λ _. replies.Done) result) Drive }
+    pub fn drive_once<H: HostEnds>(&mut self, hosts: &mut H) -> Result<(), StoreError>
+        requires fits { Fits self.old (H.tells hosts.old) }
+        ensures meets { MeetsHosted self.old self.new (H.tells hosts.old) (H.tells hosts.new)
+            (replied (λ _. replies.Done) result) Drive }
     {
         self.served();
         self.admit(Ok(()))?;

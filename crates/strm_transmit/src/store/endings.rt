@@ -8,29 +8,27 @@
 ghost use Rattle.std.specs.Prelude.{◌≡◌, ◌≢◌, ◌<◌, true, length, Err, IfOk, IfErr, IsSome, is_some};
 ghost use Rattle.std.specs.Option.{option_map};
 ghost use Rattle.strm_codes.specs.declared.codes.TransmitIndex.TheVariants as index;
-ghost use Rattle.strm_buffers.specs.AllTells.{tells_of};
 ghost use Rattle.strm_machine.specs.Acts.{act_of};
 ghost use Rattle.strm_machine.specs.State.{stream_at};
 ghost use Rattle.strm_machine.specs.Sides.{end_of};
-ghost use Rattle.strm_machine.specs.Tests.{named, end_named, stream_named, side_named};
+ghost use Rattle.strm_machine.specs.Tests.{named, end_named, stream_named};
 ghost use Rattle.strm_machine.specs.Refusals.{refusal, first_of, slot_reasons};
 ghost use Rattle.strm_machine.specs.Reactions.{goes, tells, cancels, react, reaction};
 ghost use Rattle.strm_machine.specs.declared.acts.Act.TheVariants.{OnEnd, Event};
 ghost use Rattle.strm_machine.specs.declared.acts.EndAct.TheVariants.{Drop, Cancel};
 ghost use Rattle.strm_machine.specs.declared.replies.Reply.TheVariants as replies;
 ghost use Rattle.strm_machine.specs.declared.steps.Step.TheVariants as steps;
-ghost use Rattle.strm_machine.specs.declared.streams.Owner.TheVariants.{Held};
 ghost use Rattle.strm_machine.proofs.NameLemmas.{IsEndError};
 ghost use Rattle.strm_host_machine.specs.Does.{Fits};
-ghost use Rattle.strm_transmit.specs.Celled.{cell_named};
+ghost use Rattle.strm_transmit.specs.Celled.{cell_named, place_named, IsOwn};
 ghost use Rattle.strm_transmit.specs.Meets.{Meets, replied, or_found};
 ghost use Rattle.strm_transmit.specs.Hosted.{StillFits, MeetsHosted};
 
 use crate::errors::StoreError;
+use crate::host_ends::HostEnds;
 use crate::store::Store;
 use crate::store::refusals::{refusal_of, side_of};
 use crate::telling::retell;
-use strm_buffers::hosts::Hosts;
 use strm_channels::endings::cancel_operation;
 use strm_codes::codes::{ReturnCode, TransmitIndex};
 use strm_codes::payloads::Payload;
@@ -53,9 +51,7 @@ impl Store {
         ensures answer { result ≡ end_named self.now guest handle }
         ensures there { IfOk result (λ name. name.0 < length self.now.streams) }
         ensures others { IfErr result IsEndError }
-        ensures own { IfOk result (λ name.
-            (end_of (side_named (end_named self.now guest handle))
-            (stream_at self.now (stream_named (end_named self.now guest handle)))).owner ≡ Held guest handle) }
+        ensures own { IfOk result (λ _. IsOwn self.now guest handle) }
     {
         self.guests[guest as usize].table.end_rep(handle)
     }
@@ -64,8 +60,9 @@ impl Store {
     #[inline(always)]
     pub(crate) fn end_found(&self, guest: u32, handle: u32) -> Result<(u32, Side), Refusal>
         requires { guest < length self.now.guests }
-        ensures exact { result ≡ or_found (first_of (slot_reasons (end_named self.now guest handle)))
-            (stream_named (end_named self.now guest handle), side_named (end_named self.now guest handle)) }
+        ensures exact { result ≡ or_found
+            (first_of (slot_reasons (end_named self.now guest handle)))
+            (place_named self.now guest handle) }
         ensures there { IfOk result (λ found. found.0 < length self.now.streams) }
     {
         match self.end_name(guest, handle) {
@@ -80,9 +77,7 @@ impl Store {
     pub fn cell(&self, guest: u32, handle: u32) -> Option<&EventCell>
         ensures exact { option_map (λ cell. cell.now) result ≡ cell_named self.now guest handle }
         // And the end is this guest's, under this handle: none that was moved or dropped.
-        ensures own { IsSome result →
-            (end_of (side_named (end_named self.now guest handle))
-            (stream_at self.now (stream_named (end_named self.now guest handle)))).owner ≡ Held guest handle }
+        ensures own { IsSome result → IsOwn self.now guest handle }
     {
         if self.is_unknown_guest(guest) {
             return None;
@@ -97,8 +92,8 @@ impl Store {
     #[inline(always)]
     #[tactic(auto, unfolding(strm_machine::specs::Refusals::refusal))]
     fn event_found(&self, guest: u32, handle: u32) -> Result<(u32, Side), Refusal>
-        ensures exact { result ≡ or_found (refusal self.now (Event guest handle))
-            (stream_named (end_named self.now guest handle), side_named (end_named self.now guest handle)) }
+        ensures exact { result
+            ≡ or_found (refusal self.now (Event guest handle)) (place_named self.now guest handle) }
         ensures there { IfOk result (λ found. found.0 < length self.now.streams) }
     {
         if self.is_unknown_guest(guest) {
@@ -150,16 +145,15 @@ impl Store {
 
     /// Drops the end that a handle names, which is gone then; a stream whose both ends are gone is
     /// removed at once.
-    pub(crate) fn drop_side(
+    pub(crate) fn drop_side<H: HostEnds>(
         &mut self,
-        hosts: &mut Hosts,
+        hosts: &mut H,
         side: Side,
         end: &NamedEnd,
     ) -> Result<(), StoreError>
-        requires fits { Fits self.old (tells_of writer_tells reader_tells hosts.old) }
-        ensures meets { MeetsHosted self.old self.new (tells_of writer_tells reader_tells hosts.old)
-            (tells_of writer_tells reader_tells hosts.new) (replied (λ _. replies.Done) result)
-            (OnEnd side end.now Drop) }
+        requires fits { Fits self.old (H.tells hosts.old) }
+        ensures meets { MeetsHosted self.old self.new (H.tells hosts.old) (H.tells hosts.new)
+            (replied (λ _. replies.Done) result) (OnEnd side end.now Drop) }
         ensures takes_no_memory { result ≢ Err StoreError.OutOfMemory }
     {
         self.sound();
@@ -172,16 +166,16 @@ impl Store {
 
     /// Drops the read end of a stream. `canon stream.drop-readable`. Refused: UnknownGuest,
     /// UnknownHandle, WrongKind, WrongType, WrongEnd, Busy.
-    pub fn stream_drop_readable(
+    pub fn stream_drop_readable<H: HostEnds>(
         &mut self,
-        hosts: &mut Hosts,
+        hosts: &mut H,
         guest: u32,
         payload: Payload,
         handle: u32,
     ) -> Result<(), StoreError>
-        requires fits { Fits self.old (tells_of writer_tells reader_tells hosts.old) }
-        ensures meets { MeetsHosted self.old self.new (tells_of writer_tells reader_tells hosts.old)
-            (tells_of writer_tells reader_tells hosts.new) (replied (λ _. replies.Done) result)
+        requires fits { Fits self.old (H.tells hosts.old) }
+        ensures meets { MeetsHosted self.old self.new (H.tells hosts.old) (H.tells hosts.new)
+            (replied (λ _. replies.Done) result)
             (act_of (steps.DropRead guest (index.Stream payload) handle)) }
         ensures takes_no_memory { result ≢ Err StoreError.OutOfMemory }
     {
@@ -192,16 +186,16 @@ impl Store {
 
     /// Drops the write end of a stream. `canon stream.drop-writable`. Refused: UnknownGuest,
     /// UnknownHandle, WrongKind, WrongType, WrongEnd, Busy.
-    pub fn stream_drop_writable(
+    pub fn stream_drop_writable<H: HostEnds>(
         &mut self,
-        hosts: &mut Hosts,
+        hosts: &mut H,
         guest: u32,
         payload: Payload,
         handle: u32,
     ) -> Result<(), StoreError>
-        requires fits { Fits self.old (tells_of writer_tells reader_tells hosts.old) }
-        ensures meets { MeetsHosted self.old self.new (tells_of writer_tells reader_tells hosts.old)
-            (tells_of writer_tells reader_tells hosts.new) (replied (λ _. replies.Done) result)
+        requires fits { Fits self.old (H.tells hosts.old) }
+        ensures meets { MeetsHosted self.old self.new (H.tells hosts.old) (H.tells hosts.new)
+            (replied (λ _. replies.Done) result)
             (act_of (steps.DropWrite guest (index.Stream payload) handle)) }
         ensures takes_no_memory { result ≢ Err StoreError.OutOfMemory }
     {
@@ -212,16 +206,16 @@ impl Store {
 
     /// Drops the read end of a future. `canon future.drop-readable`. Refused: UnknownGuest,
     /// UnknownHandle, WrongKind, WrongType, WrongEnd, Busy.
-    pub fn future_drop_readable(
+    pub fn future_drop_readable<H: HostEnds>(
         &mut self,
-        hosts: &mut Hosts,
+        hosts: &mut H,
         guest: u32,
         payload: Payload,
         handle: u32,
     ) -> Result<(), StoreError>
-        requires fits { Fits self.old (tells_of writer_tells reader_tells hosts.old) }
-        ensures meets { MeetsHosted self.old self.new (tells_of writer_tells reader_tells hosts.old)
-            (tells_of writer_tells reader_tells hosts.new) (replied (λ _. replies.Done) result)
+        requires fits { Fits self.old (H.tells hosts.old) }
+        ensures meets { MeetsHosted self.old self.new (H.tells hosts.old) (H.tells hosts.new)
+            (replied (λ _. replies.Done) result)
             (act_of (steps.DropRead guest (index.Future payload) handle)) }
         ensures takes_no_memory { result ≢ Err StoreError.OutOfMemory }
     {
@@ -233,16 +227,16 @@ impl Store {
     /// Drops the write end of a future. `canon future.drop-writable`. Refused: UnknownGuest,
     /// UnknownHandle, WrongKind, WrongType, WrongEnd, Busy, FutureWithoutValue (its value has not
     /// passed, and it was not told that nobody reads it).
-    pub fn future_drop_writable(
+    pub fn future_drop_writable<H: HostEnds>(
         &mut self,
-        hosts: &mut Hosts,
+        hosts: &mut H,
         guest: u32,
         payload: Payload,
         handle: u32,
     ) -> Result<(), StoreError>
-        requires fits { Fits self.old (tells_of writer_tells reader_tells hosts.old) }
-        ensures meets { MeetsHosted self.old self.new (tells_of writer_tells reader_tells hosts.old)
-            (tells_of writer_tells reader_tells hosts.new) (replied (λ _. replies.Done) result)
+        requires fits { Fits self.old (H.tells hosts.old) }
+        ensures meets { MeetsHosted self.old self.new (H.tells hosts.old) (H.tells hosts.new)
+            (replied (λ _. replies.Done) result)
             (act_of (steps.DropWrite guest (index.Future payload) handle)) }
         ensures takes_no_memory { result ≢ Err StoreError.OutOfMemory }
     {

@@ -4,9 +4,7 @@
 //! `StreamReader::new`, `FutureReader::new`, and the drops of ends; `feed` and `grant` are ours.
 
 ghost use Rattle.std.specs.Prelude.{◌≡◌, ◌<◌, ◌≤◌, ◌↔◌, ◌++◌, ◌∷◌, [], false, length, slice_set, Ok, Err, IsTrue, OnOk, OnErr, IfOk};
-ghost use Rattle.strm_buffers.specs.AllTells.{tells_of};
 ghost use Rattle.strm_machine.specs.State.{host_limit, stream_limit, idle_end, producer_at, no_producer, consumer_at, stream_at, is_host};
-ghost use Rattle.strm_machine.specs.Sides.{opposite, end_of};
 ghost use Rattle.strm_machine.specs.declared.acts.Act.TheVariants.{OnHost};
 ghost use Rattle.strm_machine.specs.declared.acts.HostAct.TheVariants as host_acts;
 ghost use Rattle.strm_machine.specs.declared.replies.Reply.TheVariants as replies;
@@ -20,12 +18,13 @@ ghost use Rattle.strm_transmit.specs.Inside.{AreServed};
 ghost use Rattle.strm_transmit.specs.Keeping.{HasGrown, PlaceMade};
 ghost use Rattle.strm_transmit.specs.Meets.{replied, or_found};
 ghost use Rattle.strm_transmit.specs.Hosted.{FitsAt, forsaken_in, MeetsHosted};
+ghost use Rattle.strm_transmit.specs.Turning.{across};
 
 use crate::errors::StoreError;
+use crate::host_ends::HostEnds;
 use crate::store::Store;
 use crate::store::moves::same_kind;
 use std::alloc::Global;
-use strm_buffers::hosts::Hosts;
 use strm_buffers::items::Items;
 use strm_channels::channels::Channel;
 use strm_codes::codes::TransmitKind;
@@ -46,8 +45,8 @@ pub(crate) fn is_unknown_host(count: usize, host: u32) -> bool
 }
 
 // Whether a host writer is there, with a stream's kind and payload.
-fn writes(hosts: &Hosts, number: usize, stream: &Channel) -> bool
-    ensures { IsTrue result ↔ FitsWriter stream.now (tells_of writer_tells reader_tells hosts.now) number }
+fn writes<H: HostEnds>(hosts: &H, number: usize, stream: &Channel) -> bool
+    ensures { IsTrue result ↔ FitsWriter stream.now (H.tells hosts.now) number }
 {
     if number >= hosts.count_writers() {
         return false;
@@ -58,8 +57,8 @@ fn writes(hosts: &Hosts, number: usize, stream: &Channel) -> bool
 }
 
 // Whether a host reader is there, with a stream's kind and payload.
-fn reads(hosts: &Hosts, number: usize, stream: &Channel) -> bool
-    ensures { IsTrue result ↔ FitsReader stream.now (tells_of writer_tells reader_tells hosts.now) number }
+fn reads<H: HostEnds>(hosts: &H, number: usize, stream: &Channel) -> bool
+    ensures { IsTrue result ↔ FitsReader stream.now (H.tells hosts.now) number }
 {
     if number >= hosts.count_readers() {
         return false;
@@ -114,9 +113,9 @@ impl Store {
     }
 
     // Whether a host writer is there, with its stream's kind and payload, if it has one.
-    fn fits_writer(&self, hosts: &Hosts, number: usize) -> bool
+    fn fits_writer<H: HostEnds>(&self, hosts: &H, number: usize) -> bool
         requires { number < host_limit }
-        ensures { IsTrue result ↔ FitsAt Writing self.now (tells_of writer_tells reader_tells hosts.now) number }
+        ensures { IsTrue result ↔ FitsAt Writing self.now (H.tells hosts.now) number }
     {
         match self.producers[number].duty {
             Duty::Serves { stream } => writes(hosts, number, self.stream(stream)),
@@ -125,9 +124,9 @@ impl Store {
     }
 
     // The same of a host reader.
-    fn fits_reader(&self, hosts: &Hosts, number: usize) -> bool
+    fn fits_reader<H: HostEnds>(&self, hosts: &H, number: usize) -> bool
         requires { number < host_limit }
-        ensures { IsTrue result ↔ FitsAt Reading self.now (tells_of writer_tells reader_tells hosts.now) number }
+        ensures { IsTrue result ↔ FitsAt Reading self.now (H.tells hosts.now) number }
     {
         match self.consumers[number].duty {
             Duty::Serves { stream } => reads(hosts, number, self.stream(stream)),
@@ -136,8 +135,8 @@ impl Store {
     }
 
     /// Whether each host end in use is in the list, with its stream's kind and payload.
-    pub fn fits(&self, hosts: &Hosts) -> bool
-        ensures { IsTrue result ↔ Fits self.now (tells_of writer_tells reader_tells hosts.now) }
+    pub fn fits<H: HostEnds>(&self, hosts: &H) -> bool
+        ensures { IsTrue result ↔ Fits self.now (H.tells hosts.now) }
     {
         self.served();
         for number in 0..MOST_HOSTS {
@@ -152,9 +151,10 @@ impl Store {
     }
 
     // Whether a host writer may get a stream.
-    fn host_fits(&self, hosts: &Hosts, writer: u32) -> Result<(), Refusal>
-        ensures { (logs : Logs) → result ≡ or_found (refusal_in
-            (world_of self.now (tells_of writer_tells reader_tells hosts.now) logs) (OnHost writer host_acts.New)) tt }
+    fn host_fits<H: HostEnds>(&self, hosts: &H, writer: u32) -> Result<(), Refusal>
+        ensures { (logs : Logs) → result ≡ or_found
+            (refusal_in (world_of self.now (H.tells hosts.now) logs) (OnHost writer host_acts.New))
+            tt }
     {
         if is_unknown_host(hosts.count_writers(), writer) {
             return Err(Refusal::UnknownHost);
@@ -211,11 +211,10 @@ impl Store {
 
     /// A stream or future that a host writer writes, of its kind and payload: the read end is loose,
     /// and the answer is the stream's number. Refused: UnknownHost, HostUsed, Full. OutOfMemory.
-    pub fn host_new(&mut self, hosts: &Hosts, writer: u32) -> Result<u32, StoreError>
-        requires fits { Fits self.old (tells_of writer_tells reader_tells hosts.now) }
-        ensures meets { MeetsHosted self.old self.new (tells_of writer_tells reader_tells hosts.now)
-            (tells_of writer_tells reader_tells hosts.now) (replied replies.Number result)
-            (OnHost writer host_acts.New) }
+    pub fn host_new<H: HostEnds>(&mut self, hosts: &H, writer: u32) -> Result<u32, StoreError>
+        requires fits { Fits self.old (H.tells hosts.now) }
+        ensures meets { MeetsHosted self.old self.new (H.tells hosts.now) (H.tells hosts.now)
+            (replied replies.Number result) (OnHost writer host_acts.New) }
     {
         self.served();
         self.admit(self.host_fits(hosts, writer))?;
@@ -230,10 +229,10 @@ impl Store {
     }
 
     // Whether there is a host writer of this number.
-    fn feed_fits(&self, hosts: &Hosts, host: u32, bytes: &Chunk) -> Result<(), Refusal>
+    fn feed_fits<H: HostEnds>(&self, hosts: &H, host: u32, bytes: &Chunk) -> Result<(), Refusal>
         ensures { (logs : Logs) → result ≡ or_found (refusal_in
-            (world_of self.now (tells_of writer_tells reader_tells hosts.now) logs)
-            (OnHost host (host_acts.Feed bytes.now))) tt }
+            (world_of self.now (H.tells hosts.now) logs) (OnHost host (host_acts.Feed bytes.now)))
+            tt }
     {
         if is_unknown_host(hosts.count_writers(), host) {
             return Err(Refusal::UnknownHost);
@@ -242,11 +241,15 @@ impl Store {
     }
 
     /// Passes on bytes from outside to a host writer. Refused: UnknownHost. OutOfMemory.
-    pub fn feed(&self, hosts: &mut Hosts, host: u32, bytes: &Chunk) -> Result<(), StoreError>
-        requires fits { Fits self.now (tells_of writer_tells reader_tells hosts.old) }
-        ensures meets { MeetsHosted self.now self.now (tells_of writer_tells reader_tells hosts.old)
-            (tells_of writer_tells reader_tells hosts.new) (replied (λ _. replies.Done) result)
-            (OnHost host (host_acts.Feed bytes.now)) }
+    pub fn feed<H: HostEnds>(
+        &self,
+        hosts: &mut H,
+        host: u32,
+        bytes: &Chunk,
+    ) -> Result<(), StoreError>
+        requires fits { Fits self.now (H.tells hosts.old) }
+        ensures meets { MeetsHosted self.now self.now (H.tells hosts.old) (H.tells hosts.new)
+            (replied (λ _. replies.Done) result) (OnHost host (host_acts.Feed bytes.now)) }
     {
         self.admit(self.feed_fits(hosts, host, bytes))?;
         match hosts.feed(host as usize, bytes.as_slice()) {
@@ -256,10 +259,9 @@ impl Store {
     }
 
     // Whether there is a host reader of this number.
-    fn grant_fits(&self, hosts: &Hosts, host: u32, count: u32) -> Result<(), Refusal>
+    fn grant_fits<H: HostEnds>(&self, hosts: &H, host: u32, count: u32) -> Result<(), Refusal>
         ensures { (logs : Logs) → result ≡ or_found (refusal_in
-            (world_of self.now (tells_of writer_tells reader_tells hosts.now) logs)
-            (OnHost host (host_acts.Grant count))) tt }
+            (world_of self.now (H.tells hosts.now) logs) (OnHost host (host_acts.Grant count))) tt }
     {
         if is_unknown_host(hosts.count_readers(), host) {
             return Err(Refusal::UnknownHost);
@@ -269,11 +271,10 @@ impl Store {
 
     /// Passes on to a host reader that it may take `count` items more. Refused: UnknownHost.
     /// OutOfMemory.
-    pub fn grant(&self, hosts: &mut Hosts, host: u32, count: u32) -> Result<(), StoreError>
-        requires fits { Fits self.now (tells_of writer_tells reader_tells hosts.old) }
-        ensures meets { MeetsHosted self.now self.now (tells_of writer_tells reader_tells hosts.old)
-            (tells_of writer_tells reader_tells hosts.new) (replied (λ _. replies.Done) result)
-            (OnHost host (host_acts.Grant count)) }
+    pub fn grant<H: HostEnds>(&self, hosts: &mut H, host: u32, count: u32) -> Result<(), StoreError>
+        requires fits { Fits self.now (H.tells hosts.old) }
+        ensures meets { MeetsHosted self.now self.now (H.tells hosts.old) (H.tells hosts.new)
+            (replied (λ _. replies.Done) result) (OnHost host (host_acts.Grant count)) }
     {
         self.admit(self.grant_fits(hosts, host, count))?;
         match hosts.grant(host as usize, count) {
@@ -307,16 +308,16 @@ impl Store {
     }
 
     // A stream lost its read end: a host writer on the other side goes too, and is closed.
-    fn forsake_writer(&mut self, hosts: &mut Hosts, stream: u32)
+    fn forsake_writer<H: HostEnds>(&mut self, hosts: &mut H, stream: u32)
         requires there { stream < length self.old.streams }
-        requires fits { Fits self.old (tells_of writer_tells reader_tells hosts.old) }
-        ensures does { Does self.old self.new (tells_of writer_tells reader_tells hosts.old)
-            (tells_of writer_tells reader_tells hosts.new) (Ok replies.Done)
-            (λ world. done (forsaken_in world stream Reading)) }
-        ensures fits { Fits self.new (tells_of writer_tells reader_tells hosts.new) }
-        ensures alone { is_host (stream_at self.old stream).writer.owner ≡ false → self.new ≡ self.old }
-        ensures untold { is_host (stream_at self.old stream).writer.owner ≡ false →
-            tells_of writer_tells reader_tells hosts.new ≡ tells_of writer_tells reader_tells hosts.old }
+        requires fits { Fits self.old (H.tells hosts.old) }
+        ensures does { Does self.old self.new (H.tells hosts.old) (H.tells hosts.new)
+            (Ok replies.Done) (λ world. done (forsaken_in world stream Reading)) }
+        ensures fits { Fits self.new (H.tells hosts.new) }
+        ensures alone { is_host (stream_at self.old stream).writer.owner ≡ false → self.new
+            ≡ self.old }
+        ensures untold { is_host (stream_at self.old stream).writer.owner ≡ false
+            → H.tells hosts.new ≡ H.tells hosts.old }
     {
         self.served();
         if let Owner::Host { number } = self.stream(stream).owner(Side::Writing) {
@@ -327,16 +328,16 @@ impl Store {
     }
 
     // A stream lost its write end: a host reader on the other side goes too, and is closed.
-    fn forsake_reader(&mut self, hosts: &mut Hosts, stream: u32)
+    fn forsake_reader<H: HostEnds>(&mut self, hosts: &mut H, stream: u32)
         requires there { stream < length self.old.streams }
-        requires fits { Fits self.old (tells_of writer_tells reader_tells hosts.old) }
-        ensures does { Does self.old self.new (tells_of writer_tells reader_tells hosts.old)
-            (tells_of writer_tells reader_tells hosts.new) (Ok replies.Done)
-            (λ world. done (forsaken_in world stream Writing)) }
-        ensures fits { Fits self.new (tells_of writer_tells reader_tells hosts.new) }
-        ensures alone { is_host (stream_at self.old stream).reader.owner ≡ false → self.new ≡ self.old }
-        ensures untold { is_host (stream_at self.old stream).reader.owner ≡ false →
-            tells_of writer_tells reader_tells hosts.new ≡ tells_of writer_tells reader_tells hosts.old }
+        requires fits { Fits self.old (H.tells hosts.old) }
+        ensures does { Does self.old self.new (H.tells hosts.old) (H.tells hosts.new)
+            (Ok replies.Done) (λ world. done (forsaken_in world stream Writing)) }
+        ensures fits { Fits self.new (H.tells hosts.new) }
+        ensures alone { is_host (stream_at self.old stream).reader.owner ≡ false → self.new
+            ≡ self.old }
+        ensures untold { is_host (stream_at self.old stream).reader.owner ≡ false
+            → H.tells hosts.new ≡ H.tells hosts.old }
     {
         self.served();
         if let Owner::Host { number } = self.stream(stream).owner(Side::Reading) {
@@ -347,16 +348,15 @@ impl Store {
     }
 
     // A stream lost the end on a side: a host end on the other side goes too, and is closed.
-    pub(crate) fn forsake(&mut self, hosts: &mut Hosts, stream: u32, side: Side)
+    pub(crate) fn forsake<H: HostEnds>(&mut self, hosts: &mut H, stream: u32, side: Side)
         requires there { stream < length self.old.streams }
-        requires fits { Fits self.old (tells_of writer_tells reader_tells hosts.old) }
-        ensures does { Does self.old self.new (tells_of writer_tells reader_tells hosts.old)
-            (tells_of writer_tells reader_tells hosts.new) (Ok replies.Done)
-            (λ world. done (forsaken_in world stream side)) }
-        ensures fits { Fits self.new (tells_of writer_tells reader_tells hosts.new) }
-        ensures alone { is_host (end_of (opposite side) (stream_at self.old stream)).owner ≡ false → self.new ≡ self.old }
-        ensures untold { is_host (end_of (opposite side) (stream_at self.old stream)).owner ≡ false →
-            tells_of writer_tells reader_tells hosts.new ≡ tells_of writer_tells reader_tells hosts.old }
+        requires fits { Fits self.old (H.tells hosts.old) }
+        ensures does { Does self.old self.new (H.tells hosts.old) (H.tells hosts.new)
+            (Ok replies.Done) (λ world. done (forsaken_in world stream side)) }
+        ensures fits { Fits self.new (H.tells hosts.new) }
+        ensures alone { is_host (across self.old side stream).owner ≡ false → self.new ≡ self.old }
+        ensures untold { is_host (across self.old side stream).owner ≡ false → H.tells hosts.new
+            ≡ H.tells hosts.old }
     {
         match side {
             Side::Reading => self.forsake_writer(hosts, stream),

@@ -6,7 +6,6 @@
 
 ghost use Rattle.std.specs.Prelude.{◌≡◌, ◌≢◌, ◌<◌, false, length, Err, None};
 ghost use Rattle.strm_codes.specs.declared.codes.TransmitIndex.TheVariants as index;
-ghost use Rattle.strm_buffers.specs.AllTells.{tells_of};
 ghost use Rattle.strm_machine.specs.Acts.{act_of};
 ghost use Rattle.strm_machine.specs.State.{stream_at, is_held, is_host};
 ghost use Rattle.strm_machine.specs.Sides.{end_of};
@@ -25,9 +24,9 @@ ghost use Rattle.strm_transmit.specs.Meets.{Meets, replied, or_found};
 ghost use Rattle.strm_transmit.specs.Hosted.{StillFits, MeetsHosted};
 
 use crate::errors::StoreError;
+use crate::host_ends::HostEnds;
 use crate::store::Store;
 use crate::telling::{home_of, leave, retell};
-use strm_buffers::hosts::Hosts;
 use strm_channels::ends::{give_end, move_end, remove_end};
 use strm_channels::owners::set_owner;
 use strm_codes::codes::{TransmitIndex, TransmitKind};
@@ -339,11 +338,10 @@ impl Store {
 
     /// Drops the loose read end of a stream or future, by the stream's number; a stream whose both ends
     /// are gone is removed at once. Refused: UnknownReader.
-    pub fn close(&mut self, hosts: &mut Hosts, reader: u32) -> Result<(), StoreError>
-        requires fits { Fits self.old (tells_of writer_tells reader_tells hosts.old) }
-        ensures meets { MeetsHosted self.old self.new (tells_of writer_tells reader_tells hosts.old)
-            (tells_of writer_tells reader_tells hosts.new) (replied (λ _. replies.Done) result)
-            (act_of (steps.Close reader)) }
+    pub fn close<H: HostEnds>(&mut self, hosts: &mut H, reader: u32) -> Result<(), StoreError>
+        requires fits { Fits self.old (H.tells hosts.old) }
+        ensures meets { MeetsHosted self.old self.new (H.tells hosts.old) (H.tells hosts.new)
+            (replied (λ _. replies.Done) result) (act_of (steps.Close reader)) }
         ensures takes_no_memory { result ≢ Err StoreError.OutOfMemory }
     {
         self.sound();

@@ -4,34 +4,31 @@
 //! `canon stream.{read,write}` and `canon future.{read,write}`; wasmtime, `guest_read` and
 //! `guest_write`.
 
-ghost use Rattle.std.specs.Prelude.{◌≡◌, ◌≢◌, ◌<◌, ◌↔◌, length, true, false, Err, None, IfOk, OnOk, IfSome, IfNone, IsTrue, IsErr};
+ghost use Rattle.std.specs.Prelude.{◌≡◌, ◌≢◌, ◌<◌, ◌↔◌, length, true, false, Err, None, IfOk, OnOk, IfSome, IfNone, IsErr};
 ghost use Rattle.strm_codes.specs.Types.{payload_of};
 ghost use Rattle.strm_codes.specs.declared.codes.TransmitIndex.TheVariants as index;
-ghost use Rattle.strm_memory.specs.Items.{is_number_or_none};
-ghost use Rattle.strm_buffers.specs.AllTells.{tells_of};
 ghost use Rattle.strm_machine.specs.Acts.{act_of};
 ghost use Rattle.strm_machine.specs.State.{stream_at, is_host};
 ghost use Rattle.strm_machine.specs.Meetings.{begun};
 ghost use Rattle.strm_machine.specs.Sides.{opposite, end_of};
-ghost use Rattle.strm_machine.specs.Tests.{is_too_big, items_asked, named, stream_named, is_open_of};
+ghost use Rattle.strm_machine.specs.Tests.{is_too_big, items_asked, named, stream_named};
 ghost use Rattle.strm_machine.specs.Refusals.{first_of, region_reasons, refusal};
 ghost use Rattle.strm_machine.specs.Reactions.{on_stream, reaction};
-ghost use Rattle.strm_machine.specs.Soundness.{sizes_of, IsPlaced};
 ghost use Rattle.strm_machine.specs.declared.acts.Act.TheVariants.{OnEnd};
 ghost use Rattle.strm_machine.specs.declared.acts.EndAct.TheVariants.{Operate};
 ghost use Rattle.strm_machine.specs.declared.replies.Reply.TheVariants as replies;
 ghost use Rattle.strm_machine.specs.declared.steps.Step.TheVariants as steps;
 ghost use Rattle.strm_machine.specs.declared.streams.Owner.TheVariants.{Host};
 ghost use Rattle.strm_machine.specs.declared.streams.Side.TheVariants.{Writing, Reading};
-ghost use Rattle.strm_host_machine.specs.Steps.{may_poll};
 ghost use Rattle.strm_host_machine.specs.Does.{Fits};
 ghost use Rattle.strm_transmit.specs.Meets.{Meets, replied, or_found};
-ghost use Rattle.strm_transmit.specs.Hosted.{lone, IsHandedOver, MeetsHosted, StillFits};
+ghost use Rattle.strm_transmit.specs.Hosted.{MeetsHosted, StillFits, WantsOnlyPolling, WantsNoneHeld};
+ghost use Rattle.strm_transmit.specs.Turning.{across, IsPlacedOn, IsNumberWithin};
 
 use crate::errors::StoreError;
+use crate::host_ends::HostEnds;
 use crate::store::{Store, number_type};
 use crate::telling::retell;
-use strm_buffers::hosts::Hosts;
 use strm_channels::guests::memory;
 use strm_channels::meetings::{begin, meet_or_wait};
 use strm_channels::sides::opposite;
@@ -95,13 +92,12 @@ impl Store {
         ensures there { IfOk result (λ found. found.0 < length self.now.streams) }
         ensures idle { IfOk result (λ found.
             (end_of side (stream_at self.now found.0)).operation ≡ None) }
-        ensures placed { IfOk result (λ found. IsPlaced (sizes_of self.now.guests)
-            (stream_at self.now found.0).payload (begun end.now.guest address found.1)) }
+        ensures placed { IfOk result
+            (λ found. IsPlacedOn self.now found.0 (begun end.now.guest address found.1)) }
         ensures payload { IfOk result (λ found.
             (stream_at self.now found.0).payload ≡ payload_of end.now.ty) }
-        ensures numbers { IfOk result (λ found. IsTrue (is_open_of end.now.guest
-            (end_of (opposite side) (stream_at self.now found.0)).operation)
-            → IsTrue (is_number_or_none (stream_at self.now found.0).payload)) }
+        ensures numbers { IfOk result
+            (λ found. IsNumberWithin self.now side found.0 end.now.guest) }
     {
         match self.region(end, address, count) {
             Ok(items) => match self.found(side, end, EndAct::Operate { address, count }) {
@@ -116,8 +112,8 @@ impl Store {
     #[inline(always)]
     fn host_across(&self, side: Side, stream: u32) -> Option<u32>
         requires { stream < length self.now.streams }
-        ensures some { IfSome result (λ number. (end_of (opposite side) (stream_at self.now stream)).owner ≡ Host number) }
-        ensures none { IfNone result (is_host (end_of (opposite side) (stream_at self.now stream)).owner ≡ false) }
+        ensures some { IfSome result (λ number. (across self.now side stream).owner ≡ Host number) }
+        ensures none { IfNone result (is_host (across self.now side stream).owner ≡ false) }
     {
         match self.stream(stream).owner(opposite(side)) {
             Owner::Host { number } => Some(number),
@@ -138,9 +134,8 @@ impl Store {
         requires payload { payload.now ≡ (stream_at self.old stream).payload }
         requires idle { (end_of side (stream_at self.old stream)).operation ≡ None }
         requires begun { mine ≡ begun mine.guest mine.address mine.left }
-        requires mine { IsPlaced (sizes_of self.old.guests) (stream_at self.old stream).payload mine }
-        requires numbers { IsTrue (is_open_of mine.guest (end_of (opposite side) (stream_at self.old stream)).operation)
-            → IsTrue (is_number_or_none (stream_at self.old stream).payload) }
+        requires mine { IsPlacedOn self.old stream mine }
+        requires numbers { IsNumberWithin self.old side stream mine.guest }
         requires untrapped { self.old.trapped ≡ false }
         ensures meets { Meets self.old self.new (replied replies.Code result)
             (on_stream self.old stream side mine) }
@@ -170,10 +165,8 @@ impl Store {
     ) -> Result<ReturnCode, StoreError>
         requires there { stream < length self.old.streams }
         requires idle { (end_of side (stream_at self.old stream)).operation ≡ None }
-        requires mine { IsPlaced (sizes_of self.old.guests) (stream_at self.old stream).payload
-            (begun guest address count) }
-        requires numbers { IsTrue (is_open_of guest (end_of (opposite side) (stream_at self.old stream)).operation)
-            → IsTrue (is_number_or_none (stream_at self.old stream).payload) }
+        requires mine { IsPlacedOn self.old stream (begun guest address count) }
+        requires numbers { IsNumberWithin self.old side stream guest }
         requires untrapped { self.old.trapped ≡ false }
         ensures meets { Meets self.old self.new (replied replies.Code result)
             (on_stream self.old stream side (begun guest address count)) }
@@ -196,10 +189,8 @@ impl Store {
     ) -> Result<ReturnCode, StoreError>
         requires there { stream < length self.old.streams }
         requires idle { (end_of side (stream_at self.old stream)).operation ≡ None }
-        requires mine { IsPlaced (sizes_of self.old.guests) (stream_at self.old stream).payload
-            (begun guest address count) }
-        requires numbers { IsTrue (is_open_of guest (end_of (opposite side) (stream_at self.old stream)).operation)
-            → IsTrue (is_number_or_none (stream_at self.old stream).payload) }
+        requires mine { IsPlacedOn self.old stream (begun guest address count) }
+        requires numbers { IsNumberWithin self.old side stream guest }
         requires untrapped { self.old.trapped ≡ false }
         ensures meets { Meets self.old self.new (replied replies.Code result)
             (on_stream self.old stream side (begun guest address count)) }
@@ -210,22 +201,21 @@ impl Store {
 
     /// A read or write of the end that is named; a future's count is not looked at.
     #[inline(always)]
-    pub(crate) fn operate(
+    pub(crate) fn operate<H: HostEnds>(
         &mut self,
-        hosts: &mut Hosts,
+        hosts: &mut H,
         side: Side,
         end: &NamedEnd,
         address: u32,
         count: u32,
     ) -> Result<ReturnCode, StoreError>
-        requires fits { Fits self.old (tells_of writer_tells reader_tells hosts.old) }
-        ensures meets { MeetsHosted self.old self.new (tells_of writer_tells reader_tells hosts.old)
-            (tells_of writer_tells reader_tells hosts.new) (replied replies.Code result)
-            (OnEnd side end.now (Operate address count)) }
-        ensures takes_no_memory { may_poll (lone self.old) (OnEnd side end.now (Operate address count)) ≡ false
-            → result ≢ Err StoreError.OutOfMemory }
-        ensures held { IsHandedOver self.old (tells_of writer_tells reader_tells hosts.old)
-            (OnEnd side end.now (Operate address count)) → result ≢ Err StoreError.OutOfMemory }
+        requires fits { Fits self.old (H.tells hosts.old) }
+        ensures meets { MeetsHosted self.old self.new (H.tells hosts.old) (H.tells hosts.new)
+            (replied replies.Code result) (OnEnd side end.now (Operate address count)) }
+        ensures takes_no_memory { WantsOnlyPolling self.old
+            (OnEnd side end.now (Operate address count)) result }
+        ensures held { WantsNoneHeld self.old (H.tells hosts.old)
+            (OnEnd side end.now (Operate address count)) result }
     {
         match number_type(end.ty) {
             Some(ty) => {
@@ -238,22 +228,21 @@ impl Store {
 
     // The same of any payload. Inlined, so that the end is copied there alone.
     #[inline(always)]
-    fn operate_any(
+    fn operate_any<H: HostEnds>(
         &mut self,
-        hosts: &mut Hosts,
+        hosts: &mut H,
         side: Side,
         end: &NamedEnd,
         address: u32,
         count: u32,
     ) -> Result<ReturnCode, StoreError>
-        requires fits { Fits self.old (tells_of writer_tells reader_tells hosts.old) }
-        ensures meets { MeetsHosted self.old self.new (tells_of writer_tells reader_tells hosts.old)
-            (tells_of writer_tells reader_tells hosts.new) (replied replies.Code result)
-            (OnEnd side end.now (Operate address count)) }
-        ensures takes_no_memory { may_poll (lone self.old) (OnEnd side end.now (Operate address count)) ≡ false
-            → result ≢ Err StoreError.OutOfMemory }
-        ensures held { IsHandedOver self.old (tells_of writer_tells reader_tells hosts.old)
-            (OnEnd side end.now (Operate address count)) → result ≢ Err StoreError.OutOfMemory }
+        requires fits { Fits self.old (H.tells hosts.old) }
+        ensures meets { MeetsHosted self.old self.new (H.tells hosts.old) (H.tells hosts.new)
+            (replied replies.Code result) (OnEnd side end.now (Operate address count)) }
+        ensures takes_no_memory { WantsOnlyPolling self.old
+            (OnEnd side end.now (Operate address count)) result }
+        ensures held { WantsNoneHeld self.old (H.tells hosts.old)
+            (OnEnd side end.now (Operate address count)) result }
     {
         self.operate_apart(hosts, side, *end, address, count)
     }
@@ -261,44 +250,42 @@ impl Store {
     // The same, apart from the code for plain numbers. The end comes by value, so that where numbers move
     // it lies in registers.
     #[inline(never)]
-    fn operate_apart(
+    fn operate_apart<H: HostEnds>(
         &mut self,
-        hosts: &mut Hosts,
+        hosts: &mut H,
         side: Side,
         end: NamedEnd,
         address: u32,
         count: u32,
     ) -> Result<ReturnCode, StoreError>
-        requires fits { Fits self.old (tells_of writer_tells reader_tells hosts.old) }
-        ensures meets { MeetsHosted self.old self.new (tells_of writer_tells reader_tells hosts.old)
-            (tells_of writer_tells reader_tells hosts.new) (replied replies.Code result)
-            (OnEnd side end (Operate address count)) }
-        ensures takes_no_memory { may_poll (lone self.old) (OnEnd side end (Operate address count)) ≡ false
-            → result ≢ Err StoreError.OutOfMemory }
-        ensures held { IsHandedOver self.old (tells_of writer_tells reader_tells hosts.old)
-            (OnEnd side end (Operate address count)) → result ≢ Err StoreError.OutOfMemory }
+        requires fits { Fits self.old (H.tells hosts.old) }
+        ensures meets { MeetsHosted self.old self.new (H.tells hosts.old) (H.tells hosts.new)
+            (replied replies.Code result) (OnEnd side end (Operate address count)) }
+        ensures takes_no_memory { WantsOnlyPolling self.old (OnEnd side end (Operate address count))
+            result }
+        ensures held { WantsNoneHeld self.old (H.tells hosts.old)
+            (OnEnd side end (Operate address count)) result }
     {
         self.operate_here(hosts, side, &end, address, count)
     }
 
     // The same, inlined, and so without tests of the payload where its form is known.
     #[inline(always)]
-    fn operate_here(
+    fn operate_here<H: HostEnds>(
         &mut self,
-        hosts: &mut Hosts,
+        hosts: &mut H,
         side: Side,
         end: &NamedEnd,
         address: u32,
         count: u32,
     ) -> Result<ReturnCode, StoreError>
-        requires fits { Fits self.old (tells_of writer_tells reader_tells hosts.old) }
-        ensures meets { MeetsHosted self.old self.new (tells_of writer_tells reader_tells hosts.old)
-            (tells_of writer_tells reader_tells hosts.new) (replied replies.Code result)
-            (OnEnd side end.now (Operate address count)) }
-        ensures takes_no_memory { may_poll (lone self.old) (OnEnd side end.now (Operate address count)) ≡ false
-            → result ≢ Err StoreError.OutOfMemory }
-        ensures held { IsHandedOver self.old (tells_of writer_tells reader_tells hosts.old)
-            (OnEnd side end.now (Operate address count)) → result ≢ Err StoreError.OutOfMemory }
+        requires fits { Fits self.old (H.tells hosts.old) }
+        ensures meets { MeetsHosted self.old self.new (H.tells hosts.old) (H.tells hosts.new)
+            (replied replies.Code result) (OnEnd side end.now (Operate address count)) }
+        ensures takes_no_memory { WantsOnlyPolling self.old
+            (OnEnd side end.now (Operate address count)) result }
+        ensures held { WantsNoneHeld self.old (H.tells hosts.old)
+            (OnEnd side end.now (Operate address count)) result }
     {
         self.sound();
         self.served();
@@ -399,24 +386,23 @@ impl Store {
     /// Refused: UnknownGuest, StreamOpTooBig, OutOfBounds, NotAligned, UnknownHandle, WrongKind,
     /// WrongType, ConcurrentFutureStreamOp, ReadFromDroppedStream, IntraComponent. BadItem; of a host
     /// writer that is polled HostFailed, HostBroke and OutOfMemory.
-    pub fn stream_read(
+    pub fn stream_read<H: HostEnds>(
         &mut self,
-        hosts: &mut Hosts,
+        hosts: &mut H,
         guest: u32,
         payload: Payload,
         handle: u32,
         address: u32,
         count: u32,
     ) -> Result<ReturnCode, StoreError>
-        requires fits { Fits self.old (tells_of writer_tells reader_tells hosts.old) }
-        ensures meets { MeetsHosted self.old self.new (tells_of writer_tells reader_tells hosts.old)
-            (tells_of writer_tells reader_tells hosts.new) (replied replies.Code result)
+        requires fits { Fits self.old (H.tells hosts.old) }
+        ensures meets { MeetsHosted self.old self.new (H.tells hosts.old) (H.tells hosts.new)
+            (replied replies.Code result)
             (act_of (steps.Read guest (index.Stream payload) handle address count)) }
-        ensures takes_no_memory { may_poll (lone self.old) (act_of (steps.Read guest (index.Stream payload) handle address count)) ≡ false
-            → result ≢ Err StoreError.OutOfMemory }
-        ensures held { IsHandedOver self.old (tells_of writer_tells reader_tells hosts.old)
-            (act_of (steps.Read guest (index.Stream payload) handle address count))
-            → result ≢ Err StoreError.OutOfMemory }
+        ensures takes_no_memory { WantsOnlyPolling self.old
+            (act_of (steps.Read guest (index.Stream payload) handle address count)) result }
+        ensures held { WantsNoneHeld self.old (H.tells hosts.old)
+            (act_of (steps.Read guest (index.Stream payload) handle address count)) result }
     {
         let ty = TransmitIndex::Stream(payload);
         let end = NamedEnd { guest, ty, handle };
@@ -428,21 +414,21 @@ impl Store {
     /// StreamOpTooBig, OutOfBounds, NotAligned, UnknownHandle, WrongKind, WrongType,
     /// ConcurrentFutureStreamOp, WriteToDroppedStream, IntraComponent. Errors as of `stream_read`, of a
     /// host reader.
-    pub fn stream_write(
+    pub fn stream_write<H: HostEnds>(
         &mut self,
-        hosts: &mut Hosts,
+        hosts: &mut H,
         guest: u32,
         payload: Payload,
         handle: u32,
         address: u32,
         count: u32,
     ) -> Result<ReturnCode, StoreError>
-        requires fits { Fits self.old (tells_of writer_tells reader_tells hosts.old) }
-        ensures meets { MeetsHosted self.old self.new (tells_of writer_tells reader_tells hosts.old)
-            (tells_of writer_tells reader_tells hosts.new) (replied replies.Code result)
+        requires fits { Fits self.old (H.tells hosts.old) }
+        ensures meets { MeetsHosted self.old self.new (H.tells hosts.old) (H.tells hosts.new)
+            (replied replies.Code result)
             (act_of (steps.Write guest (index.Stream payload) handle address count)) }
-        ensures takes_no_memory { may_poll (lone self.old) (act_of (steps.Write guest (index.Stream payload) handle address count)) ≡ false
-            → result ≢ Err StoreError.OutOfMemory }
+        ensures takes_no_memory { WantsOnlyPolling self.old
+            (act_of (steps.Write guest (index.Stream payload) handle address count)) result }
     {
         let ty = TransmitIndex::Stream(payload);
         let end = NamedEnd { guest, ty, handle };
@@ -452,23 +438,22 @@ impl Store {
     /// Reads a future's value, to `address` in the guest's memory. `canon future.read`. Refused:
     /// UnknownGuest, OutOfBounds, NotAligned, UnknownHandle, WrongKind, WrongType,
     /// ConcurrentFutureStreamOp, FutureAlreadyRead, IntraComponent. Errors as of `stream_read`.
-    pub fn future_read(
+    pub fn future_read<H: HostEnds>(
         &mut self,
-        hosts: &mut Hosts,
+        hosts: &mut H,
         guest: u32,
         payload: Payload,
         handle: u32,
         address: u32,
     ) -> Result<ReturnCode, StoreError>
-        requires fits { Fits self.old (tells_of writer_tells reader_tells hosts.old) }
-        ensures meets { MeetsHosted self.old self.new (tells_of writer_tells reader_tells hosts.old)
-            (tells_of writer_tells reader_tells hosts.new) (replied replies.Code result)
+        requires fits { Fits self.old (H.tells hosts.old) }
+        ensures meets { MeetsHosted self.old self.new (H.tells hosts.old) (H.tells hosts.new)
+            (replied replies.Code result)
             (act_of (steps.Read guest (index.Future payload) handle address 1)) }
-        ensures takes_no_memory { may_poll (lone self.old) (act_of (steps.Read guest (index.Future payload) handle address 1)) ≡ false
-            → result ≢ Err StoreError.OutOfMemory }
-        ensures held { IsHandedOver self.old (tells_of writer_tells reader_tells hosts.old)
-            (act_of (steps.Read guest (index.Future payload) handle address 1))
-            → result ≢ Err StoreError.OutOfMemory }
+        ensures takes_no_memory { WantsOnlyPolling self.old
+            (act_of (steps.Read guest (index.Future payload) handle address 1)) result }
+        ensures held { WantsNoneHeld self.old (H.tells hosts.old)
+            (act_of (steps.Read guest (index.Future payload) handle address 1)) result }
     {
         let ty = TransmitIndex::Future(payload);
         let end = NamedEnd { guest, ty, handle };
@@ -478,20 +463,20 @@ impl Store {
     /// Writes a future's value, from `address` in the guest's memory. `canon future.write`. Refused:
     /// UnknownGuest, OutOfBounds, NotAligned, UnknownHandle, WrongKind, WrongType,
     /// ConcurrentFutureStreamOp, WriteToDroppedFuture, IntraComponent. Errors as of `stream_write`.
-    pub fn future_write(
+    pub fn future_write<H: HostEnds>(
         &mut self,
-        hosts: &mut Hosts,
+        hosts: &mut H,
         guest: u32,
         payload: Payload,
         handle: u32,
         address: u32,
     ) -> Result<ReturnCode, StoreError>
-        requires fits { Fits self.old (tells_of writer_tells reader_tells hosts.old) }
-        ensures meets { MeetsHosted self.old self.new (tells_of writer_tells reader_tells hosts.old)
-            (tells_of writer_tells reader_tells hosts.new) (replied replies.Code result)
+        requires fits { Fits self.old (H.tells hosts.old) }
+        ensures meets { MeetsHosted self.old self.new (H.tells hosts.old) (H.tells hosts.new)
+            (replied replies.Code result)
             (act_of (steps.Write guest (index.Future payload) handle address 1)) }
-        ensures takes_no_memory { may_poll (lone self.old) (act_of (steps.Write guest (index.Future payload) handle address 1)) ≡ false
-            → result ≢ Err StoreError.OutOfMemory }
+        ensures takes_no_memory { WantsOnlyPolling self.old
+            (act_of (steps.Write guest (index.Future payload) handle address 1)) result }
     {
         let ty = TransmitIndex::Future(payload);
         let end = NamedEnd { guest, ty, handle };

@@ -4,7 +4,6 @@
 //! `StreamReader::pipe` and `FutureReader::pipe`.
 
 ghost use Rattle.std.specs.Prelude.{◌≡◌, ◌≢◌, ◌<◌, true, false, Err, length, Ok, Some};
-ghost use Rattle.strm_buffers.specs.AllTells.{tells_of};
 ghost use Rattle.strm_machine.specs.State.{host_limit, consumer_at, stream_at, is_held, is_loose};
 ghost use Rattle.strm_machine.specs.Refusals.{first_of, reader_reasons};
 ghost use Rattle.strm_machine.specs.Reactions.{with_stream_at};
@@ -14,7 +13,6 @@ ghost use Rattle.strm_machine.specs.declared.acts.HostAct.TheVariants.{Pipe};
 ghost use Rattle.strm_machine.specs.declared.replies.Reply.TheVariants as replies;
 ghost use Rattle.strm_machine.specs.declared.streams.Duty.TheVariants.{Unused, Serves};
 ghost use Rattle.strm_machine.specs.Sides.{end_of};
-ghost use Rattle.strm_machine.specs.declared.streams.Owner.TheVariants.{Loose};
 ghost use Rattle.strm_machine.specs.declared.streams.Side.{Side};
 ghost use Rattle.strm_host_machine.specs.Attaching.{is_dry, without_ends, pipes};
 ghost use Rattle.strm_host_machine.specs.HostRefusals.{refusal_in};
@@ -24,11 +22,11 @@ ghost use Rattle.strm_transmit.specs.Hosted.{MeetsHosted};
 ghost use Rattle.strm_transmit.specs.Piping.{PipeFits, report_withdrawn, handed_to, EndsPipe};
 
 use crate::errors::StoreError;
+use crate::host_ends::HostEnds;
 use crate::store::hosting::is_unknown_host;
 use crate::store::moves::same_kind;
 use crate::store::{Store, type_with};
 use crate::telling::retell;
-use strm_buffers::hosts::Hosts;
 use strm_channels::channels::Channel;
 use strm_channels::owners::set_owner;
 use strm_codes::codes::TransmitIndex;
@@ -65,10 +63,10 @@ impl Store {
     }
 
     // Whether the loose read end of a stream may go to a host reader.
-    fn pipe_fits(&self, hosts: &Hosts, stream: u32, host: u32) -> Result<(), Refusal>
-        ensures { (logs : Logs) → result ≡ or_found (refusal_in
-            (world_of self.now (tells_of writer_tells reader_tells hosts.now) logs)
-            (OnHost host (Pipe stream))) tt }
+    fn pipe_fits<H: HostEnds>(&self, hosts: &H, stream: u32, host: u32) -> Result<(), Refusal>
+        ensures { (logs : Logs) → result ≡ or_found
+            (refusal_in (world_of self.now (H.tells hosts.now) logs) (OnHost host (Pipe stream)))
+            tt }
     {
         if is_unknown_host(hosts.count_readers(), host) {
             return Err(Refusal::UnknownHost);
@@ -87,7 +85,8 @@ impl Store {
     // The report of a stream's write is withdrawn, if that is open.
     fn withdraw_report(&mut self, stream: u32)
         requires { stream < length self.old.streams }
-        ensures { self.new ≡ with_stream_at self.old stream (report_withdrawn (stream_at self.old stream)) }
+        ensures { self.new
+            ≡ with_stream_at self.old stream (report_withdrawn (stream_at self.old stream)) }
     {
         let meeting = &mut self.streams[stream as usize];
         withdraw(meeting);
@@ -118,11 +117,10 @@ impl Store {
     }
 
     // Whether nothing comes any more from a stream's write end.
-    fn is_dry(&self, hosts: &Hosts, stream: u32) -> bool
+    fn is_dry<H: HostEnds>(&self, hosts: &H, stream: u32) -> bool
         requires there { stream < length self.now.streams }
-        requires fits { Fits self.now (tells_of writer_tells reader_tells hosts.now) }
-        ensures { (logs : Logs) → result
-            ≡ is_dry (world_of self.now (tells_of writer_tells reader_tells hosts.now) logs)
+        requires fits { Fits self.now (H.tells hosts.now) }
+        ensures { (logs : Logs) → result ≡ is_dry (world_of self.now (H.tells hosts.now) logs)
             (stream_at self.now stream).writer.owner }
     {
         self.served();
@@ -139,22 +137,24 @@ impl Store {
     // Both ends of a stream are gone.
     pub(crate) fn end_stream(&mut self, stream: u32)
         requires there { stream < length self.old.streams }
-        requires unheld { (side : Side) → is_held (end_of side (stream_at self.old stream)).owner ≡ false }
-        ensures { self.new ≡ with_stream_at self.old stream (without_ends (stream_at self.old stream)) }
+        requires unheld { (side : Side) → is_held (end_of side (stream_at self.old stream)).owner
+            ≡ false }
+        ensures { self.new
+            ≡ with_stream_at self.old stream (without_ends (stream_at self.old stream)) }
     {
         self.own(stream, Side::Reading, Owner::Gone);
         self.own(stream, Side::Writing, Owner::Gone);
     }
 
     // A pipe ends: both ends of the stream are gone, and host ends are closed.
-    pub(crate) fn end_pipe(&mut self, hosts: &mut Hosts, stream: u32, host: u32)
+    pub(crate) fn end_pipe<H: HostEnds>(&mut self, hosts: &mut H, stream: u32, host: u32)
         requires there { stream < length self.old.streams }
-        requires unheld { (side : Side) → is_held (end_of side (stream_at self.old stream)).owner ≡ false }
+        requires unheld { (side : Side) → is_held (end_of side (stream_at self.old stream)).owner
+            ≡ false }
         requires serves { (consumer_at self.old host).duty ≡ Serves stream }
-        requires fits { Fits self.old (tells_of writer_tells reader_tells hosts.old) }
+        requires fits { Fits self.old (H.tells hosts.old) }
         ensures { EndsPipe (stream_at self.old stream).writer.owner self.old self.new
-            (tells_of writer_tells reader_tells hosts.old) (tells_of writer_tells reader_tells hosts.new)
-            stream host }
+            (H.tells hosts.old) (H.tells hosts.new) stream host }
     {
         self.served();
         let writer = self.stream(stream).owner(Side::Writing);
@@ -168,13 +168,12 @@ impl Store {
     }
 
     // The loose read end of a stream goes to a host reader that was not used.
-    fn attach(&mut self, hosts: &mut Hosts, stream: u32, host: u32)
-        requires may { PipeFits self.old (tells_of writer_tells reader_tells hosts.old) stream host }
-        requires fits { Fits self.old (tells_of writer_tells reader_tells hosts.old) }
-        ensures does { Does self.old self.new (tells_of writer_tells reader_tells hosts.old)
-            (tells_of writer_tells reader_tells hosts.new) (Ok replies.Done)
-            (λ world. pipes world stream host) }
-        ensures fits { Fits self.new (tells_of writer_tells reader_tells hosts.new) }
+    fn attach<H: HostEnds>(&mut self, hosts: &mut H, stream: u32, host: u32)
+        requires may { PipeFits self.old (H.tells hosts.old) stream host }
+        requires fits { Fits self.old (H.tells hosts.old) }
+        ensures does { Does self.old self.new (H.tells hosts.old) (H.tells hosts.new)
+            (Ok replies.Done) (λ world. pipes world stream host) }
+        ensures fits { Fits self.new (H.tells hosts.new) }
     {
         self.served();
         self.withdraw_report(stream);
@@ -188,11 +187,15 @@ impl Store {
     /// nothing. The report of a write that waits with items left is withdrawn; what it has moved counts
     /// on. Where nothing comes any more, both ends are gone at once. It takes no memory. Refused:
     /// UnknownHost, HostUsed, UnknownReader, WrongKind, WrongType.
-    pub fn pipe(&mut self, hosts: &mut Hosts, reader: u32, host: u32) -> Result<(), StoreError>
-        requires fits { Fits self.old (tells_of writer_tells reader_tells hosts.old) }
-        ensures meets { MeetsHosted self.old self.new (tells_of writer_tells reader_tells hosts.old)
-            (tells_of writer_tells reader_tells hosts.new) (replied (λ _. replies.Done) result)
-            (OnHost host (Pipe reader)) }
+    pub fn pipe<H: HostEnds>(
+        &mut self,
+        hosts: &mut H,
+        reader: u32,
+        host: u32,
+    ) -> Result<(), StoreError>
+        requires fits { Fits self.old (H.tells hosts.old) }
+        ensures meets { MeetsHosted self.old self.new (H.tells hosts.old) (H.tells hosts.new)
+            (replied (λ _. replies.Done) result) (OnHost host (Pipe reader)) }
         ensures takes_no_memory { result ≢ Err StoreError.OutOfMemory }
     {
         self.admit(self.pipe_fits(hosts, reader, host))?;

@@ -45,7 +45,8 @@ impl Store {
     /// and nothing has changed, where the store is trapped, the read end is not loose, no host writer has
     /// the write end, or it has no more to come or holds items. It takes no memory.
     pub fn try_release(&mut self, reader: u32) -> Option<u32>
-        ensures exact { (tells : Tells) → KnowsHeld self.old tells → result ≡ released_among self.old tells reader }
+        ensures exact { (tells : Tells) → KnowsHeld self.old tells → result
+            ≡ released_among self.old tells reader }
         ensures answer { result ≡ released self.old reader }
         ensures after { self.new ≡ after_release self.old reader }
         ensures fits { StillFits self.old self.new }

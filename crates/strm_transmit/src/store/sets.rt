@@ -196,8 +196,8 @@ impl Store {
 
     // The ready members of a set, where they are known.
     fn known(&self, guest: u32, number: u32) -> Option<&ReadyMembers>
-        ensures { IfSome result (λ members. (handle : ℕ) → is_in members.now handle
-            ≡ (is_member (sets_in self.now.guests guest) number handle && is_ready self.now guest handle)) }
+        ensures { IfSome result (λ members. (handle : ℕ) → is_in members.now handle ≡ (is_member
+            (sets_in self.now.guests guest) number handle && is_ready self.now guest handle)) }
     {
         if guest as usize >= self.ready.len() {
             return None;
@@ -290,7 +290,8 @@ impl Store {
     fn drop_refusal(&self, guest: u32, number: u32) -> Option<Refusal>
         requires there { guest < length self.now.guests }
         requires made { is_there (sets_in self.now.guests guest) number ≡ true }
-        ensures { result ≡ first_of (where_ (has_member self.now guest number) refusals.SetNotEmpty ∷ []) }
+        ensures { result
+            ≡ first_of (where_ (has_member self.now guest number) refusals.SetNotEmpty ∷ []) }
     {
         if has_member(&self.guests, guest as usize, number) {
             return Some(Refusal::SetNotEmpty);

@@ -1,8 +1,7 @@
-use Rattle.strm_buffers.specs.AllTells.{tells_of}
 use Rattle.strm_host_machine.specs.Does.{Fits}
 use Rattle.strm_shared_bench.proofs.bare.repeat.Given as goal
 
 -- no host end is wanting
 abbrev pub invariant-loop-round : goal.invariant-loop-round
 invariant-loop-round g l =
-    Fits l.store (tells_of (λ b. (goal.HostWriter-dyn g b).writer_tells b.1) (λ b. (goal.HostReader-dyn g b).reader_tells b.1) l.hosts)
+    Fits l.store (g.H.HostEnds.tells l.hosts)

@@ -1,7 +1,6 @@
-use Rattle.strm_buffers.specs.AllTells.{tells_of}
 use Rattle.strm_host_machine.specs.Does.{Fits}
 use Rattle.strm_bench.proofs.taken.Writing.drive.Given as goal
 
 abbrev pub invariant-loop : goal.invariant-loop
 invariant-loop g l =
-    Fits l.self.store (tells_of (λ b. (goal.HostWriter-dyn g b).writer_tells b.1) (λ b. (goal.HostReader-dyn g b).reader_tells b.1) l.hosts)
+    Fits l.self.store (g.H.HostEnds.tells l.hosts)

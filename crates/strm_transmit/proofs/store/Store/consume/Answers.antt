@@ -20,55 +20,51 @@ close_reader-requires g c =
     let h = is_taken_from _ _ _ _ _ c.sound.ensures c.served.ensures c.requires.there c.requires.owner c.requires.fits c.requires.placed in
     told-there _ _ _ _ _ h _ _ _ c.in-Ok.ensures
 
-pub returns-in-Err-clause-does : goal.returns-in-Err-clause-does
-returns-in-Err-clause-does g c =
-    let h = is_taken_from _ _ _ _ _ c.sound.ensures c.served.ensures c.requires.there c.requires.owner c.requires.fits c.requires.placed in
-    rw c.stop_taking.ensures (stops-does _ _ _ _ _ h _ _ _ c.in-Err.error c.in-Err.ensures c.trap.ensures)
-
-pub returns-in-Err-clause-fits : goal.returns-in-Err-clause-fits
-returns-in-Err-clause-fits g c =
-    let h = is_taken_from _ _ _ _ _ c.sound.ensures c.served.ensures c.requires.there c.requires.owner c.requires.fits c.requires.placed in
-    stops-fits _ _ _ _ _ h _ _ _ c.in-Err.error c.in-Err.ensures c.trap.ensures
-
 pub returns-in-Err-clause-there : goal.returns-in-Err-clause-there
 returns-in-Err-clause-there g c =
     let h = is_taken_from _ _ _ _ _ c.sound.ensures c.served.ensures c.requires.there c.requires.owner c.requires.fits c.requires.placed in
     stops-length _ _ _ _ _ h _ _ _ c.in-Err.error c.in-Err.ensures c.trap.ensures
-
-pub returns-in-Err-clause-stop : goal.returns-in-Err-clause-stop
-returns-in-Err-clause-stop g c = rw c.stop_taking.ensures (taking-stops c.in-Err.error c.args.number c.args.stream)
-
-pub returns-then-ne-clause-does : goal.returns-then-ne-clause-does
-returns-then-ne-clause-does g c =
-    let h = is_taken_from _ _ _ _ _ c.sound.ensures c.served.ensures c.requires.there c.requires.owner c.requires.fits c.requires.placed in
-    taken-stays _ _ _ _ _ h _ _ c.in-Ok.ensures (search rules)
-
-pub returns-then-ne-clause-fits : goal.returns-then-ne-clause-fits
-returns-then-ne-clause-fits g c =
-    let h = is_taken_from _ _ _ _ _ c.sound.ensures c.served.ensures c.requires.there c.requires.owner c.requires.fits c.requires.placed in
-    mid-fits _ _ _ _ _ h _ _ _ c.in-Ok.ensures
 
 pub returns-then-ne-clause-there : goal.returns-then-ne-clause-there
 returns-then-ne-clause-there g c =
     let h = is_taken_from _ _ _ _ _ c.sound.ensures c.served.ensures c.requires.there c.requires.owner c.requires.fits c.requires.placed in
     mid-length _ _ _ _ _ h _ _ _ c.in-Ok.ensures
 
-pub returns-clause-does : goal.returns-clause-does
-returns-clause-does g c =
-    let h = is_taken_from _ _ _ _ _ c.sound.ensures c.served.ensures c.requires.there c.requires.owner c.requires.fits c.requires.placed in
-    left-does _ _ _ _ _ h _ _ _ _ c.in-Ok.ensures (search rules) c.retire_reader.ensures c.close_reader.ensures
-
-pub returns-clause-fits : goal.returns-clause-fits
-returns-clause-fits g c =
-    let h = is_taken_from _ _ _ _ _ c.sound.ensures c.served.ensures c.requires.there c.requires.owner c.requires.fits c.requires.placed in
-    left-fits _ _ _ _ _ h _ _ _ _ c.in-Ok.ensures (search rules) c.retire_reader.ensures c.close_reader.ensures
-
 pub returns-clause-there : goal.returns-clause-there
 returns-clause-there g c =
     let h = is_taken_from _ _ _ _ _ c.sound.ensures c.served.ensures c.requires.there c.requires.owner c.requires.fits c.requires.placed in
     left-length _ _ _ _ _ h _ _ _ _ c.in-Ok.ensures (search rules) c.retire_reader.ensures c.close_reader.ensures
 
-pub returns-in-Err-clause-wanting : goal.returns-in-Err-clause-wanting
-returns-in-Err-clause-wanting g c =
-    let h = is_taken_from _ _ _ _ _ c.sound.ensures c.served.ensures c.requires.there c.requires.owner c.requires.fits c.requires.placed in
-    rw c.stop_taking.ensures (stops-wants _ _ _ _ _ h _ _ _ c.in-Err.error c.in-Err.ensures c.trap.ensures)
+pub returns-in-Err-clause-part : goal.returns-in-Err-clause-part
+returns-in-Err-clause-part g c = record {
+  does = let h = is_taken_from _ _ _ _ _ c.sound.ensures c.served.ensures c.requires.there c.requires.owner c.requires.fits c.requires.placed in
+      rw c.stop_taking.ensures (stops-does _ _ _ _ _ h _ _ _ c.in-Err.error c.in-Err.ensures c.trap.ensures);
+  fits = let h = is_taken_from _ _ _ _ _ c.sound.ensures c.served.ensures c.requires.there c.requires.owner c.requires.fits c.requires.placed in
+      stops-fits _ _ _ _ _ h _ _ _ c.in-Err.error c.in-Err.ensures c.trap.ensures;
+  stop = rw c.stop_taking.ensures (taking-stops c.in-Err.error c.args.number c.args.stream);
+  trapped = search rules;
+  wanting = let h = is_taken_from _ _ _ _ _ c.sound.ensures c.served.ensures c.requires.there c.requires.owner c.requires.fits c.requires.placed in
+      rw c.stop_taking.ensures (stops-wants _ _ _ _ _ h _ _ _ c.in-Err.error c.in-Err.ensures c.trap.ensures);
+}
+
+pub returns-then-ne-clause-part : goal.returns-then-ne-clause-part
+returns-then-ne-clause-part g c = record {
+  does = let h = is_taken_from _ _ _ _ _ c.sound.ensures c.served.ensures c.requires.there c.requires.owner c.requires.fits c.requires.placed in
+      taken-stays _ _ _ _ _ h _ _ c.in-Ok.ensures (search rules);
+  fits = let h = is_taken_from _ _ _ _ _ c.sound.ensures c.served.ensures c.requires.there c.requires.owner c.requires.fits c.requires.placed in
+      mid-fits _ _ _ _ _ h _ _ _ c.in-Ok.ensures;
+  stop = search rules;
+  trapped = search rules;
+  wanting = search rules;
+}
+
+pub returns-clause-part : goal.returns-clause-part
+returns-clause-part g c = record {
+  does = let h = is_taken_from _ _ _ _ _ c.sound.ensures c.served.ensures c.requires.there c.requires.owner c.requires.fits c.requires.placed in
+      left-does _ _ _ _ _ h _ _ _ _ c.in-Ok.ensures (search rules) c.retire_reader.ensures c.close_reader.ensures;
+  fits = let h = is_taken_from _ _ _ _ _ c.sound.ensures c.served.ensures c.requires.there c.requires.owner c.requires.fits c.requires.placed in
+      left-fits _ _ _ _ _ h _ _ _ _ c.in-Ok.ensures (search rules) c.retire_reader.ensures c.close_reader.ensures;
+  stop = search rules;
+  trapped = search rules;
+  wanting = search rules;
+}

@@ -1,4 +1,4 @@
-use Rattle.std.proofs.Common.{refl, ◌+◌, ◌∙◌, arith}
+use Rattle.std.proofs.Common.{rules, refl, ◌+◌, ◌∙◌, arith}
 use Rattle.strm_host_machine.proofs.DriveLemmas.{Does-drives_none}
 use Rattle.strm_host_turns.proofs.TurnLemmas.{handed_on}
 use Rattle.strm_transmit.proofs.DriveStoreLemmas.{drive_on, drive_end, ends_stop, drive_stop, drive_round, drive_wants}
@@ -36,37 +36,40 @@ loop-stream-preserved g c =
     let next = c.in-Some.ensures.next in
     let made = c.in-Some.ensures.served.made next.side next.number c.in-Some.stream next.serves in
     record {
-      does = drive_on c.args.self.now c.loop-stream.self _ _ c.in-Some.ensures.served c.loop-stream.next i.does _ _ c.in-Some.stream _ next refl c.in_ok-drive_stream.ensures.does;
-      fits = c.in_ok-drive_stream.ensures.fits;
+      does = drive_on c.args.self.now c.loop-stream.self _ _ c.in-Some.ensures.served c.loop-stream.next i.does _ _ c.in-Some.stream _ next refl c.in_ok-drive_stream.ensures.part.does;
+      fits = c.in_ok-drive_stream.ensures.part.fits;
       made = c.in_ok-drive_stream.ensures.there ∙ i.made;
       within = omega (arith, made, i.made);
     }
 
-pub returns-in_err-drive_stream-clause-does : goal.returns-in_err-drive_stream-clause-does
-returns-in_err-drive_stream-clause-does g c =
-    rw (handed_on c.from_residual.result c.from_residual.ensures.1)
-    (let i = c.loop-stream.invariant in
-    let next = c.in-Some.ensures.next in
-    let made = c.in-Some.ensures.served.made next.side next.number c.in-Some.stream next.serves in
-    drive_round c.args.self.now _ _ _ _
-    (drive_stop c.args.self.now _ _ _ (c.in-Some.stream + 1) _ c.in_err-drive_stream.field-0.0 c.in_err-drive_stream.ensures.stop (omega (arith, made, i.made))
-    (drive_on c.args.self.now c.loop-stream.self _ _ c.in-Some.ensures.served c.loop-stream.next i.does _ _ c.in-Some.stream _ next (ends_stop c.in_err-drive_stream.field-0.0 c.in_err-drive_stream.ensures.stop) c.in_err-drive_stream.ensures.does)))
+pub returns-in_err-drive_stream : goal.returns-in_err-drive_stream
+returns-in_err-drive_stream g c = record {
+  does = rw (handed_on c.from_residual.result c.from_residual.ensures.1)
+      (let i = c.loop-stream.invariant in
+      let next = c.in-Some.ensures.next in
+      let made = c.in-Some.ensures.served.made next.side next.number c.in-Some.stream next.serves in
+      drive_round c.args.self.now _ _ _ _
+      (drive_stop c.args.self.now _ _ _ (c.in-Some.stream + 1) _ c.in_err-drive_stream.field-0.0 c.in_err-drive_stream.ensures.part.stop (omega (arith, made, i.made))
+      (drive_on c.args.self.now c.loop-stream.self _ _ c.in-Some.ensures.served c.loop-stream.next i.does _ _ c.in-Some.stream _ next (ends_stop c.in_err-drive_stream.field-0.0 c.in_err-drive_stream.ensures.part.stop) c.in_err-drive_stream.ensures.part.does)));
+  fits = search rules;
+  stop = search rules;
+  trapped = search rules;
+  wanting = rw (handed_on c.from_residual.result c.from_residual.ensures.1)
+      (let i = c.loop-stream.invariant in
+      let next = c.in-Some.ensures.next in
+      let made = c.in-Some.ensures.served.made next.side next.number c.in-Some.stream next.serves in
+      wanting_as c.in_err-drive_stream.field-0.0
+      (drive_wants c.args.self.now c.loop-stream.self _ _ _ c.in-Some.ensures.served c.loop-stream.next i.does c.in-Some.stream next (omega (arith, made, i.made)))
+      c.in_err-drive_stream.ensures.part.wanting);
+}
 
-pub returns-clause-does : goal.returns-clause-does
-returns-clause-does g c =
-    let i = c.loop-stream.invariant in
-    drive_round c.args.self.now _ _ _ _
-    (drive_end c.args.self.now c.loop-stream.self _ _ c.in_default.ensures.served c.loop-stream.next i.does _ i.within c.in_default.ensures.next)
-
-pub returns-clause-fits : goal.returns-clause-fits
-returns-clause-fits g c = c.loop-stream.invariant.fits
-
-pub returns-in_err-drive_stream-clause-wanting : goal.returns-in_err-drive_stream-clause-wanting
-returns-in_err-drive_stream-clause-wanting g c =
-    rw (handed_on c.from_residual.result c.from_residual.ensures.1)
-    (let i = c.loop-stream.invariant in
-    let next = c.in-Some.ensures.next in
-    let made = c.in-Some.ensures.served.made next.side next.number c.in-Some.stream next.serves in
-    wanting_as c.in_err-drive_stream.field-0.0
-    (drive_wants c.args.self.now c.loop-stream.self _ _ _ c.in-Some.ensures.served c.loop-stream.next i.does c.in-Some.stream next (omega (arith, made, i.made)))
-    c.in_err-drive_stream.ensures.wanting)
+pub returns : goal.returns
+returns g c = record {
+  does = let i = c.loop-stream.invariant in
+      drive_round c.args.self.now _ _ _ _
+      (drive_end c.args.self.now c.loop-stream.self _ _ c.in_default.ensures.served c.loop-stream.next i.does _ i.within c.in_default.ensures.next);
+  fits = c.loop-stream.invariant.fits;
+  stop = search rules;
+  trapped = search rules;
+  wanting = search rules;
+}

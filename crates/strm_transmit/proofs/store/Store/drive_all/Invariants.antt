@@ -1,5 +1,4 @@
 use Rattle.std.proofs.Common.{◌≡◌, ◌≤◌, ◌-◌, length, Ok}
-use Rattle.strm_buffers.specs.AllTells.{tells_of}
 use Rattle.strm_machine.specs.declared.replies.Reply.TheVariants as replies
 use Rattle.strm_host_machine.specs.Does.{Fits, Does}
 use Rattle.strm_host_machine.proofs.DriveLemmas.{drives_first}
@@ -8,7 +7,7 @@ use Rattle.strm_transmit.proofs.store.Store.drive_all.Given as goal
 -- the streams before the next one had their turns
 abbrev pub invariant-loop-stream : goal.invariant-loop-stream
 invariant-loop-stream g l =
-    let tells = tells_of (λ b. (goal.HostWriter-dyn g b).writer_tells b.1) (λ b. (goal.HostReader-dyn g b).reader_tells b.1) in
+    let tells = g.H.HostEnds.tells in
     record {
       does : Does l.fn.self l.self (tells l.fn.hosts) (tells l.hosts) (Ok replies.Done) (drives_first l.next);
       fits : Fits l.self (tells l.hosts);

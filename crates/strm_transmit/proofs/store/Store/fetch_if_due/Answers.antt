@@ -2,23 +2,38 @@ use Rattle.std.proofs.Common.{rules}
 use Rattle.strm_transmit.proofs.RoundLemmas.{rounds, nothing_held, fetch-none, fetched-does, fetched-pipe, fetch-stops, fetch-wants, fetch_stops-pipe}
 use Rattle.strm_transmit.proofs.store.Store.fetch_if_due.Goals as goal
 
-pub returns-then-not-is_fetch_due-clause-does : goal.returns-then-not-is_fetch_due-clause-does
-returns-then-not-is_fetch_due-clause-does g c = fetch-none c.args.self.now _ c.args.stream c.args.writer c.args.reader (rounds c.args.self.now _ c.args.stream c.args.writer c.args.reader c.served.ensures c.requires.pipe) (search rules)
-
 pub fetch-requires-clause-nothing_held : goal.fetch-requires-clause-nothing_held
 fetch-requires-clause-nothing_held g c = nothing_held c.args.self.now _ c.args.stream c.args.writer c.args.reader (rounds c.args.self.now _ c.args.stream c.args.writer c.args.reader c.served.ensures c.requires.pipe) (search rules)
-
-pub returns-in-Ok-clause-does : goal.returns-in-Ok-clause-does
-returns-in-Ok-clause-does g c = fetched-does c.args.self.now _ c.args.stream c.args.writer c.args.reader (rounds c.args.self.now _ c.args.stream c.args.writer c.args.reader c.served.ensures c.requires.pipe) _ _ c.in-Ok.ensures (search rules)
 
 pub returns-in-Ok-clause-pipe : goal.returns-in-Ok-clause-pipe
 returns-in-Ok-clause-pipe g c = fetched-pipe c.args.self.now _ c.args.stream c.args.writer c.args.reader (rounds c.args.self.now _ c.args.stream c.args.writer c.args.reader c.served.ensures c.requires.pipe) _ _ _ c.in-Ok.ensures
 
-pub returns-in-Err-clause-does : goal.returns-in-Err-clause-does
-returns-in-Err-clause-does g c = rw c.stop_of.ensures (fetch-stops c.args.self.now _ c.args.stream c.args.writer c.args.reader (rounds c.args.self.now _ c.args.stream c.args.writer c.args.reader c.served.ensures c.requires.pipe) _ _ _ (search rules) c.trap.ensures c.in-Err.error c.in-Err.ensures)
-
 pub returns-in-Err-clause-pipe : goal.returns-in-Err-clause-pipe
 returns-in-Err-clause-pipe g c = fetch_stops-pipe c.args.self.now _ c.args.stream c.args.writer c.args.reader (rounds c.args.self.now _ c.args.stream c.args.writer c.args.reader c.served.ensures c.requires.pipe) _ _ _ (search rules) c.trap.ensures c.in-Err.error c.in-Err.ensures
 
-pub returns-in-Err-clause-wanting : goal.returns-in-Err-clause-wanting
-returns-in-Err-clause-wanting g c = rw c.stop_of.ensures (fetch-wants c.args.self.now _ c.args.stream c.args.writer c.args.reader (rounds c.args.self.now _ c.args.stream c.args.writer c.args.reader c.served.ensures c.requires.pipe) _ _ _ (search rules) c.trap.ensures c.in-Err.error c.in-Err.ensures)
+pub returns-then-not-is_fetch_due-clause-part : goal.returns-then-not-is_fetch_due-clause-part
+returns-then-not-is_fetch_due-clause-part g c = record {
+  does = fetch-none c.args.self.now _ c.args.stream c.args.writer c.args.reader (rounds c.args.self.now _ c.args.stream c.args.writer c.args.reader c.served.ensures c.requires.pipe) (search rules);
+  fits = search rules;
+  stop = search rules;
+  trapped = search rules;
+  wanting = search rules;
+}
+
+pub returns-in-Ok-clause-part : goal.returns-in-Ok-clause-part
+returns-in-Ok-clause-part g c = record {
+  does = fetched-does c.args.self.now _ c.args.stream c.args.writer c.args.reader (rounds c.args.self.now _ c.args.stream c.args.writer c.args.reader c.served.ensures c.requires.pipe) _ _ c.in-Ok.ensures (search rules);
+  fits = (returns-in-Ok-clause-pipe g c).fits;
+  stop = search rules;
+  trapped = search rules;
+  wanting = search rules;
+}
+
+pub returns-in-Err-clause-part : goal.returns-in-Err-clause-part
+returns-in-Err-clause-part g c = record {
+  does = rw c.stop_of.ensures (fetch-stops c.args.self.now _ c.args.stream c.args.writer c.args.reader (rounds c.args.self.now _ c.args.stream c.args.writer c.args.reader c.served.ensures c.requires.pipe) _ _ _ (search rules) c.trap.ensures c.in-Err.error c.in-Err.ensures);
+  fits = (returns-in-Err-clause-pipe g c).fits;
+  stop = search rules;
+  trapped = search rules;
+  wanting = rw c.stop_of.ensures (fetch-wants c.args.self.now _ c.args.stream c.args.writer c.args.reader (rounds c.args.self.now _ c.args.stream c.args.writer c.args.reader c.served.ensures c.requires.pipe) _ _ _ (search rules) c.trap.ensures c.in-Err.error c.in-Err.ensures);
+}

@@ -1,7 +1,20 @@
+use Rattle.std.proofs.Common.{rules}
 use Rattle.strm_transmit.proofs.store.Store.host_turn.Goals as goal
 
-pub returns-in-Reading-clause-wanting : goal.returns-in-Reading-clause-wanting
-returns-in-Reading-clause-wanting g c = rw c.in-Reading.is c.produce.ensures.wanting
+pub returns-in-Reading-clause-part : goal.returns-in-Reading-clause-part
+returns-in-Reading-clause-part g c = record {
+  does = search rules;
+  fits = search rules;
+  stop = search rules;
+  trapped = search rules;
+  wanting = rw c.in-Reading.is c.produce.ensures.part.wanting;
+}
 
-pub returns-in-Writing-clause-wanting : goal.returns-in-Writing-clause-wanting
-returns-in-Writing-clause-wanting g c = rw c.in-Writing.is c.consume.ensures.wanting
+pub returns-in-Writing-clause-part : goal.returns-in-Writing-clause-part
+returns-in-Writing-clause-part g c = record {
+  does = search rules;
+  fits = search rules;
+  stop = search rules;
+  trapped = search rules;
+  wanting = rw c.in-Writing.is c.consume.ensures.part.wanting;
+}

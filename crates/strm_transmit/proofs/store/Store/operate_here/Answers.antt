@@ -22,8 +22,9 @@ returns-in-Some-clause-meets g c =
       begins = c.begin-mine.ensures ∙ ap (λ q. begun c.args.end.now.guest c.args.address q.1) found.same;
       owner = c.in-Some.ensures.some;
     })
-    replies.Code c.poll_across.result c.poll_across.ensures.does (record { served = c.served.ensures; before = c.requires.fits; after = c.poll_across.ensures.fits })
-    (record { stop = c.poll_across.ensures.stop; trapped = c.poll_across.ensures.trapped }) c.poll_across.ensures.wanting
+    replies.Code c.poll_across.result c.poll_across.ensures.part.does
+    (record { served = c.served.ensures; before = c.requires.fits; after = c.poll_across.ensures.part.fits })
+    (record { stop = c.poll_across.ensures.part.stop; trapped = c.poll_across.ensures.part.trapped }) c.poll_across.ensures.part.wanting
 
 pub returns-in-Some-clause-held : goal.returns-in-Some-clause-held
 returns-in-Some-clause-held g c = λ held.
