@@ -36,7 +36,7 @@ fn served<S: Source, K: Sink>(
         Rose (K.faults sink.old) (K.faults sink.new) }
     ensures nothing { exit_status result ≡ OUT_OF_MEMORY → sink.new ≡ sink.old }
 
-    // What the stages make of an input within the limit is written, but for faults and want of memory;
+    // What the stages make of an input within the limit is written, but for faults and running out of memory;
     // else it is told that the input is too long, or how to call the program.
     ensures complete { (input : List ℕ) →
         IsFaultless (map string_bytes words.now.items) (S.left source.old) input

@@ -44,7 +44,7 @@ IfAnswered-turn_of Cancelled P p = p
 IfAnswered-turn_of Dropped P p = p
 IfAnswered-turn_of Failed P p = p
 
--- a turn that has an answer is no want of memory
+-- a turn that has an answer is no running out of memory
 pub IfNoMemory-turn_of : (a : Answer) (P : Type 0) → IfNoMemory (turn_of a) P
 IfNoMemory-turn_of Pending P = tt
 IfNoMemory-turn_of Completed P = tt

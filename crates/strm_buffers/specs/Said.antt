@@ -42,7 +42,7 @@ turn_of answer.Cancelled = Ready result.Cancelled
 turn_of answer.Dropped = Ready result.Dropped
 turn_of answer.Failed = Failed
 
--- what holds of the answer of a turn; want of memory is none
+-- what holds of the answer of a turn; running out of memory is none
 abbrev pub IfAnswered : Turn StreamResult → (Answer → Type 0) → Type 0
 IfAnswered Pending P = P answer.Pending
 IfAnswered (Ready r) P = P (answer_of_result r)

@@ -47,8 +47,8 @@ pub trait HostReader: Drop {
     /// - of a future, Cancelled where the value was taken, now or since it was last ready;
     /// - of a future, Dropped: it ends by its value alone.
     ///
-    /// `Failed` traps it by `HostFailed`, and `NoMemory` by want of memory. Where several of these fall in
-    /// one poll, the first of `HostFailed`, want of memory, BadItem and `HostBroke` is told.
+    /// `Failed` traps it by `HostFailed`, and `NoMemory` by running out of memory. Where several of these
+    /// fall in one poll, the first of `HostFailed`, running out of memory, BadItem and `HostBroke` is told.
     fn poll(&mut self, offer: &mut Offer, finish: bool) -> HostTurn
         requires payload { offer.old.payload ≡ (reader_tells self.old).payload }
         requires nothing_taken { offer.old.taken ≡ 0 }

@@ -46,8 +46,8 @@ pub trait HostWriter: Drop {
     /// - of a future, Completed with a number of items other than one;
     /// - of a future, Dropped: it ends by its value alone.
     ///
-    /// `Failed` traps it by `HostFailed`, and `NoMemory` by want of memory. After Dropped it is not polled
-    /// again, and what it holds is given first.
+    /// `Failed` traps it by `HostFailed`, and `NoMemory` by running out of memory. After Dropped it is not
+    /// polled again, and what it holds is given first.
     fn poll(&mut self, window: &mut Window, finish: bool) -> HostTurn
         requires payload { window.old.payload ≡ (writer_tells self.old).payload }
         requires nothing_held { (writer_tells self.old).holds ≡ [] }

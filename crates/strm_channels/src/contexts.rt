@@ -81,7 +81,7 @@ fn keep_message(
 }
 
 /// An error context more, whose message is so many bytes of a guest's memory, under the next handle
-/// of its table: answers that. After want of memory nothing has changed.
+/// of its table: answers that. After running out of memory nothing has changed.
 pub fn give_context(
     guests: &mut Vec<Guest>,
     contexts: &mut ErrorContexts,

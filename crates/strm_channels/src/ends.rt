@@ -106,7 +106,7 @@ fn insert_end(
 }
 
 /// The handles of a new stream's ends in two guests' tables, the read end's first: answers their
-/// numbers, the read end's first. After want of memory nothing has changed.
+/// numbers, the read end's first. After running out of memory nothing has changed.
 pub fn insert_ends(
     guests: &mut Vec<Guest>,
     counter: &mut HandleCounter,
@@ -191,7 +191,7 @@ pub fn remove_end(guests: &mut Vec<Guest>, counter: &mut HandleCounter, side: Si
     guest.sets.leave(end.handle);
 }
 
-/// The handle of an end in a guest's table: answers its number. After want of memory nothing has
+/// The handle of an end in a guest's table: answers its number. After running out of memory nothing has
 /// changed.
 pub fn give_end(
     guests: &mut Vec<Guest>,

@@ -55,7 +55,7 @@ fn make_set(guest: &mut Guest, counter: &mut HandleCounter) -> Result<u32, OutOf
 }
 
 /// A waitable set more in a guest, without members, under its table's next handle: answers that.
-/// After want of memory nothing has changed.
+/// After running out of memory nothing has changed.
 pub fn give_set(
     guests: &mut Vec<Guest>,
     counter: &mut HandleCounter,
@@ -105,7 +105,7 @@ pub fn remove_set(
     guest.sets.remove(set).unwrap();
 }
 
-/// Puts a handle into a set of its guest; it leaves the one that it was in. After want of memory
+/// Puts a handle into a set of its guest; it leaves the one that it was in. After running out of memory
 /// nothing has changed.
 pub fn join_set(
     guests: &mut Vec<Guest>,

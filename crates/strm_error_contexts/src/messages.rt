@@ -5,8 +5,11 @@
 ghost use Rattle.std.specs.Prelude.{◌≡◌, IfOk, is_ok};
 ghost use Rattle.std.specs.Str.{is_utf8};
 
+use thiserror::Error;
+
 /// The bytes are not UTF-8.
-#[derive(Clone, Copy, Debug, PartialEq, Eq)]
+#[derive(Clone, Copy, Debug, PartialEq, Eq, Error)]
+#[error("the bytes are not UTF-8")]
 pub struct BadText;
 
 /// The bytes as a message, where they are UTF-8. No memory is taken.

@@ -262,7 +262,7 @@ pub record Answers (old new : Heard) (piece : List ℕ) (r : Result (Unit {0}) M
 one_found : (old new : Heard) (bytes piece : List ℕ) (found fault : Fault) → old.fault ≡ None → Answers old new piece (Err (error_of found)) → IsFed old bytes → Faults (bytes ++ piece) fault → found ≡ fault
 one_found old new bytes piece found fault n a f w = one_fault (bytes ++ piece) found fault ((a.fault found n refl).1 bytes f) w
 
--- a fault that the stream has is answered, but for want of memory
+-- a fault that the stream has is answered, but for running out of memory
 pub faults_exactly : (old new : Heard) (piece : List ℕ) (r : Result (Unit {0}) MuxError) → Answers old new piece r → (bytes : List ℕ) (fault : Fault) → old.fault ≡ None → IsFed old bytes → Faults (bytes ++ piece) fault → (r ≡ Err (error_of fault)) ⊎ (r ≡ Err errors.OutOfMemory)
 faults_exactly old new piece (Ok u) a bytes fault n f w =
     let g = a.ok bytes f in

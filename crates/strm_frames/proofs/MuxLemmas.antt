@@ -43,9 +43,10 @@ pub record PushesSoFar (lane : ℕ) (bytes rest old now : List ℕ) : Type 0 whe
   pub front : List ℕ
   pub now_is : now ≡ old ++ front
   pub goes_on : front ++ spelling (pieces_of lane rest) ≡ spelling (pieces_of lane bytes)
+  pub left : length rest ≤ length bytes
 
 pub pushes_none : (lane : ℕ) (bytes old : List ℕ) → PushesSoFar lane bytes bytes old old
-pushes_none lane bytes old = record { front = []; now_is = sym (append-nil old); goes_on = refl }
+pushes_none lane bytes old = record { front = []; now_is = sym (append-nil old); goes_on = refl; left = omega arith }
 
 pub pushes_more : (lane : ℕ) (bytes rest piece more old now new : List ℕ) → 0 < length rest → piece ≡ take (min (length rest) 255) rest → more ≡ drop (min (length rest) 255) rest → PushesSoFar lane bytes rest old now → new ≡ now ++ spelled (Data lane piece) → PushesSoFar lane bytes more old new
 pushes_more lane bytes rest piece more old now new h p q a n =
@@ -56,6 +57,7 @@ pushes_more lane bytes rest piece more old now new h p q a n =
       front = a.front ++ spelled (Data lane piece);
       now_is = n ∙ ap (λ (s : List ℕ). s ++ spelled (Data lane piece)) a.now_is ∙ append_assoc old a.front (spelled (Data lane piece));
       goes_on = append_assoc a.front (spelled (Data lane piece)) (spelling (pieces_of lane more)) ∙ ap (λ (s : List ℕ). a.front ++ s) (rw (pp, qq) (ap spelling (sym (pieces_some lane rest h)))) ∙ a.goes_on;
+      left = omega (arith, a.left, ap length q, length-drop (min (length rest) 255) rest);
     }
 
 -- behind the last

@@ -58,7 +58,7 @@ impl Demux {
     }
 
     /// Takes the next piece of the stream, whatever its length. A fault takes nothing of the piece, and
-    /// each later feed answers it again; want of memory changes nothing.
+    /// each later feed answers it again; running out of memory changes nothing.
     pub fn feed(&mut self, piece: &[u8]) -> Result<(), MuxError>
         // However the stream was cut: what was fed is all pieces together.
         ensures ok { OnOk result ((bytes : List ℕ) → IsFed self.old bytes → IsFed self.new (bytes ++ piece.now)) }

@@ -56,6 +56,7 @@ impl Mux {
         ensures carries { (given : List Frame) → Carries self.old given → OnOk result (Carries self.new (given ++ Data lane bytes.now ∷ [])) }
         ensures ended { (result ≡ Err (MuxError.Ended lane)) ↔ (slice_index_or self.old.ended lane false ≡ true) }
         ensures known { IsErr result → (result ≡ Err (MuxError.Ended lane)) ⊎ (result ≡ Err MuxError.OutOfMemory) }
+        ensures takes_no_memory { bytes.now ≡ [] → result ≢ Err MuxError.OutOfMemory }
         ensures err { OnErr result (self.new ≡ self.old) }
     {
         if self.ended[lane as usize] {
@@ -121,6 +122,7 @@ fn push_frame(out: &mut Vec<u8>, lane: u8, bytes: &[u8]) -> bool
 // The data frames of bytes at the end; where memory is wanting, a part of them.
 fn push_frames(out: &mut Vec<u8>, lane: u8, bytes: &[u8]) -> bool
     ensures ok { IsTrue result → out.new.items ≡ out.old.items ++ spelling (pieces_of lane bytes.now) }
+    ensures none { bytes.now ≡ [] → IsTrue result }
     ensures err { result ≡ false → (more : List ℕ) × (out.new.items ≡ out.old.items ++ more) }
 {
     let mut rest = bytes;

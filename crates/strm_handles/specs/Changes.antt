@@ -17,7 +17,7 @@ module _ {E : Type 0} where
   -- an entry is added and counted, or nothing changes; no number is 0, or 2^28 and above
   pub record Inserts (old new : TableOf E) (before after : Counter) (e : E) (result : Result ℕ HandleError) : Type 0 where
     pub answer : result ≢ Err OutOfMemory → result ≡ insert_answer old.handles before
-    -- want of memory comes where nothing else refuses, and there was no room
+    -- running out of memory comes where nothing else refuses, and there was no room
     pub last : result ≡ Err OutOfMemory → IsOk (insert_answer old.handles before)
     pub memory : result ≡ Err OutOfMemory → old.room ≡ 0
     pub some : IfOk result (λ n. 0 < n)

@@ -30,7 +30,7 @@ IsPlanned (Some plan) finish turn = IfPolled turn (turn ≡ plan finish)
 
 -- AS A STREAM
 
--- a value is one item and Completed, none is Cancelled; want of memory is no poll, and is passed on
+-- a value is one item and Completed, none is Cancelled; running out of memory is no poll, and is passed on
 abbrev pub poll_of : {A : Type 0} → (A → Item) → Turn (Option A) → Poll
 poll_of item Pending = record { items = []; answer = answer.Pending }
 poll_of item (Ready (Some value)) = record { items = item value ∷ []; answer = answer.Completed }

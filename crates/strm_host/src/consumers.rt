@@ -78,7 +78,7 @@ pub trait StreamConsumer: Drop {
     /// - `Ready(Completed)` where items were offered, none was taken, and none had been since the consumer
     ///   was last ready.
     ///
-    /// `Failed` traps it by `HostFailed`, and `NoMemory` by want of memory.
+    /// `Failed` traps it by `HostFailed`, and `NoMemory` by running out of memory.
     fn poll_consume(&mut self, source: Source<'_, Self::Item>, finish: bool) -> HostTurn
         requires payload { source.offer.now.payload ≡ Self.Item.payload }
         requires nothing_taken { source.offer.now.taken ≡ 0 }

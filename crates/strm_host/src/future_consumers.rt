@@ -56,7 +56,7 @@ pub trait FutureConsumer: Drop {
     /// # What a breach does
     ///
     /// `Ready(())` without the value, where `finish` is not set, traps the store that polled by
-    /// `HostBroke`, for good. `Failed` traps it by `HostFailed`, and `NoMemory` by want of memory.
+    /// `HostBroke`, for good. `Failed` traps it by `HostFailed`, and `NoMemory` by running out of memory.
     fn poll_consume(&mut self, source: Source<'_, Self::Item>, finish: bool) -> Turn<()>
         requires payload { source.offer.now.payload ≡ Self.Item.payload }
         requires nothing_taken { source.offer.now.taken ≡ 0 }

@@ -47,7 +47,7 @@ pub trait FutureProducer: Drop {
     /// # What a breach does
     ///
     /// `Ready(None)` where `finish` is not set traps the store that polled by `HostBroke`, for good.
-    /// `Failed` traps it by `HostFailed`, and `NoMemory` by want of memory.
+    /// `Failed` traps it by `HostFailed`, and `NoMemory` by running out of memory.
     fn poll_produce(&mut self, finish: bool) -> Turn<Option<Self::Item>>
         ensures later { faults self.old ≤ faults self.new }
         ensures failed { IfFailed result (Rose (faults self.old) (faults self.new)) }

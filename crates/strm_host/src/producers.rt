@@ -76,7 +76,7 @@ pub trait StreamProducer: Drop {
     /// - `Ready(Completed)` without an item where there is room for two or more. (With room for one it is
     ///   allowed, as with room for none.)
     ///
-    /// `Failed` traps it by `HostFailed`, and `NoMemory` by want of memory; what was produced is lost.
+    /// `Failed` traps it by `HostFailed`, and `NoMemory` by running out of memory; what was produced is lost.
     fn poll_produce(
         &mut self,
         destination: Destination<'_, Self::Item, Self::Buffer>,

@@ -140,7 +140,7 @@ pub record Fits (state : State) (tells : Tells) : Type 0 where
 
 -- CALLS
 
--- an answer, or the cause of a stop; none for want of memory
+-- an answer, or the cause of a stop; none by running out of memory
 abbrev pub Answered : Type 0
 Answered = Result Reply (Option Stop)
 

@@ -140,7 +140,7 @@ polls_by state (Operates side end address count) = is_host_across state (stream_
 polls_by state Drives = true
 polls_by state touch = false
 
--- a step that may poll a host end. Want of memory in it traps the store; in any other step it changes
+-- a step that may poll a host end. Running out of memory in it traps the store; in any other step it changes
 -- nothing
 abbrev pub may_poll : World → Act → Bool
 may_poll world act = polls_by world.state (touch_of world.state act)

@@ -42,7 +42,7 @@ turned_in state n s new = record state {
   producers = slice_set state.producers n new.producer;
 }
 
--- why a turn stops the step; nothing for want of memory
+-- why a turn stops the step; nothing by running out of memory
 abbrev pub stop_of : TurnError → ℕ → Answered
 stop_of Failed n = Err (Some (HostFailed (ends.Writer n)))
 stop_of Broke n = Err (Some (HostBroke (ends.Writer n)))

@@ -87,7 +87,7 @@ pub fn fetch(
     Ok(())
 }
 
-// What a host writer holds is kept too, behind what was kept. After want of memory the writer holds its
+// What a host writer holds is kept too, behind what was kept. After running out of memory the writer holds its
 // items still, or gave them all; those are lost, and only where some were kept besides.
 fn gather(
     alloc: Global,

@@ -27,7 +27,7 @@ pub record SinkState : Type 0 where
   pub calls : ℕ
   -- the calls so far that failed
   pub faults : ℕ
-  -- those among them that failed for want of memory
+  -- those among them that failed by running out of memory
   pub starved : ℕ
 
 -- a call gave n bytes
@@ -46,6 +46,6 @@ sink_given s bytes = record s { taken = s.taken ++ bytes; calls = one_more s.cal
 abbrev pub sink_failed : SinkState → SinkState
 sink_failed s = record s { calls = one_more s.calls; faults = one_more s.faults }
 
--- a call failed for want of memory
+-- a call failed by running out of memory
 abbrev pub sink_starved : SinkState → SinkState
 sink_starved s = record (sink_failed s) { starved = one_more s.starved }

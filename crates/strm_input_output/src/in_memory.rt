@@ -166,7 +166,7 @@ impl BytesSink {
         &self.taken
     }
 
-    /// How many of the faults were for want of memory. It stands still at its end.
+    /// How many of the faults were by running out of memory. It stands still at its end.
     pub fn starved(&self) -> u64
         ensures exact { result ≡ self.now.starved }
         ensures part { result ≤ self.now.faults }

@@ -213,7 +213,7 @@ lines_unended bytes n e h f =
     let u : unended bytes ≡ 1 = unended_at bytes h ∙ rw (ne_eqb (get_or bytes (length bytes - 1) 0) 10 f) refl in
     omega (arith, length-lines bytes)
 
--- lines that spell steps, and are not too many, are not read for want of memory alone
+-- lines that spell steps, and are not too many, are not read by running out of memory alone
 module _ (lines : List (List ℕ)) (steps : List Step) (spelled : Spells lines steps) where
   pub wants_memory : {T L : Type 0} (r : Result T ParseError) (e : ParseError) → r ≡ Err e → (r ≡ Err error.TooLong → L) → ((line : ℕ) → r ≡ Err (error.BadLine line) → IsFirstBad lines line) → ¬ L → e ≡ error.OutOfMemory
   wants_memory r error.TooLong is long bad within = absurd (within (long is))

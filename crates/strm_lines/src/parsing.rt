@@ -52,7 +52,7 @@ pub fn parse(alloc: Global, bytes: &[u8]) -> Result<Steps, ParseError>
     ensures bad_line { (line : ℕ) → result ≡ Err (ParseError.BadLine line) →
         IsFirstBad (lines_of bytes.now) line }
 
-    // What the grammar and the limits allow is read, but for want of memory.
+    // What the grammar and the limits allow is read, but for running out of memory.
     ensures complete { (steps : List Step) → Spells (lines_of bytes.now) steps →
         ¬ IsTooLong bytes.now →
         MatchResult result (λ found. found ≡ steps) (λ error. error ≡ ParseError.OutOfMemory) }

@@ -109,7 +109,7 @@ plays_on told st (x ∷ run) s =
 never_halts : (run : List Step) (told : List Reply) (reply : Reply) → AreSettled (replies_of (moments start run)) → play [] start run ≡ Halts told reply → ⊥
 never_halts run told reply s h = let both : Ends (replies_of (moments start run)) (last start run) ≡ Halts told reply = sym (plays_on [] start run s) ∙ h in cc
 
--- so it stops for want of memory alone
+-- so it stops by running out of memory alone
 pub stops_for_memory : (run : List Step) (told : List Reply) (cause : RunCause) → AreSettled (replies_of (moments start run)) → StopsBy run told cause → cause ≡ causes.OutOfMemory
 stops_for_memory run told cause s b = by_cause cause b.at
   where

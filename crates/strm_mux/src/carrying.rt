@@ -60,7 +60,7 @@ pub fn carry(alloc: Global, mux: &Mux, write: u32, read: u32) -> Result<Carried,
     ensures fed { IfOk result (λ c. IsFed c.demux mux.now.bytes) }
     ensures delivers { (given : List Frame) → Carries mux.now given → IfOk result (λ c. Delivers c.demux given) }
 
-    // Nothing but want of memory is an error.
+    // Nothing but running out of memory is an error.
     ensures err { IfErr result (λ error. error ≡ MuxError.OutOfMemory) }
 {
     carries();

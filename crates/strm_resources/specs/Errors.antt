@@ -14,7 +14,7 @@ error_text HasParent = codes "HasParent"
 error_text NotChild = codes "NotChild"
 error_text OutOfMemory = codes "OutOfMemory"
 
--- the error, if it is a refusal: every error but want of memory
+-- the error, if it is a refusal: every error but running out of memory
 abbrev pub refused : ResourceTableError → Option ResourceTableError
 refused OutOfMemory = None
 refused Full = Some Full

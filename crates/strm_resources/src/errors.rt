@@ -11,7 +11,7 @@ use std::alloc::AllocError;
 use std::error::Error;
 use std::fmt;
 
-/// An error of a resource table. All but want of memory are refusals, which change nothing.
+/// An error of a resource table. All but running out of memory are refusals, which change nothing.
 #[derive(Clone, Copy, Debug, PartialEq, Eq)]
 pub enum ResourceTableError {
     /// No number is free, and none can be added.

@@ -66,7 +66,7 @@ fn a_source_in_pieces(rt: HostRuntime) {
 }
 
 // Whether a text is written whole, and the sink has these bytes of it, where the call of this number
-// fails; it is never for want of memory.
+// fails; it is never by running out of memory.
 fn is_written(alloc: Global, failing: u32, taken: &str) -> Result<bool, AllocError> {
     let mut sink = sink(alloc, failing)?;
     let is_whole = write_whole(&mut sink, b"done 0\n").is_ok();

@@ -1,2 +1,3 @@
 pub mod TransmitLemmas
 pub mod BufferLemmas
+pub mod LaneFacts

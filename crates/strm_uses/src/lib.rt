@@ -6,6 +6,7 @@
 pub mod buffers;
 pub mod embed;
 pub mod handles;
+pub mod lanes;
 pub mod memory;
 pub mod resources;
 pub mod transmit;

@@ -38,7 +38,7 @@ IsRead most source source_after =
     (front : List ℕ) × Consumes source.bytes source_after.bytes front × (length front ≤ most + 1)
 
 -- a script of a source was taken among host ends that told this before and tell that after, and which answer
--- comes but for faults and want of memory
+-- comes but for faults and running out of memory
 pub record TakesAmong (ends after : Tells) (source source_after sink sink_after : Port) (status : ℕ) : Type 0 where
   pub known : IsTakeStatus status
   pub writes : Writes (IsOfScript source.bytes source_after.bytes ends after source.faults source_after.faults)
@@ -61,7 +61,7 @@ Takes source source_after sink sink_after status =
     (after : Tells) × TakesAmong unused after source source_after sink sink_after status
 
 -- a tape was played among host ends that told this before and tell that after, and which answer comes but for
--- faults and want of memory
+-- faults and running out of memory
 pub record PlaysAmong (ends after : Tells) (tape : TapeOf) (sink sink_after : Port) (status : ℕ) : Type 0 where
   pub known : IsPlayStatus status
   pub writes : Writes (IsOfTape tape ends after) sink sink_after status

@@ -1,4 +1,4 @@
-use Rattle.std.proofs.Common.{◌≢◌, ◌<◌, sym, ◌∙◌, ap, length, arith, append_assoc, ◌++◌}
+use Rattle.std.proofs.Common.{◌≢◌, ◌<◌, sym, ◌∙◌, ap, length, arith, append_assoc, ◌++◌, ◌≡◌}
 use Rattle.std.proofs.lemmas.Bool.{eqb-true, eqb-false}
 use Rattle.strm_frames.proofs.MuxLemmas.{pushes_none, pushes_more, pushes_all}
 use Rattle.strm_frames.proofs.muxes.push_frames.Goals as goal
@@ -19,3 +19,9 @@ pub returns-then-not-push_frame-clause-err : goal.returns-then-not-push_frame-cl
 returns-then-not-push_frame-clause-err c = λ u.
     let e = c.push_frame.ensures.err c.if-not-push_frame.true in
     (c.pieces.invariant.front ++ e.0, e.1 ∙ ap (λ s. s ++ e.0) c.pieces.invariant.now_is ∙ append_assoc _ _ e.0)
+
+pub returns-then-not-push_frame-clause-none : goal.returns-then-not-push_frame-clause-none
+returns-then-not-push_frame-clause-none c = λ e.
+    let ne : length c.pieces.rest.now ≢ 0 = eqb-false (length c.pieces.rest.now) 0 (sym c.is_empty.ensures ∙ c.pieces-test.true) in
+    let none : length c.args.bytes.now ≡ 0 = ap length e in
+    absurd (ne (omega (arith, c.pieces.invariant.left, none)))
