@@ -1,2 +1,1 @@
 pub mod TellsLemmas
-pub mod WordLemmas

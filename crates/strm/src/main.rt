@@ -13,9 +13,8 @@ ghost use Rattle.strm.specs.Served.{IsServed};
 
 use std::alloc::{AllocError, Global};
 use std::env::Args;
-use std::io::{Read, Write};
+use std::io::{self, Read, Write};
 use std::process::ExitCode;
-use std::{env, io};
 use strm_buffers::hosts::Hosts;
 use strm_buffers::readers::HostReader;
 use strm_buffers::writers::HostWriter;
@@ -24,6 +23,7 @@ use strm_codes::payloads::Payload;
 use strm_codes::scalars::Scalar;
 use strm_host::empty::Empty;
 use strm_host::erased::Erased;
+use strm_input_output::words::{process_args, words_behind};
 use strm_memory::payloaded::Payloaded;
 use strm_program_ends::credit_reader::CreditReader;
 use strm_program_ends::queue_writer::QueueWriter;
@@ -46,9 +46,11 @@ fn served<R: Read + Drop, W: Write + Drop>(
     ensures told { exit_status result ≢ WRITE_FAULT → exit_status result ≢ OUT_OF_MEMORY →
         (rest : Option (List ℕ)) × (faults : ℕ) × (text : List ℕ)
         × IsOutput (map string_bytes words.now.items) (R.remaining input) rest
-        (tells_of writer_tells reader_tells hosts.old) (tells_of writer_tells reader_tells hosts.new)
+        (tells_of writer_tells reader_tells hosts.old)
+        (tells_of writer_tells reader_tells hosts.new)
         0 faults (exit_status result) text }
-    ensures answers { IsServed (map string_bytes words.now.items) (R.remaining input) (exit_status result) }
+    ensures answers { IsServed (map string_bytes words.now.items) (R.remaining input)
+        (exit_status result) }
 {
     let mut source = StdinSource::new(input);
     let mut sink = StdoutSink::new(output);
@@ -150,14 +152,6 @@ fn served_among_ends<R: Read + Drop, W: Write + Drop>(
     Ok(served(alloc, words, input, output, &mut hosts))
 }
 
-// The words behind the program's name: all but the first.
-fn words_behind(alloc: Global, mut args: Args) -> Result<Vec<String>, AllocError>
-    ensures { IfOk result (λ words. words.items ≡ drop 1 (into_iter_items args)) }
-{
-    let _name = args.next();
-    args.collect(alloc)
-}
-
 // Serves the words behind the program's name, all of them, among the program's host ends.
 fn served_words<R: Read + Drop, W: Write + Drop>(
     alloc: Global,
@@ -166,7 +160,8 @@ fn served_words<R: Read + Drop, W: Write + Drop>(
     output: W,
 ) -> Result<ExitCode, AllocError>
     ensures { IfOk result (λ code.
-        IsServed (map string_bytes (drop 1 (into_iter_items args))) (R.remaining input) (exit_status code)) }
+        IsServed (map string_bytes (drop 1 (into_iter_items args))) (R.remaining input)
+        (exit_status code)) }
 {
     let words = words_behind(alloc, args)?;
     served_among_ends(alloc, &words, input, output, ready_streams(alloc)?)
@@ -174,13 +169,8 @@ fn served_words<R: Read + Drop, W: Write + Drop>(
 
 fn main(rt: HostRuntime) -> io::Result<ExitCode> {
     let alloc = rt.alloc();
-    let args = match env::args(&rt) {
-        Ok(args) => args,
-        Err(error) if error.kind() == io::ErrorKind::OutOfMemory => {
-            return Ok(ExitCode::from(OUT_OF_MEMORY));
-        }
-        // A word that is no UTF-8 is none of the program's.
-        Err(_) => Vec::new(alloc).into_iter(),
+    let Ok(args) = process_args(&rt) else {
+        return Ok(ExitCode::from(OUT_OF_MEMORY));
     };
     match served_words(alloc, args, rt.stdin(), rt.stdout()) {
         Ok(code) => Ok(code),

@@ -1,1 +1,3 @@
 pub mod PortLemmas
+pub mod WordLemmas
+pub mod ServingLemmas

@@ -4,7 +4,10 @@
 //! It knows nothing of what the bytes say. A fault is told only where a count of faults rose.
 #![tactic(auto)]
 
+pub mod answers;
 pub mod in_memory;
 pub mod ports;
 pub mod standard;
+pub mod statuses;
 pub mod whole;
+pub mod words;

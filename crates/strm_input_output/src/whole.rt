@@ -2,10 +2,11 @@
 //!
 //! Source: ours.
 
-ghost use Rattle.std.specs.Prelude.{◌≡◌, ◌+◌, ◌<◌, ◌≤◌, ℕ, List, length, IfOk, OnOk, OnErr, IfSome, Err, vec_len};
+ghost use Rattle.std.specs.Prelude.{◌≡◌, ◌<◌, ◌≤◌, length, IfOk, OnOk, OnErr, IfSome, Err, vec_len};
 ghost use Rattle.std.specs.Io.{ReadsAtMost};
-ghost use Rattle.std.specs.Io.KnownBytes.{Appends, Consumes, IsAtEnd, ReadConsumes};
+ghost use Rattle.std.specs.Io.KnownBytes.{Appends, IsAtEnd, ReadConsumes};
 ghost use Rattle.strm_input_output.specs.Faults.{Rose, TakesPart};
+ghost use Rattle.strm_input_output.specs.Serving.{ReadsWithin};
 ghost use Rattle.strm_input_output.specs.declared.whole.InputError.TheVariants.{Fault, OutOfMemory as NoMemory};
 
 use crate::ports::{Failed, Sink, Source};
@@ -67,8 +68,7 @@ pub fn read_all<S: Source>(alloc: Global, source: &mut S) -> Result<TextBytes, I
         Rose (S.faults source.old) (S.faults source.new) }
 
     // Whatever is answered: what was read is gone from the front, and no more than that.
-    ensures read { (front : List ℕ) × Consumes (S.left source.old) (S.left source.new) front
-        × (length front ≤ MAX_BYTES + 1) }
+    ensures read { ReadsWithin MAX_BYTES (S.left source.old) (S.left source.new) }
     ensures later { S.faults source.old ≤ S.faults source.new }
 {
     read_within(alloc, source, MAX_BYTES as u32)
@@ -89,8 +89,7 @@ pub fn read_within<S: Source>(
         Rose (S.faults source.old) (S.faults source.new) }
 
     // Whatever is answered: what was read is gone from the front, and no more than that.
-    ensures read { (front : List ℕ) × Consumes (S.left source.old) (S.left source.new) front
-        × (length front ≤ most + 1) }
+    ensures read { ReadsWithin most (S.left source.old) (S.left source.new) }
     ensures later { S.faults source.old ≤ S.faults source.new }
 {
     let mut piece = make_piece(alloc, PIECE)?;

@@ -13,7 +13,8 @@ use strm_memory::good_items::count_good_items;
 
 // How many items these bytes are: as many as fit in them, up to the first that is none.
 pub(crate) fn count_items(bytes: &[u8], payload: &Payload) -> usize
-    ensures lie { items (scalars_of payload.now) bytes.now result ≡ Some (items_fed payload.now bytes.now) }
+    ensures lie { items (scalars_of payload.now) bytes.now result
+        ≡ Some (items_fed payload.now bytes.now) }
     ensures fit { AreItems (scalars_of payload.now) (items_fed payload.now bytes.now) }
     ensures within { item_size (scalars_of payload.now) * result ≤ length bytes.now }
     ensures few { result ≤ length bytes.now }

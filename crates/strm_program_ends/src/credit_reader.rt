@@ -75,20 +75,24 @@ impl HostReader for CreditReader {
         requires payload { offer.old.payload ≡ self.old.payload }
         requires nothing_taken { offer.old.taken ≡ 0 }
         requires not_bad { offer.old.bad ≡ false }
-        ensures polls { IfAnswered result (λ answer. PollsReader (credit_tells self.old) (credit_tells self.new)
+        ensures polls { IfAnswered result (λ answer.
+            PollsReader (credit_tells self.old) (credit_tells self.new)
             (reader_record offer.old offer.new finish answer)
             (first_lent (scalars_of offer.old.payload) offer.old.source offer.new.taken)) }
-        ensures no_memory { IfNoMemory result (KeepsReader (credit_tells self.old) (credit_tells self.new)) }
+        ensures no_memory { IfNoMemory result
+            (KeepsReader (credit_tells self.old) (credit_tells self.new)) }
         ensures untaken { IfNoMemory result (offer.new.taken ≡ 0) }
         ensures next { offer.new.bad ≡ true →
             IsBadNext (scalars_of offer.old.payload) offer.old.source offer.new.taken }
         ensures same { SameOffer offer.old offer.new }
 
         // It takes what it has credit for, up to a bad item, and answers by what is left of it.
-        ensures takes { IfAnswered result (λ _. offer.new ≡ after_taking self.old.credit offer.old) }
+        ensures takes { IfAnswered result (λ _.
+            offer.new ≡ after_taking self.old.credit offer.old) }
         ensures credit { self.new.credit ≡ self.old.credit - offer.new.taken }
         ensures ended { self.new.is_ended ≡ self.old.is_ended }
-        ensures answer { IfAnswered result (λ answer. answer ≡ credit_answer self.old.kind self.new.credit
+        ensures answer { IfAnswered result (λ answer.
+            answer ≡ credit_answer self.old.kind self.new.credit
             self.old.is_ended (items_lent offer.old.source) offer.new.taken finish) }
     {
         match self.said.reserve(1) {
@@ -159,7 +163,8 @@ impl CreditReader {
 
     // What it answers where it was offered so many items and took so many.
     fn answer(&self, offered: u32, taken: u32, finish: bool) -> Answer
-        ensures { result ≡ credit_answer self.now.kind self.now.credit self.now.is_ended offered taken finish }
+        ensures { result
+            ≡ credit_answer self.now.kind self.now.credit self.now.is_ended offered taken finish }
     {
         let is_stream = self.kind == TransmitKind::Stream;
         if is_stream && self.credit == 0 && self.is_ended {

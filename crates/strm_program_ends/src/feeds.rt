@@ -124,7 +124,11 @@ impl Feeds {
     pub(crate) fn copy(&self, start: usize, count: u32) -> Result<Items, OutOfMemory>
         requires there { start + count ≤ length self.now.items }
         requires few { count < 4294967295 }
-        ensures { IfOk result (λ copy. copy ≡ record { payload = self.now.payload; items = take count (drop start self.now.items) }) }
+        ensures { IfOk result (λ copy.
+            copy ≡ record {
+              payload = self.now.payload;
+              items = take count (drop start self.now.items);
+            }) }
     {
         let mut bytes = Vec::new(*self.bytes.allocator());
         match bytes.extend_from_slice(self.bytes_of(start, count)) {

@@ -80,9 +80,12 @@ impl HostWriter for QueueWriter {
         requires nothing_held { (queue_tells self.old).holds ≡ [] }
         requires nothing_marked { window.old.marked ≡ [] }
         requires prepared { window.old.prepared ≡ true }
-        ensures polls { IfAnswered result (λ answer. PollsWriter (queue_tells self.old) (queue_tells self.new)
-            (writer_record window.old finish window.new.marked (queue_tells self.new).holds answer) window.new.marked) }
-        ensures no_memory { IfNoMemory result (KeepsWriter (queue_tells self.old) (queue_tells self.new)) }
+        ensures polls { IfAnswered result (λ answer.
+            PollsWriter (queue_tells self.old) (queue_tells self.new)
+            (writer_record window.old finish window.new.marked
+            (queue_tells self.new).holds answer) window.new.marked) }
+        ensures no_memory { IfNoMemory result
+            (KeepsWriter (queue_tells self.old) (queue_tells self.new)) }
         ensures fills { Fills window.old window.new }
 
         // It gives and answers what its queue, the room and `finish` say.
@@ -183,7 +186,8 @@ impl QueueWriter {
             ≡ answer_given self.old.kind (room_of window.old.place) finish (queue_of self.old)) }
         ensures queue { OnOk result (queue_of self.new
             ≡ queue_left self.old.kind (room_of window.old.place) (queue_of self.old)) }
-        ensures said { IfOk result (λ answer. said_kept self.new.fed.payload self.new.fed.items self.new.polls.items
+        ensures said { IfOk result (λ answer.
+            said_kept self.new.fed.payload self.new.fed.items self.new.polls.items
             ≡ said_kept self.old.fed.payload self.old.fed.items self.old.polls.items
             ++ record { room = room_of window.old.place; finish = finish; payload = window.old.payload; items = window.new.marked; answer = answer } ∷ []) }
         ensures fit { OnOk result (AreItems (scalars_of self.old.fed.payload) window.new.marked) }

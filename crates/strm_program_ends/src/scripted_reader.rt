@@ -113,10 +113,12 @@ impl HostReader for ScriptedReader {
         requires payload { offer.old.payload ≡ self.old.payload }
         requires nothing_taken { offer.old.taken ≡ 0 }
         requires not_bad { offer.old.bad ≡ false }
-        ensures polls { IfAnswered result (λ answer. PollsReader (scripted_reader_tells self.old) (scripted_reader_tells self.new)
+        ensures polls { IfAnswered result (λ answer.
+            PollsReader (scripted_reader_tells self.old) (scripted_reader_tells self.new)
             (reader_record offer.old offer.new finish answer)
             (first_lent (scalars_of offer.old.payload) offer.old.source offer.new.taken)) }
-        ensures no_memory { IfNoMemory result (KeepsReader (scripted_reader_tells self.old) (scripted_reader_tells self.new)) }
+        ensures no_memory { IfNoMemory result
+            (KeepsReader (scripted_reader_tells self.old) (scripted_reader_tells self.new)) }
         ensures untaken { IfNoMemory result (offer.new.taken ≡ 0) }
         ensures next { offer.new.bad ≡ true →
             IsBadNext (scalars_of offer.old.payload) offer.old.source offer.new.taken }
@@ -124,7 +126,8 @@ impl HostReader for ScriptedReader {
 
         // It does the turn of its place among the polls.
         ensures takes { IfAnswered result (λ _. offer.new ≡
-            after_taking (turn_after self.old.turns.items (length self.old.said.items)).take offer.old) }
+            after_taking
+            (turn_after self.old.turns.items (length self.old.said.items)).take offer.old) }
         ensures answer { IfAnswered result (λ answer. answer ≡
             (turn_after self.old.turns.items (length self.old.said.items)).answer) }
         ensures turns { self.new.turns ≡ self.old.turns }
@@ -155,8 +158,10 @@ impl HostReader for ScriptedReader {
     }
 
     fn grant(&mut self, _count: u32) -> Result<(), OutOfMemory>
-        ensures ok { OnOk result (scripted_reader_tells self.new ≡ granted (scripted_reader_tells self.old) _count) }
-        ensures err { OnErr result (scripted_reader_tells self.new ≡ scripted_reader_tells self.old) }
+        ensures ok { OnOk result
+            (scripted_reader_tells self.new ≡ granted (scripted_reader_tells self.old) _count) }
+        ensures err { OnErr result
+            (scripted_reader_tells self.new ≡ scripted_reader_tells self.old) }
 
         // It is ignored: also its turns stay.
         ensures ignored { self.new ≡ self.old }
@@ -166,7 +171,8 @@ impl HostReader for ScriptedReader {
     }
 
     fn close(&mut self)
-        ensures closes { scripted_reader_tells self.new ≡ closed_reader (scripted_reader_tells self.old) }
+        ensures closes { scripted_reader_tells self.new
+            ≡ closed_reader (scripted_reader_tells self.old) }
 
         // Its turns stay.
         ensures turns { self.new.turns ≡ self.old.turns }

@@ -86,20 +86,28 @@ impl HostWriter for ScriptedWriter {
         requires nothing_held { self.old.held.items ≡ [] }
         requires nothing_marked { window.old.marked ≡ [] }
         requires prepared { window.old.prepared ≡ true }
-        ensures polls { IfAnswered result (λ answer. PollsWriter (scripted_tells self.old) (scripted_tells self.new)
-            (writer_record window.old finish window.new.marked (scripted_tells self.new).holds answer) window.new.marked) }
-        ensures no_memory { IfNoMemory result (KeepsWriter (scripted_tells self.old) (scripted_tells self.new)) }
+        ensures polls { IfAnswered result (λ answer.
+            PollsWriter (scripted_tells self.old) (scripted_tells self.new)
+            (writer_record window.old finish window.new.marked
+            (scripted_tells self.new).holds answer) window.new.marked) }
+        ensures no_memory { IfNoMemory result
+            (KeepsWriter (scripted_tells self.old) (scripted_tells self.new)) }
         ensures fills { Fills window.old window.new }
 
         // It does its next turn.
         ensures answer { IfAnswered result (λ answer. answer ≡ next_answer self.old.turns.items) }
-        ensures items { IfAnswered result (λ _. window.new.marked ++ self.new.held.items ≡ next_items self.old.turns.items) }
-        ensures turns { IfAnswered result (λ _. self.new.turns.items ≡ drop 1 self.old.turns.items) }
+        ensures items { IfAnswered result (λ _.
+            window.new.marked ++ self.new.held.items ≡ next_items self.old.turns.items) }
+        ensures turns { IfAnswered result (λ _.
+            self.new.turns.items ≡ drop 1 self.old.turns.items) }
 
         // Without memory its turns are those that they were.
-        ensures same_answer { IfNoMemory result (next_answer self.new.turns.items ≡ next_answer self.old.turns.items) }
-        ensures same_items { IfNoMemory result (next_items self.new.turns.items ≡ next_items self.old.turns.items) }
-        ensures same_behind { IfNoMemory result (drop 1 self.new.turns.items ≡ drop 1 self.old.turns.items) }
+        ensures same_answer { IfNoMemory result
+            (next_answer self.new.turns.items ≡ next_answer self.old.turns.items) }
+        ensures same_items { IfNoMemory result
+            (next_items self.new.turns.items ≡ next_items self.old.turns.items) }
+        ensures same_behind { IfNoMemory result
+            (drop 1 self.new.turns.items ≡ drop 1 self.old.turns.items) }
     {
         match self.find_turn() {
             Ok(()) => {}
@@ -137,7 +145,8 @@ impl HostWriter for ScriptedWriter {
     }
 
     fn feed(&mut self, _bytes: &[u8]) -> Result<(), OutOfMemory>
-        ensures ok { OnOk result (scripted_tells self.new ≡ fed (scripted_tells self.old) _bytes.now) }
+        ensures ok { OnOk result
+            (scripted_tells self.new ≡ fed (scripted_tells self.old) _bytes.now) }
         ensures err { OnErr result (scripted_tells self.new ≡ scripted_tells self.old) }
 
         // Its turns stay.
@@ -205,11 +214,16 @@ impl ScriptedWriter {
         requires nothing_marked { window.old.marked ≡ [] }
         requires next { 0 < vec_len self.old.turns }
         ensures answer { IfOk result (λ answer. answer ≡ next_answer self.old.turns.items) }
-        ensures marked { OnOk result (window.new.marked ≡ in_room (room_of window.old.place) (next_items self.old.turns.items)) }
-        ensures held { OnOk result (self.new.held.items ≡ past_room (room_of window.old.place) (next_items self.old.turns.items)) }
+        ensures marked { OnOk result
+            (window.new.marked
+            ≡ in_room (room_of window.old.place) (next_items self.old.turns.items)) }
+        ensures held { OnOk result
+            (self.new.held.items
+            ≡ past_room (room_of window.old.place) (next_items self.old.turns.items)) }
         ensures said { OnOk result (self.new.said.items ≡ self.old.said.items
             ++ record { room = room_of window.old.place; finish = finish; payload = window.old.payload; items = next_items self.old.turns.items; answer = next_answer self.old.turns.items } ∷ []) }
-        ensures fit { OnOk result (AreItems (scalars_of self.old.payload) (next_items self.old.turns.items)) }
+        ensures fit { OnOk result
+            (AreItems (scalars_of self.old.payload) (next_items self.old.turns.items)) }
         ensures turns { OnOk result (self.new.turns.items ≡ drop 1 self.old.turns.items) }
         ensures err { OnErr result (self.new.said.items ≡ self.old.said.items) }
         ensures same_turns { OnErr result (self.new.turns.items ≡ self.old.turns.items) }

@@ -7,7 +7,9 @@ use Rattle.strm_machine.specs.declared.steps.Step.{Step}
 use Rattle.strm_input_output.specs.Faults.{Rose}
 use Rattle.strm_lines.specs.Grammar.{IsU32}
 use Rattle.strm_lines.specs.Lines.{lines_of, Spells, IsFirstBad, IsTooLong}
-use Rattle.strm_session.specs.Serving.{IsRun, IsGen, IsStop, IsStatusOf, PlaysOn, HaltsWith, StandsFor, IsOfInput, IsOutput, IsComplete, EndsOrStops, WasRun, LeavesUnwritten}
+use Rattle.strm_input_output.specs.Serving.{IsOfSource}
+use Rattle.strm_input_output.proofs.ServingLemmas.{source_of_input, is_read}
+use Rattle.strm_session.specs.Serving.{IsRun, IsGen, IsStop, IsOfLines, IsStatusOf, PlaysOn, HaltsWith, StandsFor, IsOfInput, IsOutput, IsComplete, EndsOrStops, WasRun, LeavesUnwritten}
 use Rattle.strm_host_machine.specs.Ends.{Writer, Reader}
 use Rattle.strm_host_machine.specs.World.{World}
 use Rattle.strm_host_machine.specs.HostPlays.{Played, play, Ends, Halts}
@@ -39,14 +41,21 @@ one_word f (y ∷ z ∷ more) x word l e = absurd (omega (arith, l))
 abbrev pub Known : ℕ → Type 0
 Known status = (status ≤ 4) ⊎ IsStop status
 
-zero_of : (status : ℕ) → Known status → status ≢ 1 → status ≢ 2 → status ≢ 3 → status ≢ 4 → (IsStop status → ⊥) → status ≡ 0
-zero_of status k a b c d e = ⊎_elim (λ l. omega (arith, l, a, b, c, d)) (λ q. absurd (e q)) k
+-- those of lines that are neither of the other two
+zero_of : {status : ℕ} → IsOfLines status → status ≢ 2 → (IsStop status → ⊥) → status ≡ 0
+zero_of (inl e) bad stop = e
+zero_of (inr (inl e)) bad stop = absurd (bad e)
+zero_of (inr (inr s)) bad stop = absurd (stop s)
 
-two_of : (status : ℕ) → Known status → status ≢ 0 → status ≢ 1 → status ≢ 3 → status ≢ 4 → (IsStop status → ⊥) → status ≡ 2
-two_of status k a b c d e = ⊎_elim (λ l. omega (arith, l, a, b, c, d)) (λ q. absurd (e q)) k
+two_of : {status : ℕ} → IsOfLines status → status ≢ 0 → (IsStop status → ⊥) → status ≡ 2
+two_of (inl e) done stop = absurd (done e)
+two_of (inr (inl e)) done stop = e
+two_of (inr (inr s)) done stop = absurd (stop s)
 
-stop_of_known : (status : ℕ) → Known status → status ≢ 0 → status ≢ 1 → status ≢ 2 → status ≢ 3 → status ≢ 4 → IsStop status
-stop_of_known status k z a b c d = ⊎_elim (λ l. absurd (omega (arith, l, z, a, b, c, d))) (λ q. q) k
+stop_of_lines : {status : ℕ} → IsOfLines status → status ≢ 0 → status ≢ 2 → IsStop status
+stop_of_lines (inl e) done bad = absurd (done e)
+stop_of_lines (inr (inl e)) done bad = absurd (bad e)
+stop_of_lines (inr (inr s)) done bad = s
 
 -- AMONG HOST ENDS
 
@@ -109,39 +118,32 @@ module _ {rest : Option (List ℕ)} {old new : Tells} {before after status : ℕ
   -- what is told of an input that was read is told of its source, which is at its end then
   pub told_of_source : (left : Option (List ℕ)) (input : List ℕ) → IfSome left (λ bytes. input ≡ bytes) → IsAtEnd rest → IsOfInput (Some input) (Some []) old new before after status text → IsOfInput left rest old new before after status text
   told_of_source None input e end h = record {
-    known = h.known;
-    called = h.called;
+    source = source_of_input None input e end h.source;
     done = λ _. tt;
     bad_line = λ s. let bad = h.bad_line s in (bad.0, tt, bad.2);
-    too_long = λ s. (tt, (h.too_long s).1);
-    read_fault = h.read_fault;
     stopped = λ _. tt;
     unrun = h.unrun;
-    within = λ _ _. tt;
-    whole = λ _ _. end;
     whole_lines = λ _ _ _ _. end;
   }
   told_of_source (Some bytes) input e end h =
       let k = subst (λ b. IsOfInput (Some b) (Some []) old new before after status text) e h in
       record {
-        known = k.known;
-        called = k.called;
+        source = source_of_input (Some bytes) input e end h.source;
         done = k.done;
         bad_line = k.bad_line;
-        too_long = k.too_long;
-        read_fault = k.read_fault;
         stopped = k.stopped;
         unrun = k.unrun;
-        within = k.within;
-        whole = λ _ _. end;
         whole_lines = λ _ _ _ _. end;
       }
 
   module _ (input : List ℕ) (h : IsOfInput (Some input) rest old new before after status text) (calm : Rose before after → ⊥) where
     not_fault : status ≢ 4
-    not_fault q = calm (h.read_fault q).0
+    not_fault q = calm (h.source.read_fault q).0
 
     module _ (long : IsTooLong input → ⊥) where
+      lines : IsOfLines status
+      lines = is_read h.source (λ q. long (h.source.too_long q).0) not_fault
+
       module _ (steps : List Step) (s : Spells (lines_of input) steps) where
         no_bad_line : status ≢ 2
         no_bad_line q = let bad = h.bad_line q in spelled_not_bad (lines_of input) steps bad.0 s bad.1
@@ -149,7 +151,7 @@ module _ {rest : Option (List ℕ)} {old new : Tells} {before after status : ℕ
         -- a run that the machine plays to its end is done
         ends_of : PlaysOn (start_among old new) steps → status ≡ 0
         ends_of plays =
-            zero_of status h.known h.called no_bad_line (λ q. long (h.too_long q).0) not_fault
+            zero_of lines no_bad_line
             (λ q.
             let stopped = h.stopped q in
             let same = one_spelling (lines_of input) stopped.steps steps stopped.spelled s in
@@ -163,7 +165,7 @@ module _ {rest : Option (List ℕ)} {old new : Tells} {before after status : ℕ
             let done = h.done q in
             let same = one_spelling (lines_of input) done.steps steps done.spelled s in
             halts_no_end halts.0 done.replies stop halts.1 halts.2 _ (sym halts.3 ∙ ap (play [] (start_among old new)) (sym same) ∙ done.run.played) in
-            let stopped = h.stopped (stop_of_known status h.known undone h.called no_bad_line (λ q. long (h.too_long q).0) not_fault) in
+            let stopped = h.stopped (stop_of_lines lines undone no_bad_line) in
             let same = one_spelling (lines_of input) stopped.steps steps stopped.spelled s in
             stands_for old new stopped.steps stopped.replies status stopped.cause stopped.why stop stopped.status_is stopped.run.stops.halts
             (subst (λ k. HaltsWith (start_among old new) k stop) (sym same) halts)
@@ -171,7 +173,7 @@ module _ {rest : Option (List ℕ)} {old new : Tells} {before after status : ℕ
         -- where no host end fails, each obeys its rules, and each item asked for is one, the run is done
         done_of : NoneRose old new → ObeyRules old new → AsksItems (start_among old new) steps → status ≡ 0
         done_of none obey items =
-            zero_of status h.known h.called no_bad_line (λ q. long (h.too_long q).0) not_fault
+            zero_of lines no_bad_line
             (λ q.
             let stopped = h.stopped q in
             let same = one_spelling (lines_of input) stopped.steps steps stopped.spelled s in
@@ -187,14 +189,13 @@ module _ {rest : Option (List ℕ)} {old new : Tells} {before after status : ℕ
       -- a bad line is told
       bad_line_of : (line : ℕ) → IsFirstBad (lines_of input) line → status ≡ 2
       bad_line_of line bad =
-          two_of status h.known
+          two_of lines
           (λ q. let done = h.done q in spelled_not_bad (lines_of input) done.steps line done.spelled bad)
-          h.called (λ q. long (h.too_long q).0) not_fault
           (λ q. let stopped = h.stopped q in spelled_not_bad (lines_of input) stopped.steps line stopped.spelled bad)
 
     -- and so is an input over the limits
     too_long_of : IsTooLong input → status ≡ 3
-    too_long_of long = three_of status not_fault (λ q. h.within q not_fault long)
+    too_long_of long = three_of status not_fault (λ q. h.source.within (is_read h.source q not_fault) long)
 
   module _ {words : List (List ℕ)} (left : Option (List ℕ)) (input : List ℕ) (h : IsOutput words left rest old new before after status text) where
     -- of a source that has this input left, where nothing fails
@@ -229,8 +230,8 @@ module _ (words : List (List ℕ)) (left rest : Option (List ℕ)) (sb sa kb ka 
     bad_item = λ steps r told s a. inr refl;
     ends = λ steps r plays. inr refl;
     halts = λ steps r stop halts. inr refl;
-    bad_line = λ input line f bad long. inr refl;
-    too_long = λ input f long. inr refl;
+    bad_line = λ input line r f bad long. inr refl;
+    too_long = λ input r f long. inr refl;
     generated = λ n seed g calm few. inr refl;
     too_many = λ n seed g calm many. inr refl;
     usage = λ none calm. inr refl;
@@ -243,8 +244,8 @@ module _ (words : List (List ℕ)) (left rest : Option (List ℕ)) (sb sa kb ka 
     bad_item = λ steps r told s a. absurd (r.faultless.sink rose);
     ends = λ steps r plays. absurd (r.faultless.sink rose);
     halts = λ steps r stop halts. absurd (r.faultless.sink rose);
-    bad_line = λ input line f bad long. absurd (f.sink rose);
-    too_long = λ input f long. absurd (f.sink rose);
+    bad_line = λ input line r f bad long. absurd (f.sink rose);
+    too_long = λ input r f long. absurd (f.sink rose);
     generated = λ n seed g calm few. absurd (calm rose);
     too_many = λ n seed g calm many. absurd (calm rose);
     usage = λ none calm. absurd (calm rose);
@@ -254,19 +255,27 @@ module _ (words : List (List ℕ)) (left rest : Option (List ℕ)) (sb sa kb ka 
   pub complete_told : (status : ℕ) (text : List ℕ) → IsOutput words left rest old new sb sa status text → IsComplete words left sb sa kb ka old new status
   complete_told status text o = record {
     complete = λ steps r none obey items.
-        let f = r.faultless in inl (told_done left r.input o f.run f.input_is f.source r.within steps r.spelled none obey items);
+        let f = r.faultless in inl (told_done left r.input o r.run f.input_is f.source r.within steps r.spelled none obey items);
     bad_item = λ steps r told s a.
-        let f = r.faultless in inl (told_bad_item left r.input o f.run f.input_is f.source r.within steps r.spelled told s a);
+        let f = r.faultless in inl (told_bad_item left r.input o r.run f.input_is f.source r.within steps r.spelled told s a);
     ends = λ steps r plays.
-        let f = r.faultless in inl (told_ends left r.input o f.run f.input_is f.source r.within steps r.spelled plays);
+        let f = r.faultless in inl (told_ends left r.input o r.run f.input_is f.source r.within steps r.spelled plays);
     halts = λ steps r stop halts.
-        let f = r.faultless in inl (told_halts left r.input o f.run f.input_is f.source r.within steps r.spelled stop halts);
-    bad_line = λ input line f bad long. inl (told_bad_line left input o f.run f.input_is f.source long line bad);
-    too_long = λ input f long. inl (told_too_long left input o f.run f.input_is f.source long);
+        let f = r.faultless in inl (told_halts left r.input o r.run f.input_is f.source r.within steps r.spelled stop halts);
+    bad_line = λ input line r f bad long. inl (told_bad_line left input o r f.input_is f.source long line bad);
+    too_long = λ input r f long. inl (told_too_long left input o r f.input_is f.source long);
     generated = λ n seed g calm few. inl ((o.of_numbers n seed g).done few).0;
     too_many = λ n seed g calm many. inl ((o.of_numbers n seed g).too_long many).0;
     usage = λ none calm. inl (o.usage none).0;
   }
+
+  -- so has what was answered, of which the sink took all or failed
+  pub complete_written : (answered status : ℕ) (text : List ℕ) {Taken : Type 0} → IsOutput words left rest old new sb sa status text → (answered ≢ 5 → (answered ≡ status) × Taken) → (answered ≡ 5 → Rose kb ka) → IsComplete words left sb sa kb ka old new answered
+  complete_written answered status text o told fault = by (cases_eq answered 5)
+    where
+      by : (answered ≡ 5) ⊎ (answered ≢ 5) → IsComplete words left sb sa kb ka old new answered
+      by (inl e) = complete_fault answered (fault e)
+      by (inr n) = subst (λ (s : ℕ). IsComplete words left sb sa kb ka old new s) (sym (told n).0) (complete_told status text o)
 
 -- WORDS
 
@@ -330,3 +339,15 @@ known_unfailed status k = (
   (λ e. ⊎_elim (λ l. absurd (omega (arith, l, e))) (λ s. absurd (omega (arith, s.0, e))) k),
   (λ e. ⊎_elim (λ l. absurd (omega (arith, l, e))) (λ s. absurd (omega (arith, s.1, e))) k),
 )
+
+-- so is none that was answered with it, but for a fault of the sink
+module _ (answered status : ℕ) (k : Known status) {Taken : Type 0} (told : answered ≢ 5 → (answered ≡ status) × Taken) where
+  pub written_known : answered ≤ 9
+  written_known = by (cases_eq answered 5)
+    where
+      by : (answered ≡ 5) ⊎ (answered ≢ 5) → answered ≤ 9
+      by (inl e) = omega (arith, e)
+      by (inr n) = subst (λ (s : ℕ). s ≤ 9) (sym (told n).0) (known_status status k)
+
+  pub written_not_nine : answered ≢ 9
+  written_not_nine e = (known_unfailed status k).1 (sym (told (λ five. omega (arith, e, five))).0 ∙ e)

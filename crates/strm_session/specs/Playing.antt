@@ -1,16 +1,40 @@
--- Runs of steps, whatever their replies are kept as. Ours.
-use Rattle.std.specs.Prelude.{◌≡◌, ◌+◌, ◌≤◌, List, [], length, take, All, Result, IfOk, IfErr, OnOk}
+-- Steps and runs of them, whatever their replies are kept as. Ours.
+use Rattle.std.specs.Prelude.{◌≡◌, ◌+◌, ◌≤◌, ℕ, false, List, [], ◌∷◌, ◌++◌, length, take, All, Result, Ok, Err, IfOk, IfErr, OnOk}
 use Rattle.strm_machine.specs.State.{State}
 use Rattle.strm_machine.specs.Plays.{play, Ends}
 use Rattle.strm_machine.specs.declared.steps.Step.{Step}
 use Rattle.strm_machine.specs.declared.replies.Reply.{Reply}
 use Rattle.strm_laws.specs.Laws.{HasBytes}
 use Rattle.strm_buffers.specs.Tells.{Tells}
-use Rattle.strm_host_machine.specs.Does.{RunsTo}
+use Rattle.strm_machine.specs.Reactions.{react}
+use Rattle.strm_host_machine.specs.Asking.{GuestAsksBad}
+use Rattle.strm_host_machine.specs.Does.{Does, Fits, RunsTo}
+use Rattle.strm_host_machine.specs.Steps.{step_of}
+use Rattle.strm_transmit.specs.Hosted.{lone}
 use Rattle.strm_session.specs.declared.playing.Ended.{Ended}
 use Rattle.strm_session.specs.declared.runs.RunCause.{RunCause}
+use Rattle.strm_session.specs.declared.runs.RunCause.TheVariants as causes
 use Rattle.strm_session.specs.Records.{StopsByRecord, RulesKept, StopRules, HostsGoOn}
-use Rattle.strm_session.specs.Runs.{start, start_among, AreOfGuests, counts_of, stop_of, StopsAmong, StopsWanting, StopsAt, IsWhole, HasStopped}
+use Rattle.strm_session.specs.Runs.{start, start_among, AreOfGuests, counts_of, stop_of, StopsAmong, StopsWanting, StopsAt, StopsStep, LeavesWanting, IsWhole, HasStopped}
+
+-- a step was done from this state, and from what host ends told before, or it stopped the run: it is the machine's
+-- among host ends, and after it the store fits what they tell
+pub record IsStepped (old new : State) (tells told : Tells) (step : Step) (result : Result Reply RunCause) : Type 0 where
+  pub ok : IfOk result (λ reply. Does old new tells told (Ok reply) (λ world. step_of world step))
+  pub stop : IfErr result (λ cause. Does old new tells told (Err (stop_of cause)) (λ world. step_of world step))
+  pub wanting : IfErr result (LeavesWanting old new tells told step)
+  -- where guests meet at a bad item no memory is wanted
+  pub unmet : IfErr result (λ cause. cause ≡ causes.OutOfMemory → (s : ℕ) → ¬ GuestAsksBad (lone old) step s)
+  pub fits : Fits new told
+  pub goes_on : OnOk result (new.trapped ≡ false)
+
+-- a step that touches no host end: it is the machine's without them
+pub record IsSteppedAlone (old new : State) (tells told : Tells) (step : Step) (result : Result Reply RunCause) : Type 0 where
+  pub plays : (replies : List Reply) (more : List Step) →
+      IfOk result (λ reply. play replies old (step ∷ more) ≡ play (replies ++ reply ∷ []) new more)
+  pub state : OnOk result (new ≡ (react old step).state)
+  pub stop : (replies : List Reply) → IfErr result (StopsStep replies old step)
+  pub hosts : told ≡ tells
 
 -- these steps were done to their end, which is this state, or to the one that stopped them; these are the
 -- replies, and this is what host ends told before and tell after

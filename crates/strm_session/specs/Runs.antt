@@ -48,6 +48,10 @@ start = empty 0 (record { handles = 1000000; places = 1000000 })
 abbrev pub start_among : Tells → Tells → World
 start_among old new = world_of start old (saids new)
 
+-- there is room for these host ends in a run: a step names one of 64 on a side
+abbrev pub HaveRoom : Tells → Type 0
+HaveRoom tells = (length tells.writers ≤ 64) × (length tells.readers ≤ 64)
+
 -- steps of guests alone: host ends have no part in any
 abbrev pub AreOfGuests : List Step → Type 0
 AreOfGuests steps = All (λ step. is_of_guests (act_of step) ≡ true) steps

@@ -12,6 +12,7 @@ use Rattle.strm_host_machine.specs.World.{World}
 use Rattle.strm_host_machine.specs.HostPlays.{play as play_among}
 use Rattle.strm_host_machine.specs.HostPlays as world_plays
 use Rattle.strm_input_output.specs.Faults.{Rose}
+use Rattle.strm_input_output.specs.Serving.{IsFaultless, IsOfSource, IsOr}
 use Rattle.strm_lines.specs.Grammar.{IsU32}
 use Rattle.strm_lines.specs.Generator.{generated}
 use Rattle.strm_lines.specs.Lines.{lines_of, Spells, IsFirstBad, IsTooLong}
@@ -93,25 +94,23 @@ pub record IsStopped (old new : Tells) (status : ℕ) (input text : List ℕ) : 
 abbrev pub IsStop : ℕ → Type 0
 IsStop status = (6 ≤ status) × (status ≤ 8)
 
+-- the statuses of an input that was read and is within the limits
+abbrev pub IsOfLines : ℕ → Type 0
+IsOfLines status = (status ≡ 0) ⊎ ((status ≡ 2) ⊎ IsStop status)
+
 -- a status but 5 and 9, and its text, of a program that runs an input, by why they come: from the bytes that
 -- the source had left before and has left after, where these are told, what the host ends told before
 -- and tell after, and the source's faults before and after
 pub record IsOfInput (left rest : Option (List ℕ)) (old new : Tells)
     (before after status : ℕ) (text : List ℕ) : Type 0 where
-  pub known : (status ≤ 4) ⊎ IsStop status
-  pub called : status ≢ 1
+  pub source : IsOfSource IsOfLines IsTooLong left rest before after status text
   pub done : status ≡ 0 → IfSome left (λ input. IsTranscript old new input text)
   pub bad_line : status ≡ 2 → (line : ℕ)
       × IfSome left (λ input. IsFirstBad (lines_of input) line) × (text ≡ bad_line_text line)
-  pub too_long : status ≡ 3 → IfSome left IsTooLong × (text ≡ too_long_text)
-  pub read_fault : status ≡ 4 → Rose before after × (text ≡ read_fault_text)
   pub stopped : IsStop status → IfSome left (λ input. IsStopped old new status input text)
   -- where nothing is run, the host ends are as they were
   pub unrun : (1 ≤ status) → (status ≤ 4) → new ≡ old
-  -- the limits are tested before the lines
-  pub within : status ≢ 3 → status ≢ 4 → IfSome left (λ input. ¬ IsTooLong input)
-  -- the source was read to its end; where the input is too long, unless its bytes are too many
-  pub whole : status ≢ 3 → status ≢ 4 → IsAtEnd rest
+  -- an input with too many lines was read to its end too, unless its bytes are too many
   pub whole_lines : status ≡ 3 → (input : List ℕ) → left ≡ Some input →
       length input ≤ 16777216 → IsAtEnd rest
 
@@ -152,25 +151,15 @@ LeavesUnwritten left old new = (new ≡ old) ⊎ WasRun left old new
 abbrev pub IsStatus : ℕ → Type 0
 IsStatus status = status ≤ 9
 
--- the program is told to run, the source has this input left, and neither source nor sink fails
-pub record IsFaultless (words : List (List ℕ)) (left : Option (List ℕ)) (input : List ℕ)
-    (source_before source_after sink_before sink_after : ℕ) : Type 0 where
-  pub run : IsRun words
-  pub input_is : left ≡ Some input
-  pub source : ¬ Rose source_before source_after
-  pub sink : ¬ Rose sink_before sink_after
-
--- and the input is in the grammar and the limits, and spells these steps
+-- the program is told to run an input in the grammar and the limits, which spells these steps, and neither source
+-- nor sink fails
 pub record IsRunOf (words : List (List ℕ)) (left : Option (List ℕ))
     (source_before source_after sink_before sink_after : ℕ) (steps : List Step) : Type 0 where
+  pub run : IsRun words
   pub input : List ℕ
-  pub faultless : IsFaultless words left input source_before source_after sink_before sink_after
+  pub faultless : IsFaultless left input source_before source_after sink_before sink_after
   pub spelled : Spells (lines_of input) steps
   pub within : ¬ IsTooLong input
-
--- this status, or that of want of memory
-abbrev pub IsOr : ℕ → ℕ → Type 0
-IsOr expected status = (status ≡ expected) ⊎ (status ≡ 9)
 
 -- which status comes, but for a fault of source or sink and for want of memory, by causes that a caller sees:
 -- an input in the grammar and the limits is run to its end where no host end fails, each record that one
@@ -191,11 +180,11 @@ pub record IsComplete (words : List (List ℕ)) (left : Option (List ℕ))
   pub halts : (steps : List Step) →
       IsRunOf words left source_before source_after sink_before sink_after steps → (stop : Stop) →
       HaltsWith (start_among old new) steps stop → StandsFor status stop ⊎ (status ≡ 9)
-  pub bad_line : (input : List ℕ) (line : ℕ) →
-      IsFaultless words left input source_before source_after sink_before sink_after →
+  pub bad_line : (input : List ℕ) (line : ℕ) → IsRun words →
+      IsFaultless left input source_before source_after sink_before sink_after →
       IsFirstBad (lines_of input) line → ¬ IsTooLong input → IsOr 2 status
-  pub too_long : (input : List ℕ) →
-      IsFaultless words left input source_before source_after sink_before sink_after →
+  pub too_long : (input : List ℕ) → IsRun words →
+      IsFaultless left input source_before source_after sink_before sink_after →
       IsTooLong input → IsOr 3 status
   pub generated : (n seed : ℕ) → IsGen words n seed → ¬ Rose sink_before sink_after → n ≤ 262140 → IsOr 0 status
   pub too_many : (n seed : ℕ) → IsGen words n seed → ¬ Rose sink_before sink_after → 262140 < n → IsOr 3 status

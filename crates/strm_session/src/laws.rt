@@ -67,16 +67,21 @@ pub(crate) fn laws_hold_among()
     ensures gone { (old new : Tells) (steps : List Step) (replies : List Reply) (stop : Stop)
         (writers : List Writer) (readers : List Reader) →
         play_among [] (start_among old new) steps ≡ HaltsAmong replies stop writers readers →
-        EndsExactly (last_of (start_among old new) (host_moments (start_among old new) steps)).state writers }
+        EndsExactly
+        (last_of (start_among old new) (host_moments (start_among old new) steps)).state writers }
     ensures fed { (old new : Tells) (steps : List Step) (replies : List Reply) (stop : Stop)
         (writers : List Writer) (readers : List Reader) →
-        play_among [] (start_among old new) steps ≡ HaltsAmong replies stop writers readers → (n : ℕ) →
-        WriterStops (writer_at (last_of (start_among old new) (host_moments (start_among old new) steps)) n)
+        play_among [] (start_among old new) steps ≡ HaltsAmong replies stop writers readers →
+        (n : ℕ) →
+        WriterStops
+        (writer_at (last_of (start_among old new) (host_moments (start_among old new) steps)) n)
         (writer_in writers n) }
     ensures granted { (old new : Tells) (steps : List Step) (replies : List Reply) (stop : Stop)
         (writers : List Writer) (readers : List Reader) →
-        play_among [] (start_among old new) steps ≡ HaltsAmong replies stop writers readers → (r : ℕ) →
-        ReaderStops (reader_at (last_of (start_among old new) (host_moments (start_among old new) steps)) r)
+        play_among [] (start_among old new) steps ≡ HaltsAmong replies stop writers readers →
+        (r : ℕ) →
+        ReaderStops
+        (reader_at (last_of (start_among old new) (host_moments (start_among old new) steps)) r)
         (reader_in readers r) }
 {
     runs::moments_lead_to_the_end();

@@ -2,32 +2,27 @@
 //!
 //! Meaning: `Playing.antt`. Source: ours.
 
-ghost use Rattle.std.specs.Prelude.{◌≡◌, ◌≢◌, ◌≤◌, ◌<◌, ◌∷◌, ◌++◌, [], List, ℕ, false, length, IfOk, IfErr, OnOk, Ok, Err};
+ghost use Rattle.std.specs.Prelude.{◌≡◌, ◌≢◌, ◌≤◌, ◌<◌, ◌∷◌, ◌++◌, [], List, false, length, IfOk, IfErr, Err};
 ghost use Rattle.strm_codes.specs.declared.refusals.Refusal.{Refusal};
 ghost use Rattle.strm_machine.specs.Acts.{act_of};
-ghost use Rattle.strm_machine.specs.Reactions.{react};
-ghost use Rattle.strm_machine.specs.Plays.{play};
-ghost use Rattle.strm_machine.specs.declared.steps.Step.{Step};
 ghost use Rattle.strm_machine.specs.declared.replies.Reply.{Reply};
 ghost use Rattle.strm_laws.specs.Laws.{HasBytes};
-ghost use Rattle.strm_host_machine.specs.Steps.{step_of, touches};
-ghost use Rattle.strm_host_machine.specs.Does.{Fits, Does};
-ghost use Rattle.strm_host_machine.specs.Asking.{GuestAsksBad};
+ghost use Rattle.strm_host_machine.specs.Steps.{touches};
+ghost use Rattle.strm_host_machine.specs.Does.{Fits};
 ghost use Rattle.strm_transmit.specs.Hosted.{answered, lone};
-ghost use Rattle.strm_buffers.specs.AllTells.{tells_of};
-ghost use Rattle.strm_session.specs.Runs.{start, counts_of, stop_of, StopsStep, LeavesWanting};
-ghost use Rattle.strm_session.specs.Playing.{IsPlayed, HasRun};
+ghost use Rattle.strm_session.specs.Runs.{start, counts_of, stop_of, HaveRoom};
+ghost use Rattle.strm_session.specs.Playing.{IsStepped, IsSteppedAlone, IsPlayed, HasRun};
 
 use crate::laws::{laws_hold, laws_hold_among};
 use crate::runs::{PROGRAM_LIMITS, RunCause};
 use std::alloc::Global;
-use strm_buffers::hosts::Hosts;
 use strm_codes::counts::OutOfMemory;
 use strm_lines::lists::Counts;
 use strm_lines::one_by_one::{GivesSteps, KeepsReplies};
 use strm_machine::replies::Reply;
 use strm_machine::steps::Step;
 use strm_transmit::errors::StoreError;
+use strm_transmit::host_ends::HostEnds;
 use strm_transmit::steps::apply;
 use strm_transmit::store::Store;
 
@@ -41,19 +36,17 @@ pub(crate) struct Ended {
 }
 
 // Runs the steps on a new store, and keeps their replies.
-pub(crate) fn play_all<L: GivesSteps, R: KeepsReplies>(
+pub(crate) fn play_all<L: GivesSteps, R: KeepsReplies, H: HostEnds>(
     alloc: Global,
     steps: &mut L,
     replies: &mut R,
-    hosts: &mut Hosts,
+    hosts: &mut H,
 ) -> Result<Ended, RunCause>
     requires few { length (L.left steps.old) ≤ 4294967295 }
     requires none { R.keeps replies.old [] }
-    requires writers { length (tells_of writer_tells reader_tells hosts.old).writers ≤ 64 }
-    requires readers { length (tells_of writer_tells reader_tells hosts.old).readers ≤ 64 }
+    requires room { HaveRoom (H.tells hosts.old) }
     ensures { (told : List Reply) × R.keeps replies.new told
-        × HasRun (tells_of writer_tells reader_tells hosts.old) (tells_of writer_tells reader_tells hosts.new)
-        (L.left steps.old) told result }
+        × HasRun (H.tells hosts.old) (H.tells hosts.new) (L.left steps.old) told result }
 {
     hosts.sound();
     laws_hold();
@@ -91,9 +84,9 @@ fn counts(alloc: Global, store: &Store) -> Result<Counts, OutOfMemory>
 }
 
 // Does the steps in order, and keeps their replies.
-fn play_steps<L: GivesSteps, R: KeepsReplies>(
+fn play_steps<L: GivesSteps, R: KeepsReplies, H: HostEnds>(
     store: &mut Store,
-    hosts: &mut Hosts,
+    hosts: &mut H,
     replies: &mut R,
     steps: &mut L,
 ) -> Result<(), RunCause>
@@ -101,7 +94,7 @@ fn play_steps<L: GivesSteps, R: KeepsReplies>(
     requires none { R.keeps replies.old [] }
     requires few { length (L.left steps.old) ≤ 4294967295 }
     ensures { (told : List Reply) × R.keeps replies.new told
-        × IsPlayed (tells_of writer_tells reader_tells hosts.old) (tells_of writer_tells reader_tells hosts.new)
+        × IsPlayed (H.tells hosts.old) (H.tells hosts.new)
         (L.left steps.old) told store.new result }
 {
     laws_hold_among();
@@ -125,38 +118,23 @@ fn sound(step: &Step)
 
 // Does one step, and keeps its reply.
 #[inline(always)]
-fn step_once<R: KeepsReplies>(
+fn step_once<R: KeepsReplies, H: HostEnds>(
     store: &mut Store,
-    hosts: &mut Hosts,
+    hosts: &mut H,
     replies: &mut R,
     step: &Step,
 ) -> Result<Reply, RunCause>
     requires running { store.old.trapped ≡ false }
-    requires fits { Fits store.old (tells_of writer_tells reader_tells hosts.old) }
+    requires fits { Fits store.old (H.tells hosts.old) }
     requires few { (told : List Reply) × R.keeps replies.old told × (length told < 4294967295) }
-    ensures ok { IfOk result (λ reply. Does store.old store.new (tells_of writer_tells reader_tells hosts.old)
-        (tells_of writer_tells reader_tells hosts.new) (Ok reply) (λ world. step_of world step.now)) }
-    ensures stop { IfErr result (λ cause. Does store.old store.new (tells_of writer_tells reader_tells hosts.old)
-        (tells_of writer_tells reader_tells hosts.new) (Err (stop_of cause)) (λ world. step_of world step.now)) }
-    ensures wanting { IfErr result (LeavesWanting store.old store.new
-        (tells_of writer_tells reader_tells hosts.old) (tells_of writer_tells reader_tells hosts.new) step.now) }
-    ensures unmet { IfErr result (λ cause. cause ≡ RunCause.OutOfMemory
-        → (s : ℕ) → ¬ GuestAsksBad (lone store.old) step.now s) }
-    ensures fits { Fits store.new (tells_of writer_tells reader_tells hosts.new) }
-    ensures goes_on { OnOk result (store.new.trapped ≡ false) }
+    ensures does { IsStepped store.old store.new
+        (H.tells hosts.old) (H.tells hosts.new) step.now result }
+    ensures alone { touches (lone store.old) (act_of step.now) ≡ false →
+        IsSteppedAlone store.old store.new (H.tells hosts.old) (H.tells hosts.new) step.now result }
     ensures kept { (told : List Reply) → R.keeps replies.old told →
         IfOk result (λ reply. R.keeps replies.new (told ++ reply ∷ [])) }
-    ensures err { (told : List Reply) → R.keeps replies.old told → IfErr result (λ _. R.keeps replies.new told) }
-
-    // Where it touches no host end, it is the machine's without them.
-    ensures alone { touches (lone store.old) (act_of step.now) ≡ false → (told : List Reply) (more : List Step) →
-        IfOk result (λ reply. play told store.old (step.now ∷ more) ≡ play (told ++ reply ∷ []) store.new more) }
-    ensures state { touches (lone store.old) (act_of step.now) ≡ false →
-        OnOk result (store.new ≡ (react store.old step.now).state) }
-    ensures stop_alone { touches (lone store.old) (act_of step.now) ≡ false → (told : List Reply) →
-        IfErr result (StopsStep told store.old step.now) }
-    ensures hosts { touches (lone store.old) (act_of step.now) ≡ false →
-        (tells_of writer_tells reader_tells hosts.new) ≡ (tells_of writer_tells reader_tells hosts.old) }
+    ensures err { (told : List Reply) → R.keeps replies.old told →
+        IfErr result (λ _. R.keeps replies.new told) }
 {
     match apply(store, hosts, step) {
         Ok(reply) => match replies.keep(&reply) {

@@ -3,17 +3,16 @@
 //! Source: ours.
 
 ghost use Rattle.std.specs.Prelude.{◌≡◌, ◌≤◌, length, IfOk, IfErr};
-ghost use Rattle.strm_buffers.specs.AllTells.{tells_of};
 ghost use Rattle.strm_session.specs.Records.{HostsGoOn};
-ghost use Rattle.strm_session.specs.Runs.{AreOfGuests, counts_of, next_step, IsWhole, HasStopped, IsDecided};
+ghost use Rattle.strm_session.specs.Runs.{HaveRoom, AreOfGuests, counts_of, next_step, IsWhole, HasStopped, IsDecided};
 
 use crate::playing::{Ended, play_all};
 use std::alloc::Global;
-use strm_buffers::hosts::Hosts;
 use strm_lines::lists::{Counts, Replies, StepsLeft};
 use strm_machine::limits::Limits;
 use strm_machine::steps::Step;
 use strm_machine::streams::HostEnd;
+use strm_transmit::host_ends::HostEnds;
 use strm_transmit::store::Store;
 
 /// The limits of a run's store.
@@ -59,29 +58,25 @@ pub struct RunStop {
 }
 
 /// Runs the steps on a new store, which polls and feeds these host ends and closes those that go.
-pub fn run(alloc: Global, steps: &[Step], hosts: &mut Hosts) -> Result<Transcript, RunStop>
+pub fn run<H: HostEnds>(alloc: Global, steps: &[Step], hosts: &mut H) -> Result<Transcript, RunStop>
     requires few { length steps.now ≤ 4294967295 }
-    requires writers { length (tells_of writer_tells reader_tells hosts.old).writers ≤ 64 }
-    requires readers { length (tells_of writer_tells reader_tells hosts.old).readers ≤ 64 }
+    requires room { HaveRoom (H.tells hosts.old) }
 
     // It is the machine's play on the records that are added to the host ends, exactly those, and the
     // laws of every run hold after each of its steps.
-    ensures ok { IfOk result (λ t. IsWhole (tells_of writer_tells reader_tells hosts.old)
-        (tells_of writer_tells reader_tells hosts.new) steps.now t.replies t.store) }
+    ensures ok { IfOk result (λ t.
+        IsWhole (H.tells hosts.old) (H.tells hosts.new) steps.now t.replies t.store) }
     ensures received { IfOk result (λ t. t.moved ≡ counts_of t.store) }
-    ensures stop { IfErr result (λ stop. HasStopped (tells_of writer_tells reader_tells hosts.old)
-        (tells_of writer_tells reader_tells hosts.new) steps.now stop.replies stop.cause) }
+    ensures stop { IfErr result (λ stop.
+        HasStopped (H.tells hosts.old) (H.tells hosts.new) steps.now stop.replies stop.cause) }
     ensures at { IfErr result (λ stop. stop.at ≡ next_step stop.replies) }
 
     // What it did to the host ends: on steps of guests alone, nothing.
-    ensures hosts { HostsGoOn (tells_of writer_tells reader_tells hosts.old)
-        (tells_of writer_tells reader_tells hosts.new) }
-    ensures alone { AreOfGuests steps.now →
-        tells_of writer_tells reader_tells hosts.new ≡ tells_of writer_tells reader_tells hosts.old }
+    ensures hosts { HostsGoOn (H.tells hosts.old) (H.tells hosts.new) }
+    ensures alone { AreOfGuests steps.now → H.tells hosts.new ≡ H.tells hosts.old }
 
     // How it comes out, by causes that a caller sees.
-    ensures decided { IsDecided (tells_of writer_tells reader_tells hosts.old)
-        (tells_of writer_tells reader_tells hosts.new) steps.now result }
+    ensures decided { IsDecided (H.tells hosts.old) (H.tells hosts.new) steps.now result }
 {
     let mut replies = Replies::new(alloc);
     // Where there is no room for all, each reply asks for its own.

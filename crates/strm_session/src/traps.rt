@@ -21,5 +21,6 @@ pub fn answers_leave_no_trap()
     ensures after { (old new : State) (tells told : Tells) (reply : Reply) (step : Step) →
         Does old new tells told (Ok reply) (λ world. step_of world step) → new.trapped ≡ false }
     ensures trapped { (old new : State) (tells told : Tells) (step : Step) →
-        Does old new tells told (Err (Some stops.StoreTrapped)) (λ world. step_of world step) → old.trapped ≡ true }
+        Does old new tells told (Err (Some stops.StoreTrapped)) (λ world. step_of world step) →
+        old.trapped ≡ true }
 {}

@@ -1,14 +1,13 @@
 //! A source and a sink in memory, which give and take bytes in pieces, and of which a call fails.
 
-ghost use Rattle.std.specs.Prelude.{◌≤◌, length};
-ghost use Rattle.strm_buffers.specs.AllTells.{tells_of};
+ghost use Rattle.strm_session.specs.Runs.{HaveRoom};
 
 use std::alloc::{AllocError, Global};
 use std::process::Abort;
-use strm_buffers::hosts::Hosts;
 use strm_session::in_memory::{BytesSink, BytesSource};
 use strm_session::serving::serve;
 use strm_session::whole::{read_all, write_whole};
+use strm_transmit::host_ends::HostEnds;
 
 /// A source of these bytes, of which a call gives at most 4, and the call of this number fails.
 pub(crate) fn source(alloc: Global, bytes: &[u8], failing: u32) -> Result<BytesSource, AllocError> {
@@ -25,16 +24,15 @@ pub(crate) fn sink(alloc: Global, failing: u32) -> Result<BytesSink, AllocError>
 
 /// Whether these lines are served so by `run`, among these host ends, from a source and to a sink of which a call
 /// gives or takes at most 8 bytes, and the calls of these numbers fail.
-pub(crate) fn pieces_of_eight(
+pub(crate) fn pieces_of_eight<H: HostEnds>(
     alloc: Global,
     input: &str,
     failing: (u32, u32),
     status: u8,
     text: &str,
-    hosts: &mut Hosts,
+    hosts: &mut H,
 ) -> Result<bool, AllocError>
-    requires writers { length (tells_of writer_tells reader_tells hosts.old).writers ≤ 64 }
-    requires readers { length (tells_of writer_tells reader_tells hosts.old).readers ≤ 64 }
+    requires room { HaveRoom (H.tells hosts.old) }
 {
     let mut words = Vec::new(alloc);
     words.push(String::from_str(alloc, "run")?)?;

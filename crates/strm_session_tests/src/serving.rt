@@ -1,7 +1,6 @@
 //! The statuses of `serve` and their texts, also where a source or a sink fails.
 
-ghost use Rattle.std.specs.Prelude.{◌≤◌, length};
-ghost use Rattle.strm_buffers.specs.AllTells.{tells_of};
+ghost use Rattle.strm_session.specs.Runs.{HaveRoom};
 
 use crate::pieces::{sink, source};
 use std::alloc::{AllocError, Global};
@@ -10,6 +9,7 @@ use strm_buffers::hosts::Hosts;
 use strm_codes::payloads::Payload;
 use strm_codes::scalars::Scalar;
 use strm_session::serving::serve;
+use strm_transmit::host_ends::HostEnds;
 
 /// Words, an input, the calls of the source and of the sink that fail, the status, and its text.
 #[derive(Clone, Copy)]
@@ -41,9 +41,12 @@ fn list(alloc: Global, words: &[&str]) -> Result<Vec<String>, AllocError> {
 }
 
 /// Whether words and an input are served so, among these host ends.
-pub(crate) fn is_served(alloc: Global, row: &Row, hosts: &mut Hosts) -> Result<bool, AllocError>
-    requires writers { length (tells_of writer_tells reader_tells hosts.old).writers ≤ 64 }
-    requires readers { length (tells_of writer_tells reader_tells hosts.old).readers ≤ 64 }
+pub(crate) fn is_served<H: HostEnds>(
+    alloc: Global,
+    row: &Row,
+    hosts: &mut H,
+) -> Result<bool, AllocError>
+    requires room { HaveRoom (H.tells hosts.old) }
 {
     let words = list(alloc, row.words)?;
     let mut source = source(alloc, row.input.as_bytes(), row.failing.0)?;

@@ -34,7 +34,8 @@ impl ReplayReader {
     pub fn new(alloc: Global, tape: &Tape, number: u32) -> Result<ReplayReader, OutOfMemory>
         requires { number < length tape.now.readers }
         ensures tells { (t : ReaderTape) → slice_get tape.now.readers number ≡ Some t →
-            IfOk result (λ r. replay_reader_tells r ≡ unpolled_discarding (kind_of t.ty) (payload_of t.ty)) }
+            IfOk result (λ r.
+            replay_reader_tells r ≡ unpolled_discarding (kind_of t.ty) (payload_of t.ty)) }
         ensures plan { (t : ReaderTape) → slice_get tape.now.readers number ≡ Some t →
             IfOk result (λ r. plan_of_reader r ≡ map turn_for t.said) }
     {
@@ -101,10 +102,12 @@ impl HostReader for ReplayReader {
         requires payload { offer.old.payload ≡ (replay_reader_tells self.old).payload }
         requires nothing_taken { offer.old.taken ≡ 0 }
         requires not_bad { offer.old.bad ≡ false }
-        ensures polls { IfAnswered result (λ answer. PollsReader (replay_reader_tells self.old) (replay_reader_tells self.new)
+        ensures polls { IfAnswered result (λ answer.
+            PollsReader (replay_reader_tells self.old) (replay_reader_tells self.new)
             (reader_record offer.old offer.new finish answer)
             (first_lent (scalars_of offer.old.payload) offer.old.source offer.new.taken)) }
-        ensures no_memory { IfNoMemory result (KeepsReader (replay_reader_tells self.old) (replay_reader_tells self.new)) }
+        ensures no_memory { IfNoMemory result
+            (KeepsReader (replay_reader_tells self.old) (replay_reader_tells self.new)) }
         ensures untaken { IfNoMemory result (offer.new.taken ≡ 0) }
         ensures next { offer.new.bad ≡ true →
             IsBadNext (scalars_of offer.old.payload) offer.old.source offer.new.taken }
@@ -112,16 +115,20 @@ impl HostReader for ReplayReader {
 
         // It follows the record of its place among the polls.
         ensures takes { IfAnswered result (λ _. offer.new ≡
-            after_taking (turn_after (plan_of_reader self.old) (length (replay_reader_tells self.old).said)).take offer.old) }
+            after_taking
+            (turn_after (plan_of_reader self.old)
+            (length (replay_reader_tells self.old).said)).take offer.old) }
         ensures answer { IfAnswered result (λ answer. answer ≡
-            (turn_after (plan_of_reader self.old) (length (replay_reader_tells self.old).said)).answer) }
+            (turn_after (plan_of_reader self.old)
+            (length (replay_reader_tells self.old).said)).answer) }
         ensures plan { plan_of_reader self.new ≡ plan_of_reader self.old }
     {
         self.end.poll(offer, finish)
     }
 
     fn grant(&mut self, count: u32) -> Result<(), OutOfMemory>
-        ensures ok { OnOk result (replay_reader_tells self.new ≡ granted (replay_reader_tells self.old) count) }
+        ensures ok { OnOk result
+            (replay_reader_tells self.new ≡ granted (replay_reader_tells self.old) count) }
         ensures err { OnErr result (replay_reader_tells self.new ≡ replay_reader_tells self.old) }
 
         // Its plan stays.
@@ -131,7 +138,8 @@ impl HostReader for ReplayReader {
     }
 
     fn close(&mut self)
-        ensures closes { replay_reader_tells self.new ≡ closed_reader (replay_reader_tells self.old) }
+        ensures closes { replay_reader_tells self.new
+            ≡ closed_reader (replay_reader_tells self.old) }
 
         // Its plan stays.
         ensures plan { plan_of_reader self.new ≡ plan_of_reader self.old }

@@ -11,7 +11,7 @@ use Rattle.strm_tape.specs.declared.errors.TapeError.{TapeError}
 use Rattle.strm_tape.specs.declared.errors.TapeError.TheVariants.{NotATape, NotTapable, Holding, Differs, OutOfMemory}
 use Rattle.strm_tape_runs.specs.Errors.{IsReplayError}
 use Rattle.strm_tape_runs.specs.Taking.{tape_of_run}
-use Rattle.strm_tape_runs.specs.Playing.{IsPlayOf, WasRun, WasRunInMemory}
+use Rattle.strm_tape_runs.specs.Playing.{IsPlayOf, WasRunOrNot, WasRunInMemory}
 use Rattle.strm_tape_runs.specs.Differing.{WritersDiffer, ReadersDiffer, FirstDiffer}
 use Rattle.strm_tape_runs.proofs.PlayLemmas.{one_play}
 use Rattle.strm_tape_program.specs.Playing.{IsReplay, IsOtherRun, IsOfTape, IsStatusOfPlay}
@@ -55,12 +55,8 @@ status_of_play tape old new status text h (inr s) end plays =
     subst (IsStatusOfPlay status) (one_play tape (Err stopped.end) end stopped.replay.plays plays) (stopped.why, stopped.status_is)
 
 module _ {R : Type 0} (result : Result R TapeError) (old new : Tells) (steps : List Step) where
-  -- it was run, or nothing was done
-  abbrev pub RunOrNot : Type 0
-  RunOrNot = (new ≡ old) ⊎ WasRun old new steps
-
-  -- so is each replay that answers an error
-  pub run_or_not : (error : TapeError) → result ≡ Err error → ((e : TapeError) → IsErrOf result e → IsReplayError e) → (IsErrOf result OutOfMemory → RunOrNot) → ((reader : Bool) (end at : ℕ) → IsErrOf result (Differs reader end at) → WasRunInMemory old new steps) → RunOrNot
+  -- each replay that answers an error was run, or nothing was done
+  pub run_or_not : (error : TapeError) → result ≡ Err error → ((e : TapeError) → IsErrOf result e → IsReplayError e) → (IsErrOf result OutOfMemory → WasRunOrNot old new steps) → ((r : Bool) (end at : ℕ) → IsErrOf result (Differs r end at) → WasRunInMemory old new steps) → WasRunOrNot old new steps
   run_or_not OutOfMemory e other wanting adds = wanting e
   run_or_not (Differs reader end at) e other wanting adds = let ran = adds reader end at e in inr (ran.0, ran.1)
   run_or_not NotATape e other wanting adds = absurd (other NotATape e)

@@ -1,9 +1,8 @@
 -- What the program writes of a script that is taken on tape, and why. Ours.
-use Rattle.std.specs.Prelude.{◌≡◌, ◌≢◌, ◌⊎◌, ℕ, List, Option, Some, Result, IfSome}
-use Rattle.std.specs.Io.KnownBytes.{IsAtEnd}
+use Rattle.std.specs.Prelude.{◌≡◌, ◌≢◌, ◌⊎◌, ℕ, List, Option, Result, IfSome}
 use Rattle.strm_buffers.specs.Tells.{Tells}
 use Rattle.strm_machine.specs.declared.steps.Step.{Step}
-use Rattle.strm_input_output.specs.Faults.{Rose}
+use Rattle.strm_input_output.specs.Serving.{IsOfSource}
 use Rattle.strm_lines.specs.Lines.{lines_of, Spells, IsFirstBad, IsTooLong}
 use Rattle.strm_lines.specs.Text.{bad_line_text, too_long_text, read_fault_text}
 use Rattle.strm_session.specs.declared.runs.RunStop.{RunStop}
@@ -30,23 +29,21 @@ pub record IsTaken (old new : Tells) (input text : List ℕ) : Type 0 where
   pub taped : IsTaped old new steps
   pub text_is : text ≡ tape_spelling (tape_of_run steps old new)
 
+-- the statuses of a script that was read and is within the limits
+abbrev pub IsOfLines : ℕ → Type 0
+IsOfLines status = (status ≡ 0) ⊎ (status ≡ 2)
+
 -- a status but 5 and 9, and what is written with it, by why they come: from the bytes that the source had left
 -- before and has left after, where these are told, what the host ends told before and tell after, and the
 -- source's faults before and after
 pub record IsOfScript (left rest : Option (List ℕ)) (old new : Tells)
     (before after status : ℕ) (text : List ℕ) : Type 0 where
-  pub known : (status ≡ 0) ⊎ (status ≡ 2) ⊎ (status ≡ 3) ⊎ (status ≡ 4)
+  pub source : IsOfSource IsOfLines IsTooLong left rest before after status text
   pub done : status ≡ 0 → IfSome left (λ input. IsTaken old new input text)
   pub bad_line : status ≡ 2 → (line : ℕ)
       × IfSome left (λ input. IsFirstBad (lines_of input) line) × (text ≡ bad_line_text line)
-  pub too_long : status ≡ 3 → IfSome left IsTooLong × (text ≡ too_long_text)
-  pub read_fault : status ≡ 4 → Rose before after × (text ≡ read_fault_text)
   -- where nothing is run, the host ends are as they were
   pub unrun : status ≢ 0 → new ≡ old
-  -- the limits are tested before the lines
-  pub within : status ≢ 3 → status ≢ 4 → IfSome left (λ input. ¬ IsTooLong input)
-  -- the source was read to its end, unless its bytes are too many
-  pub whole : status ≢ 3 → status ≢ 4 → IsAtEnd rest
 
 -- the statuses of taking
 abbrev pub IsTakeStatus : ℕ → Type 0
@@ -65,10 +62,3 @@ text_of (Tape bytes) = bytes
 text_of (BadLine text) = text
 text_of TooLong = too_long_text
 text_of Fault = read_fault_text
-
--- the source has this input left, and neither source nor sink fails
-pub record IsFaultless (left : Option (List ℕ)) (input : List ℕ)
-    (source_before source_after sink_before sink_after : ℕ) : Type 0 where
-  pub input_is : left ≡ Some input
-  pub source : ¬ Rose source_before source_after
-  pub sink : ¬ Rose sink_before sink_after

@@ -7,7 +7,7 @@
 pub mod modes;
 pub mod playing;
 pub mod reading;
-pub mod statuses;
 pub mod taking;
 mod texts;
-mod writing;
+
+pub use strm_input_output::statuses;

@@ -9,9 +9,9 @@ ghost use Rattle.strm_tape_program.specs.declared.modes.Mode.{Mode};
 ghost use Rattle.strm_tape_program.specs.Modes.{Names, NamesNone, mode_of_word};
 ghost use Rattle.strm_tape_program.specs.Texts.{usage_text};
 
-use crate::statuses::USAGE;
+use crate::statuses::{USAGE, WRITE_FAULT};
 use crate::texts::usage_text;
-use crate::writing::write_text;
+use strm_input_output::answers::write_answer;
 use strm_input_output::ports::Sink;
 
 /// What the program does.
@@ -26,23 +26,27 @@ pub enum Mode {
 /// What the one word behind the program's name says, `take` or `play`. For other words it writes how to call
 /// the program, and answers the program's status: `USAGE`, or `WRITE_FAULT`.
 pub fn tape_mode<K: Sink>(words: &Vec<String>, sink: &mut K) -> Result<Mode, u8>
-    ensures named { (mode : Mode) → (result ≡ Ok mode) ↔ Names (map string_bytes words.now.items) mode }
-    ensures known { IfErr result (λ status. (status ≡ 1) ⊎ (status ≡ 5)) }
+    ensures named { (mode : Mode) →
+        (result ≡ Ok mode) ↔ Names (map string_bytes words.now.items) mode }
+    ensures known { IfErr result (λ status. (status ≡ USAGE) ⊎ (status ≡ WRITE_FAULT)) }
     ensures other { IfErr result (λ status. NamesNone (map string_bytes words.now.items)) }
-    ensures usage { IfErr result (λ status. status ≡ 1 → Appends (K.taken sink.old) (K.taken sink.new) usage_text) }
-    ensures write_fault { IfErr result (λ status. status ≡ 5 →
-        TakesPart (K.taken sink.old) (K.taken sink.new) usage_text × Rose (K.faults sink.old) (K.faults sink.new)) }
+    ensures usage { IfErr result (λ status. status ≡ USAGE →
+        Appends (K.taken sink.old) (K.taken sink.new) usage_text) }
+    ensures write_fault { IfErr result (λ status. status ≡ WRITE_FAULT →
+        TakesPart (K.taken sink.old) (K.taken sink.new) usage_text
+        × Rose (K.faults sink.old) (K.faults sink.new)) }
     ensures quiet { OnOk result (sink.new ≡ sink.old) }
 {
     match mode_of(words) {
         Some(mode) => Ok(mode),
-        None => Err(write_text(sink, USAGE, usage_text())),
+        None => Err(write_answer(sink, USAGE, usage_text())),
     }
 }
 
 // The mode that the words name.
 fn mode_of(words: &Vec<String>) -> Option<Mode>
-    ensures some { (mode : Mode) → (result ≡ Some mode) ↔ Names (map string_bytes words.now.items) mode }
+    ensures some { (mode : Mode) →
+        (result ≡ Some mode) ↔ Names (map string_bytes words.now.items) mode }
     ensures none { result ≡ None → NamesNone (map string_bytes words.now.items) }
 {
     let words = words.as_slice();

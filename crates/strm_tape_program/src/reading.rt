@@ -3,15 +3,16 @@
 //! Meaning: `Reading.antt`. Ours.
 
 ghost use Rattle.std.specs.Prelude.{◌≡◌, ◌≢◌, ◌⊎◌, ◌≤◌, ◌<◌, ◌+◌, ℕ, List, length, IfOk, IfErr, OnOk, IfSome, MatchResult, Err, Some};
-ghost use Rattle.std.specs.Io.KnownBytes.{Appends, Consumes, IsAtEnd};
-ghost use Rattle.strm_input_output.specs.Faults.{Rose, TakesPart};
+ghost use Rattle.std.specs.Io.KnownBytes.{IsAtEnd};
+ghost use Rattle.strm_input_output.specs.Faults.{Rose};
+ghost use Rattle.strm_input_output.specs.Serving.{ReadsWithin, WritesWhole, WritesPart};
 ghost use Rattle.strm_tape.specs.Spelling.{TapeOf, IsTape, tape_spelling};
 ghost use Rattle.strm_tape_program.specs.Reading.{most_bytes, IsSpelling, IsReadStatus, IsNoTape, IsWhy, IsReadable};
 
-use crate::statuses::{NOT_A_TAPE, OUT_OF_MEMORY, READ_FAULT, TOO_LONG};
+use crate::statuses::{NOT_A_TAPE, OUT_OF_MEMORY, READ_FAULT, TOO_LONG, WRITE_FAULT};
 use crate::texts::not_a_tape_text;
-use crate::writing::write_text;
 use std::alloc::Global;
+use strm_input_output::answers::write_answer;
 use strm_input_output::ports::{Sink, Source};
 use strm_input_output::whole::{InputError, read_within};
 use strm_lines::texts::{read_fault_text, too_long_text};
@@ -43,55 +44,59 @@ pub fn tape_read<S: Source, K: Sink>(
     source: &mut S,
     sink: &mut K,
 ) -> Result<Tape, u8>
-    ensures tape { IfOk result (λ tape. IfSome (S.left source.old) (λ bytes. tape_spelling tape ≡ bytes)) }
+    ensures tape { IfOk result (λ tape.
+        IfSome (S.left source.old) (λ bytes. tape_spelling tape ≡ bytes)) }
     ensures whole { OnOk result (IsAtEnd (S.left source.new)) }
     ensures quiet { OnOk result (sink.new ≡ sink.old) }
     ensures known { IfErr result IsReadStatus }
-    ensures told { IfErr result (λ status. status ≢ 5 → status ≢ 9 → (text : List ℕ)
-        × IsNoTape (S.left source.old) (S.faults source.old) (S.faults source.new) status text
-        × Appends (K.taken sink.old) (K.taken sink.new) text) }
-    ensures part { IfErr result (λ status. status ≡ 5 → (meant : ℕ) × (text : List ℕ)
-        × IsNoTape (S.left source.old) (S.faults source.old) (S.faults source.new) meant text
-        × TakesPart (K.taken sink.old) (K.taken sink.new) text) }
-    ensures write_fault { IfErr result (λ status. status ≡ 5 → Rose (K.faults sink.old) (K.faults sink.new)) }
-    ensures nothing { IfErr result (λ status. status ≡ 9 → sink.new ≡ sink.old) }
-    ensures read { (front : List ℕ) × Consumes (S.left source.old) (S.left source.new) front
-        × (length front ≤ MAX_TAPE_BYTES + 1) }
+    ensures told { IfErr result (λ status. status ≢ WRITE_FAULT → status ≢ OUT_OF_MEMORY →
+        WritesWhole (IsNoTape (S.left source.old) (S.faults source.old) (S.faults source.new))
+        (K.taken sink.old) (K.taken sink.new) status) }
+    ensures part { IfErr result (λ status. status ≡ WRITE_FAULT →
+        WritesPart (IsNoTape (S.left source.old) (S.faults source.old) (S.faults source.new))
+        (K.taken sink.old) (K.taken sink.new)) }
+    ensures write_fault { IfErr result (λ status. status ≡ WRITE_FAULT →
+        Rose (K.faults sink.old) (K.faults sink.new)) }
+    ensures nothing { IfErr result (λ status. status ≡ OUT_OF_MEMORY → sink.new ≡ sink.old) }
+    ensures read { ReadsWithin MAX_TAPE_BYTES (S.left source.old) (S.left source.new) }
 
     // Which comes, but for faults and want of memory: the tape that was spelled, or that there is too much, or
     // that there is none.
     ensures complete { (tape : TapeOf) → IsTape tape →
-        IsReadable (S.left source.old) (S.faults source.old) (S.faults source.new) (tape_spelling tape) →
+        IsReadable (S.left source.old) (S.faults source.old) (S.faults source.new)
+        (tape_spelling tape) →
         length (tape_spelling tape) ≤ MAX_TAPE_BYTES →
-        MatchResult result (λ found. found ≡ tape) (λ status. status ≡ 9) }
+        MatchResult result (λ found. found ≡ tape) (λ status. status ≡ OUT_OF_MEMORY) }
     ensures too_long { (bytes : List ℕ) →
         IsReadable (S.left source.old) (S.faults source.old) (S.faults source.new) bytes →
         MAX_TAPE_BYTES < length bytes → ¬ Rose (K.faults sink.old) (K.faults sink.new) →
-        (result ≡ Err 3) ⊎ (result ≡ Err 9) }
+        (result ≡ Err TOO_LONG) ⊎ (result ≡ Err OUT_OF_MEMORY) }
     ensures not_a_tape { (bytes : List ℕ) →
         IsReadable (S.left source.old) (S.faults source.old) (S.faults source.new) bytes →
-        length bytes ≤ MAX_TAPE_BYTES → ¬ IsSpelling bytes → ¬ Rose (K.faults sink.old) (K.faults sink.new) →
-        (result ≡ Err 11) ⊎ (result ≡ Err 9) }
+        length bytes ≤ MAX_TAPE_BYTES → ¬ IsSpelling bytes →
+        ¬ Rose (K.faults sink.old) (K.faults sink.new) →
+        (result ≡ Err NOT_A_TAPE) ⊎ (result ≡ Err OUT_OF_MEMORY) }
 {
     match read_tape(alloc, source) {
         Ok(tape) => Ok(tape),
-        Err(NoTape::TooLong) => Err(write_text(sink, TOO_LONG, too_long_text())),
-        Err(NoTape::Fault) => Err(write_text(sink, READ_FAULT, read_fault_text())),
-        Err(NoTape::NotSpelled) => Err(write_text(sink, NOT_A_TAPE, not_a_tape_text())),
+        Err(NoTape::TooLong) => Err(write_answer(sink, TOO_LONG, too_long_text())),
+        Err(NoTape::Fault) => Err(write_answer(sink, READ_FAULT, read_fault_text())),
+        Err(NoTape::NotSpelled) => Err(write_answer(sink, NOT_A_TAPE, not_a_tape_text())),
         Err(NoTape::OutOfMemory) => Err(OUT_OF_MEMORY),
     }
 }
 
 // The tape of a source, or why there is none.
 fn read_tape<S: Source>(alloc: Global, source: &mut S) -> Result<Tape, NoTape>
-    ensures tape { IfOk result (λ tape. IfSome (S.left source.old) (λ bytes. tape_spelling tape ≡ bytes)) }
+    ensures tape { IfOk result (λ tape.
+        IfSome (S.left source.old) (λ bytes. tape_spelling tape ≡ bytes)) }
     ensures whole { OnOk result (IsAtEnd (S.left source.new)) }
-    ensures why { IfErr result (λ why. IsWhy (S.left source.old) (S.faults source.old) (S.faults source.new) why) }
+    ensures why { IfErr result
+        (IsWhy (S.left source.old) (S.faults source.old) (S.faults source.new)) }
     ensures within { OnOk result (IfSome (S.left source.old) (λ bytes. length bytes ≤ most_bytes)) }
     ensures again { (tape : TapeOf) → IsTape tape → S.left source.old ≡ Some (tape_spelling tape) →
         IfOk result (λ found. found ≡ tape) }
-    ensures read { (front : List ℕ) × Consumes (S.left source.old) (S.left source.new) front
-        × (length front ≤ MAX_TAPE_BYTES + 1) }
+    ensures read { ReadsWithin MAX_TAPE_BYTES (S.left source.old) (S.left source.new) }
 {
     match read_within(alloc, source, MAX_TAPE_BYTES) {
         Ok(bytes) => tape_of(alloc, bytes.as_slice()),
@@ -104,7 +109,8 @@ fn read_tape<S: Source>(alloc: Global, source: &mut S) -> Result<Tape, NoTape>
 // The tape that bytes spell.
 fn tape_of(alloc: Global, bytes: &[u8]) -> Result<Tape, NoTape>
     ensures tape { IfOk result (λ tape. tape_spelling tape ≡ bytes.now) }
-    ensures again { (tape : TapeOf) → IsTape tape → tape_spelling tape ≡ bytes.now → IfOk result (λ found. found ≡ tape) }
+    ensures again { (tape : TapeOf) → IsTape tape → tape_spelling tape ≡ bytes.now →
+        IfOk result (λ found. found ≡ tape) }
     ensures spelled { OnOk result (IsSpelling bytes.now) }
     ensures not_spelled { result ≡ Err NoTape.NotSpelled → ¬ IsSpelling bytes.now }
     ensures known { IfErr result (λ why. (why ≡ NoTape.NotSpelled) ⊎ (why ≡ NoTape.OutOfMemory)) }

@@ -2,23 +2,22 @@
 //!
 //! Meaning: `Taking.antt`; what a run puts on a tape, `Taking.antt` of `strm_tape_runs`. Ours.
 
-ghost use Rattle.std.specs.Prelude.{◌≡◌, ◌≢◌, ◌≤◌, ◌+◌, ◌⊎◌, ℕ, List, [], All, length, IfOk, OnOk, Some};
-ghost use Rattle.std.specs.Io.KnownBytes.{Appends, Consumes};
-ghost use Rattle.strm_buffers.specs.AllTells.{tells_of};
+ghost use Rattle.std.specs.Prelude.{◌≡◌, ◌≢◌, ◌≤◌, ℕ, List, [], All, length, IfOk, OnOk, Some};
 ghost use Rattle.strm_machine.specs.declared.steps.Step.{Step};
-ghost use Rattle.strm_input_output.specs.Faults.{Rose, TakesPart};
+ghost use Rattle.strm_input_output.specs.Faults.{Rose};
+ghost use Rattle.strm_input_output.specs.Serving.{ReadsWithin, WritesWhole, WritesPart, IsFaultless, IsOr};
 ghost use Rattle.strm_lines.specs.Grammar.{HasLine};
 ghost use Rattle.strm_lines.specs.Lines.{lines_of, Spells, IsFirstBad, IsTooLong};
 ghost use Rattle.strm_session.specs.Records.{HostsGoOn};
+ghost use Rattle.strm_session.specs.Runs.{HaveRoom};
 ghost use Rattle.strm_tape.specs.Spelling.{tape_spelling};
 ghost use Rattle.strm_tape_runs.specs.Taking.{NoneHolds, tape_of_run};
-ghost use Rattle.strm_tape_program.specs.Taking.{IsTaped, IsOfScript, IsTakeStatus, IsFaultless, status_of, text_of};
+ghost use Rattle.strm_tape_program.specs.Taking.{IsTaped, IsOfScript, IsTakeStatus, status_of, text_of};
 
-use crate::statuses::{BAD_LINE, DONE, OUT_OF_MEMORY, READ_FAULT, TOO_LONG};
-use crate::writing::write_text;
+use crate::statuses::{BAD_LINE, DONE, OUT_OF_MEMORY, READ_FAULT, TOO_LONG, WRITE_FAULT};
 use std::alloc::Global;
-use strm_buffers::hosts::Hosts;
 use strm_codes::counts::OutOfMemory;
+use strm_input_output::answers::write_answer;
 use strm_input_output::ports::{Sink, Source};
 use strm_input_output::whole::{InputError, read_all};
 use strm_lines::lists::TextBytes;
@@ -27,6 +26,7 @@ use strm_lines::texts::{bad_line_text, read_fault_text, too_long_text};
 use strm_machine::steps::Step;
 use strm_tape::errors::TapeError;
 use strm_tape::taping::{TapeBytes, tape_bytes};
+use strm_tape_runs::recorded::RecordedEnds;
 use strm_tape_runs::runs::tape_run;
 
 // What is to be written: the tape of the run, or why there was none.
@@ -68,70 +68,60 @@ impl Output {
 /// the run stopped. Where the lines are not run it writes why, as `serve` of `strm_session` does. It answers
 /// the program's status: `DONE`, `BAD_LINE`, `TOO_LONG`, `READ_FAULT`, `WRITE_FAULT`, or `OUT_OF_MEMORY`, with
 /// which nothing is written.
-pub fn tape_take<S: Source, K: Sink>(
+pub fn tape_take<S: Source, K: Sink, H: RecordedEnds>(
     alloc: Global,
     source: &mut S,
     sink: &mut K,
-    hosts: &mut Hosts,
+    hosts: &mut H,
 ) -> u8
-    requires held { NoneHolds (tells_of writer_tells reader_tells hosts.old) }
-    requires writers { length (tells_of writer_tells reader_tells hosts.old).writers ≤ 64 }
-    requires readers { length (tells_of writer_tells reader_tells hosts.old).readers ≤ 64 }
+    requires held { NoneHolds (H.tells hosts.old) }
+    requires room { HaveRoom (H.tells hosts.old) }
     ensures known { IsTakeStatus result }
-    ensures told { result ≢ 5 → result ≢ 9 → (text : List ℕ)
-        × IsOfScript (S.left source.old) (S.left source.new)
-        (tells_of writer_tells reader_tells hosts.old) (tells_of writer_tells reader_tells hosts.new)
-        (S.faults source.old) (S.faults source.new) result text
-        × Appends (K.taken sink.old) (K.taken sink.new) text }
-    ensures part { result ≡ 5 → (meant : ℕ) × (text : List ℕ)
-        × IsOfScript (S.left source.old) (S.left source.new)
-        (tells_of writer_tells reader_tells hosts.old) (tells_of writer_tells reader_tells hosts.new)
-        (S.faults source.old) (S.faults source.new) meant text
-        × TakesPart (K.taken sink.old) (K.taken sink.new) text }
-    ensures write_fault { result ≡ 5 → Rose (K.faults sink.old) (K.faults sink.new) }
-    ensures nothing { result ≡ 9 → sink.new ≡ sink.old }
-    ensures read { (front : List ℕ) × Consumes (S.left source.old) (S.left source.new) front
-        × (length front ≤ MAX_BYTES + 1) }
-    ensures goes_on { HostsGoOn (tells_of writer_tells reader_tells hosts.old)
-        (tells_of writer_tells reader_tells hosts.new) }
+    ensures told { result ≢ WRITE_FAULT → result ≢ OUT_OF_MEMORY → WritesWhole
+        (IsOfScript (S.left source.old) (S.left source.new) (H.tells hosts.old) (H.tells hosts.new)
+        (S.faults source.old) (S.faults source.new)) (K.taken sink.old) (K.taken sink.new) result }
+    ensures part { result ≡ WRITE_FAULT → WritesPart
+        (IsOfScript (S.left source.old) (S.left source.new) (H.tells hosts.old) (H.tells hosts.new)
+        (S.faults source.old) (S.faults source.new)) (K.taken sink.old) (K.taken sink.new) }
+    ensures write_fault { result ≡ WRITE_FAULT → Rose (K.faults sink.old) (K.faults sink.new) }
+    ensures nothing { result ≡ OUT_OF_MEMORY → sink.new ≡ sink.old }
+    ensures read { ReadsWithin MAX_BYTES (S.left source.old) (S.left source.new) }
+    ensures goes_on { HostsGoOn (H.tells hosts.old) (H.tells hosts.new) }
 
     // Lines in the grammar and the limits are run and taken, but for faults and want of memory; else the first
     // bad line is told, or that the input is too long.
     ensures complete { (input : List ℕ) (steps : List Step) →
         IsFaultless (S.left source.old) input
         (S.faults source.old) (S.faults source.new) (K.faults sink.old) (K.faults sink.new) →
-        Spells (lines_of input) steps → ¬ IsTooLong input → (result ≡ 0) ⊎ (result ≡ 9) }
+        Spells (lines_of input) steps → ¬ IsTooLong input → IsOr DONE result }
     ensures bad_line { (input : List ℕ) (line : ℕ) →
         IsFaultless (S.left source.old) input
         (S.faults source.old) (S.faults source.new) (K.faults sink.old) (K.faults sink.new) →
-        IsFirstBad (lines_of input) line → ¬ IsTooLong input → (result ≡ 2) ⊎ (result ≡ 9) }
+        IsFirstBad (lines_of input) line → ¬ IsTooLong input → IsOr BAD_LINE result }
     ensures too_long { (input : List ℕ) →
         IsFaultless (S.left source.old) input
         (S.faults source.old) (S.faults source.new) (K.faults sink.old) (K.faults sink.new) →
-        IsTooLong input → (result ≡ 3) ⊎ (result ≡ 9) }
+        IsTooLong input → IsOr TOO_LONG result }
 {
     match answer_source(alloc, source, hosts) {
-        Ok(output) => write_text(sink, output.status(), output.text()),
+        Ok(output) => write_answer(sink, output.status(), output.text()),
         Err(_) => OUT_OF_MEMORY,
     }
 }
 
 // What is to be written for the input of a source.
-fn answer_source<S: Source>(
+fn answer_source<S: Source, H: RecordedEnds>(
     alloc: Global,
     source: &mut S,
-    hosts: &mut Hosts,
+    hosts: &mut H,
 ) -> Result<Output, OutOfMemory>
-    requires held { NoneHolds (tells_of writer_tells reader_tells hosts.old) }
-    requires writers { length (tells_of writer_tells reader_tells hosts.old).writers ≤ 64 }
-    requires readers { length (tells_of writer_tells reader_tells hosts.old).readers ≤ 64 }
-    ensures told { IfOk result (λ o. IsOfScript (S.left source.old) (S.left source.new)
-        (tells_of writer_tells reader_tells hosts.old) (tells_of writer_tells reader_tells hosts.new)
+    requires held { NoneHolds (H.tells hosts.old) }
+    requires room { HaveRoom (H.tells hosts.old) }
+    ensures told { IfOk result (λ o.
+        IsOfScript (S.left source.old) (S.left source.new) (H.tells hosts.old) (H.tells hosts.new)
         (S.faults source.old) (S.faults source.new) (status_of o) (text_of o)) }
-    ensures read { (front : List ℕ) × Consumes (S.left source.old) (S.left source.new) front
-        × (length front ≤ MAX_BYTES + 1) }
-    ensures goes_on { HostsGoOn (tells_of writer_tells reader_tells hosts.old)
-        (tells_of writer_tells reader_tells hosts.new) }
+    ensures read { ReadsWithin MAX_BYTES (S.left source.old) (S.left source.new) }
+    ensures goes_on { HostsGoOn (H.tells hosts.old) (H.tells hosts.new) }
 {
     match read_all(alloc, source) {
         Ok(input) => answer_script(alloc, input.as_slice(), hosts),
@@ -142,15 +132,17 @@ fn answer_source<S: Source>(
 }
 
 // What is to be written for an input that was read.
-fn answer_script(alloc: Global, input: &[u8], hosts: &mut Hosts) -> Result<Output, OutOfMemory>
-    requires held { NoneHolds (tells_of writer_tells reader_tells hosts.old) }
-    requires writers { length (tells_of writer_tells reader_tells hosts.old).writers ≤ 64 }
-    requires readers { length (tells_of writer_tells reader_tells hosts.old).readers ≤ 64 }
-    ensures told { (before after : ℕ) → IfOk result (λ o. IsOfScript (Some input.now) (Some [])
-        (tells_of writer_tells reader_tells hosts.old) (tells_of writer_tells reader_tells hosts.new)
+fn answer_script<H: RecordedEnds>(
+    alloc: Global,
+    input: &[u8],
+    hosts: &mut H,
+) -> Result<Output, OutOfMemory>
+    requires held { NoneHolds (H.tells hosts.old) }
+    requires room { HaveRoom (H.tells hosts.old) }
+    ensures told { (before after : ℕ) → IfOk result (λ o.
+        IsOfScript (Some input.now) (Some []) (H.tells hosts.old) (H.tells hosts.new)
         before after (status_of o) (text_of o)) }
-    ensures goes_on { HostsGoOn (tells_of writer_tells reader_tells hosts.old)
-        (tells_of writer_tells reader_tells hosts.new) }
+    ensures goes_on { HostsGoOn (H.tells hosts.old) (H.tells hosts.new) }
 {
     match parse(alloc, input) {
         Ok(steps) => Ok(Output::Tape(taped(alloc, steps.as_slice(), hosts)?)),
@@ -161,18 +153,19 @@ fn answer_script(alloc: Global, input: &[u8], hosts: &mut Hosts) -> Result<Outpu
 }
 
 // The bytes of the tape of a run of steps that lines spell, among host ends that hold nothing.
-fn taped(alloc: Global, steps: &[Step], hosts: &mut Hosts) -> Result<TapeBytes, OutOfMemory>
+fn taped<H: RecordedEnds>(
+    alloc: Global,
+    steps: &[Step],
+    hosts: &mut H,
+) -> Result<TapeBytes, OutOfMemory>
     requires few { length steps.now ≤ 4294967295 }
     requires each { All HasLine steps.now }
-    requires held { NoneHolds (tells_of writer_tells reader_tells hosts.old) }
-    requires writers { length (tells_of writer_tells reader_tells hosts.old).writers ≤ 64 }
-    requires readers { length (tells_of writer_tells reader_tells hosts.old).readers ≤ 64 }
-    ensures taped { OnOk result (IsTaped (tells_of writer_tells reader_tells hosts.old)
-        (tells_of writer_tells reader_tells hosts.new) steps.now) }
-    ensures bytes { IfOk result (λ bytes. bytes ≡ tape_spelling (tape_of_run steps.now
-        (tells_of writer_tells reader_tells hosts.old) (tells_of writer_tells reader_tells hosts.new))) }
-    ensures goes_on { HostsGoOn (tells_of writer_tells reader_tells hosts.old)
-        (tells_of writer_tells reader_tells hosts.new) }
+    requires held { NoneHolds (H.tells hosts.old) }
+    requires room { HaveRoom (H.tells hosts.old) }
+    ensures taped { OnOk result (IsTaped (H.tells hosts.old) (H.tells hosts.new) steps.now) }
+    ensures bytes { IfOk result (λ bytes.
+        bytes ≡ tape_spelling (tape_of_run steps.now (H.tells hosts.old) (H.tells hosts.new))) }
+    ensures goes_on { HostsGoOn (H.tells hosts.old) (H.tells hosts.new) }
 {
     match tape_run(alloc, steps, hosts) {
         Ok(taped) => {

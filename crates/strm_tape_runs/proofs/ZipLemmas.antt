@@ -2,8 +2,7 @@
 use Rattle.std.proofs.Common.{◌≡◌, ℕ, zero, suc, ◌+◌, ◌-◌, ◌<◌, ◌≤◌, List, [], ◌∷◌, ◌++◌, length, take, drop, map, get_or, Some, refl, sym, ap, ◌∙◌, subst, arith}
 use Rattle.std.specs.Prelude.{All, slice_get}
 use Rattle.std.specs.List.{AllZip}
-use Rattle.std.proofs.lemmas.List.{take_more, take_all, length-map}
-use Rattle.std.proofs.Math.ListN.{get_or-map}
+use Rattle.std.proofs.lemmas.List.{take_more, take_all}
 use Rattle.std.proofs.lemmas.List.Elements.{All-get_or}
 use Rattle.std.proofs.lemmas.Option.{slice_get_within, get_or_from_slice_get}
 use Rattle.strm_tape_runs.specs.Taking.{zip_with}
@@ -63,23 +62,14 @@ zip_with-map g f [] ys = refl
 zip_with-map g f (x ∷ xs) [] = refl
 zip_with-map g f (x ∷ xs) (y ∷ ys) = ap (λ zs. f (g x) y ∷ zs) (zip_with-map g f xs ys)
 
--- the second list being seen through a function
-module _ {A B T : Type 0} (see : B → T) (xs : List A) (bs : List B) (n : ℕ) (x : A) (b : B) (here : x ≡ get_or xs n x) (there : b ≡ get_or bs n b) where
-  seen_at : get_or (map see bs) n (see b) ≡ see b
-  seen_at = get_or-map see bs n b ∙ ap see (sym there)
+-- the two at a place, the first being one
+pub zipped_here : {A B : Type 0} (R : A → B → Type 0) (xs : List A) (ys : List B) (n : ℕ) (x : A) (e : B) → x ≡ get_or xs n x → AllZip R xs ys → n < length xs → R x (get_or ys n e)
+zipped_here R xs ys n x e here h l = subst (λ a. R a (get_or ys n e)) (sym here) (zipped_at R xs ys n x e h l)
 
-  pub seen_zipped : (R : A → T → Type 0) → AllZip R xs (map see bs) → n < length xs → R x (see b)
-  seen_zipped R h l =
-      subst (λ t. R x t) seen_at (subst (λ a. R a (get_or (map see bs) n (see b))) (sym here) (zipped_at R xs (map see bs) n x (see b) h l))
-
-  pub seen_more : {C : Type 0} (R : A → T → Type 0) (f : A → T → C) (zs us : List C) → AllZip R xs (map see bs) → n < length xs → zs ≡ take n (zip_with f xs (map see bs)) → us ≡ zs ++ f x (see b) ∷ [] → us ≡ take (n + 1) (zip_with f xs (map see bs))
-  seen_more {C = C} R f zs us h l e w =
-      w ∙ ap (λ a. zs ++ f a (see b) ∷ []) here ∙ ap (λ t. zs ++ f (get_or xs n x) t ∷ []) (sym seen_at)
-      ∙ zip_with_more f xs (map see bs) n x (see b) zs (zipped_length R xs (map see bs) h) l e
-
--- as many are seen
-pub length_seen : {A B T : Type 0} (see : B → T) (R : A → T → Type 0) (xs : List A) (bs : List B) (n : ℕ) → AllZip R xs (map see bs) → n < length xs → n < length bs
-length_seen see R xs bs n h l = omega (arith, l, zipped_length R xs (map see bs) h, length-map bs see)
+-- one more is made of them
+pub zipped_more : {A B C : Type 0} (R : A → B → Type 0) (f : A → B → C) (xs : List A) (ys : List B) (n : ℕ) (x : A) (e : B) → x ≡ get_or xs n x → (z u : List C) → AllZip R xs ys → n < length xs → z ≡ take n (zip_with f xs ys) → u ≡ z ++ f x (get_or ys n e) ∷ [] → u ≡ take (n + 1) (zip_with f xs ys)
+zipped_more R f xs ys n x e here z u h l made w =
+    w ∙ ap (λ a. z ++ f a (get_or ys n e) ∷ []) here ∙ zip_with_more f xs ys n x e z (zipped_length R xs ys h) l made
 
 short-zip_with : {A B C : Type 0} (f : A → B → C) (xs : List A) (ys : List B) → length (zip_with f xs ys) ≤ length xs
 short-zip_with f [] ys = omega arith

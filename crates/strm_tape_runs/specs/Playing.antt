@@ -1,5 +1,5 @@
 -- Runs, and which of them is the play of a tape. Ours.
-use Rattle.std.specs.Prelude.{◌≡◌, ◌≢◌, List, [], map, false, Some, None, Result, Ok, Err, IfOk, IfErr}
+use Rattle.std.specs.Prelude.{◌≡◌, ◌≢◌, ◌⊎◌, List, [], map, false, Some, None, Result, Ok, Err, IfOk, IfErr}
 use Rattle.strm_codes.specs.Types.{kind_of, payload_of}
 use Rattle.strm_buffers.specs.Tells.{Tells}
 use Rattle.strm_machine.specs.declared.steps.Step.{Step}
@@ -29,6 +29,10 @@ pub record IsRunOf (old new : Tells) (steps : List Step) (end : Result Transcrip
 -- a run of these steps came to some end
 abbrev pub WasRun : Tells → Tells → List Step → Type 0
 WasRun old new steps = (end : Result Transcript RunStop) × IsRunOf old new steps end
+
+-- one did, or nothing was done
+abbrev pub WasRunOrNot : Tells → Tells → List Step → Type 0
+WasRunOrNot old new steps = (new ≡ old) ⊎ WasRun old new steps
 
 -- it did not stop for want of memory
 abbrev pub FoundMemory : Result Transcript RunStop → Type 0

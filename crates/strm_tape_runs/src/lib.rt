@@ -6,6 +6,7 @@
 mod differing;
 pub mod laws;
 mod marks;
+pub mod recorded;
 mod records;
 pub mod replays;
 pub mod runs;

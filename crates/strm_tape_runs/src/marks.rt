@@ -1,20 +1,18 @@
 //! What host ends are before a run: their types, and how many records they have.
 
-ghost use Rattle.std.specs.Prelude.{◌≡◌, ◌≤◌, ◌∷◌, ◌++◌, [], length, map, None, IfSome, IfOk, OnOk};
-ghost use Rattle.strm_buffers.specs.AllTells.{tells_of};
+ghost use Rattle.std.specs.Prelude.{◌≡◌, ◌<◌, ◌∷◌, ◌++◌, [], length, map, None, IfSome, IfOk, OnOk};
+ghost use Rattle.strm_buffers.specs.Tells.{told_by, told_by_reader};
 ghost use Rattle.strm_machine.specs.Soundness.{type_with};
+ghost use Rattle.strm_session.specs.Runs.{HaveRoom};
 ghost use Rattle.strm_tape_runs.specs.Taking.{NoneHolds, IsFirstHolding};
 ghost use Rattle.strm_tape_runs.specs.Marks.{mark_of, reader_mark_of};
 
-use crate::records::{reader_records, writer_records};
+use crate::recorded::RecordedEnds;
 use std::alloc::Global;
-use strm_buffers::boxes::{reader_kind, reader_payload, writer_kind, writer_payload};
-use strm_buffers::hosts::Hosts;
-use strm_buffers::readers::HostReader;
-use strm_buffers::writers::HostWriter;
 use strm_codes::codes::{TransmitIndex, TransmitKind};
 use strm_codes::counts::OutOfMemory;
 use strm_codes::payloads::Payload;
+use strm_transmit::host_ends::HostEnds;
 
 /// A host end's type, and how many records it has.
 #[derive(Clone, Copy)]
@@ -41,22 +39,24 @@ fn type_of(kind: TransmitKind, payload: Payload) -> TransmitIndex
 }
 
 // What a host writer is.
-fn writer_mark(writer: &Box<dyn HostWriter>) -> Mark
-    ensures { result ≡ mark_of (writer_tells writer.now) }
+fn writer_mark<H: RecordedEnds>(hosts: &H, n: usize) -> Mark
+    requires { n < length (H.tells hosts.now).writers }
+    ensures { result ≡ mark_of (told_by (H.tells hosts.now) n) }
 {
     Mark {
-        ty: type_of(writer_kind(writer), writer_payload(writer)),
-        records: writer_records(writer),
+        ty: type_of(hosts.writer_kind(n), hosts.writer_payload(n)),
+        records: hosts.writer_records(n),
     }
 }
 
 // What a host reader is.
-fn reader_mark(reader: &Box<dyn HostReader>) -> Mark
-    ensures { result ≡ reader_mark_of (reader_tells reader.now) }
+fn reader_mark<H: RecordedEnds>(hosts: &H, r: usize) -> Mark
+    requires { r < length (H.tells hosts.now).readers }
+    ensures { result ≡ reader_mark_of (told_by_reader (H.tells hosts.now) r) }
 {
     Mark {
-        ty: type_of(reader_kind(reader), reader_payload(reader)),
-        records: reader_records(reader),
+        ty: type_of(hosts.reader_kind(r), hosts.reader_payload(r)),
+        records: hosts.reader_records(r),
     }
 }
 
@@ -71,34 +71,34 @@ fn push_item<T: Copy>(items: &mut Vec<T>, item: T) -> Result<(), OutOfMemory>
 }
 
 // What host writers are.
-fn writer_marks(alloc: Global, hosts: &Hosts) -> Result<Vec<Mark>, OutOfMemory>
-    ensures { IfOk result (λ marks. marks.items ≡ map mark_of (tells_of writer_tells reader_tells hosts.now).writers) }
+fn writer_marks<H: RecordedEnds>(alloc: Global, hosts: &H) -> Result<Vec<Mark>, OutOfMemory>
+    ensures { IfOk result (λ marks. marks.items ≡ map mark_of (H.tells hosts.now).writers) }
 {
     let mut marks = Vec::new(alloc);
-    for n in 0..hosts.writers.len() {
-        push_item(&mut marks, writer_mark(&hosts.writers[n]))?;
+    for n in 0..hosts.count_writers() {
+        push_item(&mut marks, writer_mark(hosts, n))?;
     }
     Ok(marks)
 }
 
 // What host readers are.
-fn reader_marks(alloc: Global, hosts: &Hosts) -> Result<Vec<Mark>, OutOfMemory>
-    ensures { IfOk result (λ marks. marks.items ≡ map reader_mark_of (tells_of writer_tells reader_tells hosts.now).readers) }
+fn reader_marks<H: RecordedEnds>(alloc: Global, hosts: &H) -> Result<Vec<Mark>, OutOfMemory>
+    ensures { IfOk result (λ marks. marks.items ≡ map reader_mark_of (H.tells hosts.now).readers) }
 {
     let mut marks = Vec::new(alloc);
-    for r in 0..hosts.readers.len() {
-        push_item(&mut marks, reader_mark(&hosts.readers[r]))?;
+    for r in 0..hosts.count_readers() {
+        push_item(&mut marks, reader_mark(hosts, r))?;
     }
     Ok(marks)
 }
 
 impl Marks {
     /// What all host ends are.
-    pub(crate) fn of(alloc: Global, hosts: &Hosts) -> Result<Marks, OutOfMemory>
-        ensures writers { IfOk result (λ marks. marks.writers.items
-            ≡ map mark_of (tells_of writer_tells reader_tells hosts.now).writers) }
-        ensures readers { IfOk result (λ marks. marks.readers.items
-            ≡ map reader_mark_of (tells_of writer_tells reader_tells hosts.now).readers) }
+    pub(crate) fn of<H: RecordedEnds>(alloc: Global, hosts: &H) -> Result<Marks, OutOfMemory>
+        ensures writers { IfOk result (λ marks.
+            marks.writers.items ≡ map mark_of (H.tells hosts.now).writers) }
+        ensures readers { IfOk result (λ marks.
+            marks.readers.items ≡ map reader_mark_of (H.tells hosts.now).readers) }
     {
         let writers = writer_marks(alloc, hosts)?;
         let readers = reader_marks(alloc, hosts)?;
@@ -107,10 +107,10 @@ impl Marks {
 }
 
 /// The first host writer that holds items; none where none does.
-pub(crate) fn first_holding(hosts: &Hosts) -> Option<u32>
-    requires few { length (tells_of writer_tells reader_tells hosts.now).writers ≤ 64 }
-    ensures none { result ≡ None → NoneHolds (tells_of writer_tells reader_tells hosts.now) }
-    ensures first { IfSome result (λ n. IsFirstHolding n (tells_of writer_tells reader_tells hosts.now)) }
+pub(crate) fn first_holding<H: HostEnds>(hosts: &H) -> Option<u32>
+    requires room { HaveRoom (H.tells hosts.now) }
+    ensures none { result ≡ None → NoneHolds (H.tells hosts.now) }
+    ensures first { IfSome result (λ n. IsFirstHolding n (H.tells hosts.now)) }
 {
     for n in 0..hosts.count_writers() {
         if hosts.writer_held(n) > 0 {

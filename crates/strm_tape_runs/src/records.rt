@@ -24,7 +24,8 @@ pub(crate) fn writer_record_at(
     index: usize,
 ) -> Result<WriterSaid, OutOfMemory>
     requires { index < length (writer_tells writer.now).said }
-    ensures exact { IfOk result (λ said. slice_get (writer_tells writer.now).said index ≡ Some said) }
+    ensures exact { IfOk result (λ said.
+        slice_get (writer_tells writer.now).said index ≡ Some said) }
     ensures payload { IfOk result (λ said. said.payload ≡ (writer_tells writer.now).payload) }
 {
     writer.record_at(index)
@@ -54,7 +55,9 @@ fn same_payload(a: Payload, b: Payload) -> bool
 
 // Whether two records of host writers are of the same poll, whatever the items are.
 fn same_poll(a: &WriterSaid, b: &WriterSaid) -> bool
-    ensures { IsTrue result ↔ ((a.now.room ≡ b.now.room) × (a.now.finish ≡ b.now.finish) × (a.now.answer ≡ b.now.answer)) }
+    ensures { IsTrue result
+        ↔ ((a.now.room ≡ b.now.room) × (a.now.finish ≡ b.now.finish)
+        × (a.now.answer ≡ b.now.answer)) }
 {
     a.room == b.room && a.finish == b.finish && a.answer == b.answer
 }

@@ -2,19 +2,18 @@
 //!
 //! Source: ours.
 
-ghost use Rattle.std.specs.Prelude.{◌≡◌, ◌⊎◌, ℕ, Bool, IfOk, IsErrOf};
-ghost use Rattle.strm_buffers.specs.AllTells.{tells_of};
+ghost use Rattle.std.specs.Prelude.{◌≡◌, ℕ, Bool, IfOk, IsErrOf};
 ghost use Rattle.strm_session.specs.Records.{HostsGoOn};
 ghost use Rattle.strm_tape_runs.specs.Taking.{tape_of_run};
 ghost use Rattle.strm_tape_runs.specs.Errors.{IsReplayError};
-ghost use Rattle.strm_tape_runs.specs.Playing.{IsRunOf, WasRun, WasRunInMemory, FoundMemory, IsPlayOf, AreEndsOf};
+ghost use Rattle.strm_tape_runs.specs.Playing.{IsRunOf, WasRunOrNot, WasRunInMemory, FoundMemory, IsPlayOf, AreEndsOf};
 ghost use Rattle.strm_tape_runs.specs.Differing.{FirstDiffer};
 
 use crate::differing::{Difference, first_difference};
 use crate::marks::Marks;
+use crate::recorded::RecordedEnds;
 use crate::runs::wanted_memory;
 use std::alloc::Global;
-use strm_buffers::hosts::Hosts;
 use strm_record_laws::runs_are_alike;
 use strm_session::runs::{RunStop, Transcript, run};
 use strm_tape::errors::TapeError;
@@ -25,38 +24,36 @@ use strm_tape::tape::Tape;
 /// before host readers, and the first of its records, from 0, that differs or is wanting on one side.
 ///
 /// `OutOfMemory` also comes where the run stops for want of memory.
-pub fn replay(
+pub fn replay<H: RecordedEnds>(
     alloc: Global,
     tape: &Tape,
-    hosts: &mut Hosts,
+    hosts: &mut H,
 ) -> Result<Result<Transcript, RunStop>, TapeError>
-    requires ends { AreEndsOf tape.now (tells_of writer_tells reader_tells hosts.old) }
+    requires ends { AreEndsOf tape.now (H.tells hosts.old) }
 
     // The run is one of `run`, and what was added is what the tape has.
-    ensures ran { IfOk result (λ end. IsRunOf (tells_of writer_tells reader_tells hosts.old)
-        (tells_of writer_tells reader_tells hosts.new) tape.now.steps end) }
+    ensures ran { IfOk result (λ end.
+        IsRunOf (H.tells hosts.old) (H.tells hosts.new) tape.now.steps end) }
     ensures memory { IfOk result (λ end. FoundMemory end) }
-    ensures same { IfOk result (λ _. tape_of_run tape.now.steps (tells_of writer_tells reader_tells hosts.old)
-        (tells_of writer_tells reader_tells hosts.new) ≡ tape.now) }
+    ensures same { IfOk result (λ _.
+        tape_of_run tape.now.steps (H.tells hosts.old) (H.tells hosts.new) ≡ tape.now) }
 
     // It is the machine's play of that tape.
     ensures plays { IfOk result (λ end. IsPlayOf tape.now end) }
 
     // Where it differs, the run is one of `run` too, which found memory, and the first difference is told.
-    ensures differs { (reader : Bool) (end at : ℕ) → IsErrOf result (TapeError.Differs reader end at) →
-        FirstDiffer (tape_of_run tape.now.steps (tells_of writer_tells reader_tells hosts.old)
-        (tells_of writer_tells reader_tells hosts.new)) tape.now reader end at }
+    ensures differs { (reader : Bool) (end at : ℕ) →
+        IsErrOf result (TapeError.Differs reader end at) →
+        FirstDiffer (tape_of_run tape.now.steps (H.tells hosts.old) (H.tells hosts.new))
+        tape.now reader end at }
     ensures adds { (reader : Bool) (end at : ℕ) → IsErrOf result (TapeError.Differs reader end at) →
-        WasRunInMemory (tells_of writer_tells reader_tells hosts.old)
-        (tells_of writer_tells reader_tells hosts.new) tape.now.steps }
+        WasRunInMemory (H.tells hosts.old) (H.tells hosts.new) tape.now.steps }
     ensures other { (error : TapeError) → IsErrOf result error → IsReplayError error }
 
     // Without memory, it was run, or nothing was done.
     ensures wanting { IsErrOf result TapeError.OutOfMemory →
-        (tells_of writer_tells reader_tells hosts.new ≡ tells_of writer_tells reader_tells hosts.old)
-        ⊎ WasRun (tells_of writer_tells reader_tells hosts.old) (tells_of writer_tells reader_tells hosts.new) tape.now.steps }
-    ensures hosts { HostsGoOn (tells_of writer_tells reader_tells hosts.old)
-        (tells_of writer_tells reader_tells hosts.new) }
+        WasRunOrNot (H.tells hosts.old) (H.tells hosts.new) tape.now.steps }
+    ensures hosts { HostsGoOn (H.tells hosts.old) (H.tells hosts.new) }
 {
     let marks = match Marks::of(alloc, hosts) {
         Ok(marks) => marks,

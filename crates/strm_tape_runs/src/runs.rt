@@ -2,18 +2,18 @@
 //!
 //! Source: ours.
 
-ghost use Rattle.std.specs.Prelude.{◌≡◌, ◌≢◌, ◌≤◌, ◌⊎◌, ℕ, false, All, length, IfOk, IsErr, IsErrOf};
-ghost use Rattle.strm_buffers.specs.AllTells.{tells_of};
+ghost use Rattle.std.specs.Prelude.{◌≡◌, ◌≢◌, ◌≤◌, ℕ, false, All, length, IfOk, IsErr, IsErrOf};
 ghost use Rattle.strm_lines.specs.Grammar.{HasLine};
 ghost use Rattle.strm_session.specs.Records.{HostsGoOn};
+ghost use Rattle.strm_session.specs.Runs.{HaveRoom};
 ghost use Rattle.strm_tape_runs.specs.Taking.{NoneHolds, IsFirstHolding, tape_of_run};
 ghost use Rattle.strm_tape_runs.specs.Errors.{IsTakingError};
-ghost use Rattle.strm_tape_runs.specs.Playing.{IsRunOf, WasRun, FoundMemory, IsPlayOf};
+ghost use Rattle.strm_tape_runs.specs.Playing.{IsRunOf, WasRunOrNot, FoundMemory, IsPlayOf};
 
 use crate::marks::{Marks, first_holding};
+use crate::recorded::RecordedEnds;
 use crate::taking::tape_behind;
 use std::alloc::Global;
-use strm_buffers::hosts::Hosts;
 use strm_codes::counts::OutOfMemory;
 use strm_host_laws::guests::{states_are_sound, totals_are_counts};
 use strm_host_laws::runs::{moments_lead_to_the_end, writers_are_fed_exactly};
@@ -37,41 +37,42 @@ pub struct Taped {
 ///
 /// It is refused before anything is run where a host writer holds items, and then where a step has no place on a
 /// tape. After `OutOfMemory` there is no tape; it also comes where the run stops for want of memory.
-pub fn tape_run(alloc: Global, steps: &[Step], hosts: &mut Hosts) -> Result<Taped, TapeError>
+pub fn tape_run<H: RecordedEnds>(
+    alloc: Global,
+    steps: &[Step],
+    hosts: &mut H,
+) -> Result<Taped, TapeError>
     requires few { length steps.now ≤ 4294967295 }
-    requires writers { length (tells_of writer_tells reader_tells hosts.old).writers ≤ 64 }
-    requires readers { length (tells_of writer_tells reader_tells hosts.old).readers ≤ 64 }
+    requires room { HaveRoom (H.tells hosts.old) }
 
     // The run is one of `run`, and the tape has its steps and the records that it added.
-    ensures ran { IfOk result (λ t. IsRunOf (tells_of writer_tells reader_tells hosts.old)
-        (tells_of writer_tells reader_tells hosts.new) steps.now t.end) }
+    ensures ran { IfOk result (λ t.
+        IsRunOf (H.tells hosts.old) (H.tells hosts.new) steps.now t.end) }
     ensures memory { IfOk result (λ t. FoundMemory t.end) }
-    ensures tape { IfOk result (λ t. t.tape ≡ tape_of_run steps.now
-        (tells_of writer_tells reader_tells hosts.old) (tells_of writer_tells reader_tells hosts.new)) }
+    ensures tape { IfOk result (λ t.
+        t.tape ≡ tape_of_run steps.now (H.tells hosts.old) (H.tells hosts.new)) }
 
     // It is the machine's play of that tape.
     ensures plays { IfOk result (λ t. IsPlayOf t.tape t.end) }
 
     // The first host writer that holds items is named, exactly where one does; else a step has no place on a
     // tape, exactly where that is told.
-    ensures holding { (n : ℕ) → IsFirstHolding n (tells_of writer_tells reader_tells hosts.old) →
+    ensures holding { (n : ℕ) → IsFirstHolding n (H.tells hosts.old) →
         IsErrOf result (TapeError.Holding n) }
     ensures holds { (n : ℕ) → IsErrOf result (TapeError.Holding n) →
-        IsFirstHolding n (tells_of writer_tells reader_tells hosts.old) }
-    ensures not_tapable { NoneHolds (tells_of writer_tells reader_tells hosts.old) → ¬ All HasLine steps.now →
+        IsFirstHolding n (H.tells hosts.old) }
+    ensures not_tapable { NoneHolds (H.tells hosts.old) → ¬ All HasLine steps.now →
         IsErrOf result TapeError.NotTapable }
     ensures untapable { IsErrOf result TapeError.NotTapable →
-        NoneHolds (tells_of writer_tells reader_tells hosts.old) × (¬ All HasLine steps.now) }
+        NoneHolds (H.tells hosts.old) × (¬ All HasLine steps.now) }
     ensures other { (error : TapeError) → IsErrOf result error → IsTakingError error }
 
     // What it did to the host ends: where it was refused, nothing; without memory, it was run, or nothing was done.
     ensures refused { (error : TapeError) → IsErrOf result error → error ≢ TapeError.OutOfMemory →
-        tells_of writer_tells reader_tells hosts.new ≡ tells_of writer_tells reader_tells hosts.old }
+        H.tells hosts.new ≡ H.tells hosts.old }
     ensures wanting { IsErrOf result TapeError.OutOfMemory →
-        (tells_of writer_tells reader_tells hosts.new ≡ tells_of writer_tells reader_tells hosts.old)
-        ⊎ WasRun (tells_of writer_tells reader_tells hosts.old) (tells_of writer_tells reader_tells hosts.new) steps.now }
-    ensures hosts { HostsGoOn (tells_of writer_tells reader_tells hosts.old)
-        (tells_of writer_tells reader_tells hosts.new) }
+        WasRunOrNot (H.tells hosts.old) (H.tells hosts.new) steps.now }
+    ensures hosts { HostsGoOn (H.tells hosts.old) (H.tells hosts.new) }
 {
     if let Some(writer) = first_holding(hosts) {
         return Err(TapeError::Holding { writer });
@@ -106,23 +107,24 @@ pub(crate) fn wanted_memory(end: &Result<Transcript, RunStop>) -> bool
 }
 
 // Runs steps that have a place on a tape among host ends that hold nothing.
-fn run_on_tape(alloc: Global, steps: &[Step], hosts: &mut Hosts) -> Result<Taped, OutOfMemory>
+fn run_on_tape<H: RecordedEnds>(
+    alloc: Global,
+    steps: &[Step],
+    hosts: &mut H,
+) -> Result<Taped, OutOfMemory>
     requires few { length steps.now ≤ 4294967295 }
     requires tapable { All HasLine steps.now }
-    requires writers { length (tells_of writer_tells reader_tells hosts.old).writers ≤ 64 }
-    requires readers { length (tells_of writer_tells reader_tells hosts.old).readers ≤ 64 }
-    requires held { NoneHolds (tells_of writer_tells reader_tells hosts.old) }
-    ensures ran { IfOk result (λ t. IsRunOf (tells_of writer_tells reader_tells hosts.old)
-        (tells_of writer_tells reader_tells hosts.new) steps.now t.end) }
+    requires room { HaveRoom (H.tells hosts.old) }
+    requires held { NoneHolds (H.tells hosts.old) }
+    ensures ran { IfOk result (λ t.
+        IsRunOf (H.tells hosts.old) (H.tells hosts.new) steps.now t.end) }
     ensures memory { IfOk result (λ t. FoundMemory t.end) }
-    ensures tape { IfOk result (λ t. t.tape ≡ tape_of_run steps.now
-        (tells_of writer_tells reader_tells hosts.old) (tells_of writer_tells reader_tells hosts.new)) }
+    ensures tape { IfOk result (λ t.
+        t.tape ≡ tape_of_run steps.now (H.tells hosts.old) (H.tells hosts.new)) }
     ensures plays { IfOk result (λ t. IsPlayOf t.tape t.end) }
     ensures wanting { IsErr result →
-        (tells_of writer_tells reader_tells hosts.new ≡ tells_of writer_tells reader_tells hosts.old)
-        ⊎ WasRun (tells_of writer_tells reader_tells hosts.old) (tells_of writer_tells reader_tells hosts.new) steps.now }
-    ensures hosts { HostsGoOn (tells_of writer_tells reader_tells hosts.old)
-        (tells_of writer_tells reader_tells hosts.new) }
+        WasRunOrNot (H.tells hosts.old) (H.tells hosts.new) steps.now }
+    ensures hosts { HostsGoOn (H.tells hosts.old) (H.tells hosts.new) }
 {
     let copy = copy_steps(alloc, steps)?;
     let marks = Marks::of(alloc, hosts)?;

@@ -1,22 +1,22 @@
 //! `tape_run` and `replay` where what they require is seen before the call.
 
 ghost use Rattle.std.specs.Prelude.{◌≡◌, ◌<◌, ◌↔◌, map, length, IsTrue};
-ghost use Rattle.strm_buffers.specs.AllTells.{tells_of};
 ghost use Rattle.strm_buffers.specs.Tells.{told_by, told_by_reader};
 ghost use Rattle.strm_machine.specs.Soundness.{type_with};
 ghost use Rattle.strm_tape_runs.specs.Taking.{writer_type, reader_type, NoneHolds, HoldsNone};
 ghost use Rattle.strm_tape_runs.specs.Playing.{AreEndsOf};
 
 use std::alloc::Global;
-use strm_buffers::hosts::Hosts;
 use strm_codes::codes::{TransmitIndex, TransmitKind};
 use strm_codes::payloads::Payload;
 use strm_lines::parsing::parse;
 use strm_session::runs::{RunStop, Transcript};
 use strm_tape::errors::TapeError;
 use strm_tape::tape::{ReaderTape, Tape, WriterTape};
+use strm_tape_runs::recorded::RecordedEnds;
 use strm_tape_runs::replays::replay;
 use strm_tape_runs::runs::{Taped, tape_run};
+use strm_transmit::host_ends::HostEnds;
 
 // The type that a tape has of a host writer.
 fn taped_type(writer: &WriterTape) -> TransmitIndex
@@ -43,17 +43,17 @@ fn typed(kind: TransmitKind, payload: Payload) -> TransmitIndex
 }
 
 // The type of a host writer.
-fn type_of_writer(hosts: &Hosts, n: usize) -> TransmitIndex
-    requires { n < length (tells_of writer_tells reader_tells hosts.now).writers }
-    ensures { result ≡ writer_type (told_by (tells_of writer_tells reader_tells hosts.now) n) }
+fn type_of_writer<H: HostEnds>(hosts: &H, n: usize) -> TransmitIndex
+    requires { n < length (H.tells hosts.now).writers }
+    ensures { result ≡ writer_type (told_by (H.tells hosts.now) n) }
 {
     typed(hosts.writer_kind(n), hosts.writer_payload(n))
 }
 
 // The type of a host reader.
-fn type_of_reader(hosts: &Hosts, r: usize) -> TransmitIndex
-    requires { r < length (tells_of writer_tells reader_tells hosts.now).readers }
-    ensures { result ≡ reader_type (told_by_reader (tells_of writer_tells reader_tells hosts.now) r) }
+fn type_of_reader<H: HostEnds>(hosts: &H, r: usize) -> TransmitIndex
+    requires { r < length (H.tells hosts.now).readers }
+    ensures { result ≡ reader_type (told_by_reader (H.tells hosts.now) r) }
 {
     typed(hosts.reader_kind(r), hosts.reader_payload(r))
 }
@@ -82,27 +82,27 @@ fn same_type(a: &TransmitIndex, b: &TransmitIndex) -> bool
 }
 
 // Whether a host writer is of this type and holds nothing.
-fn writer_fits(hosts: &Hosts, n: usize, ty: &TransmitIndex) -> bool
-    requires { n < length (tells_of writer_tells reader_tells hosts.now).writers }
-    ensures types { IsTrue result → writer_type (told_by (tells_of writer_tells reader_tells hosts.now) n) ≡ ty.now }
-    ensures held { IsTrue result → HoldsNone (told_by (tells_of writer_tells reader_tells hosts.now) n) }
+fn writer_fits<H: HostEnds>(hosts: &H, n: usize, ty: &TransmitIndex) -> bool
+    requires { n < length (H.tells hosts.now).writers }
+    ensures types { IsTrue result → writer_type (told_by (H.tells hosts.now) n) ≡ ty.now }
+    ensures held { IsTrue result → HoldsNone (told_by (H.tells hosts.now) n) }
 {
     same_type(&type_of_writer(hosts, n), ty) && hosts.writer_held(n) == 0
 }
 
 // Whether a host reader is of this type.
-fn reader_fits(hosts: &Hosts, r: usize, ty: &TransmitIndex) -> bool
-    requires { r < length (tells_of writer_tells reader_tells hosts.now).readers }
-    ensures { IsTrue result → reader_type (told_by_reader (tells_of writer_tells reader_tells hosts.now) r) ≡ ty.now }
+fn reader_fits<H: HostEnds>(hosts: &H, r: usize, ty: &TransmitIndex) -> bool
+    requires { r < length (H.tells hosts.now).readers }
+    ensures { IsTrue result → reader_type (told_by_reader (H.tells hosts.now) r) ≡ ty.now }
 {
     same_type(&type_of_reader(hosts, r), ty)
 }
 
 // Whether the host writers are of a tape's types and hold nothing.
-fn writers_fit(hosts: &Hosts, tape: &Tape) -> bool
-    ensures types { IsTrue result → map writer_type (tells_of writer_tells reader_tells hosts.now).writers
+fn writers_fit<H: HostEnds>(hosts: &H, tape: &Tape) -> bool
+    ensures types { IsTrue result → map writer_type (H.tells hosts.now).writers
         ≡ map (λ w. w.ty) tape.now.writers }
-    ensures held { IsTrue result → NoneHolds (tells_of writer_tells reader_tells hosts.now) }
+    ensures held { IsTrue result → NoneHolds (H.tells hosts.now) }
 {
     if hosts.count_writers() != tape.writers() as usize {
         return false;
@@ -117,8 +117,8 @@ fn writers_fit(hosts: &Hosts, tape: &Tape) -> bool
 }
 
 // Whether the host readers are of a tape's types.
-fn readers_fit(hosts: &Hosts, tape: &Tape) -> bool
-    ensures { IsTrue result → map reader_type (tells_of writer_tells reader_tells hosts.now).readers
+fn readers_fit<H: HostEnds>(hosts: &H, tape: &Tape) -> bool
+    ensures { IsTrue result → map reader_type (H.tells hosts.now).readers
         ≡ map (λ r. r.ty) tape.now.readers }
 {
     if hosts.count_readers() != tape.readers() as usize {
@@ -134,14 +134,18 @@ fn readers_fit(hosts: &Hosts, tape: &Tape) -> bool
 }
 
 // Whether these are host ends of a tape's types, of which none holds items.
-fn are_ends_of(hosts: &Hosts, tape: &Tape) -> bool
-    ensures { IsTrue result → AreEndsOf tape.now (tells_of writer_tells reader_tells hosts.now) }
+fn are_ends_of<H: HostEnds>(hosts: &H, tape: &Tape) -> bool
+    ensures { IsTrue result → AreEndsOf tape.now (H.tells hosts.now) }
 {
     writers_fit(hosts, tape) && readers_fit(hosts, tape)
 }
 
 /// What `tape_run` answers to these lines among at most 64 host ends of each sort; `NotATape` to others.
-pub(crate) fn taken(alloc: Global, lines: &str, hosts: &mut Hosts) -> Result<Taped, TapeError> {
+pub(crate) fn taken<H: RecordedEnds>(
+    alloc: Global,
+    lines: &str,
+    hosts: &mut H,
+) -> Result<Taped, TapeError> {
     let Ok(steps) = parse(alloc, lines.as_bytes()) else {
         return Err(TapeError::NotATape);
     };
@@ -153,10 +157,10 @@ pub(crate) fn taken(alloc: Global, lines: &str, hosts: &mut Hosts) -> Result<Tap
 }
 
 /// What `replay` answers among host ends of the tape; `NotATape` among others.
-pub(crate) fn played(
+pub(crate) fn played<H: RecordedEnds>(
     alloc: Global,
     tape: &Tape,
-    hosts: &mut Hosts,
+    hosts: &mut H,
 ) -> Result<Result<Transcript, RunStop>, TapeError> {
     if !are_ends_of(hosts, tape) {
         return Err(TapeError::NotATape);

@@ -3,8 +3,8 @@
 //! Ours. A call of the store takes any type that is `HostEnds`, and its clauses say `H.tells hosts.old`.
 //! Boxes (`Hosts`) are one such type.
 
-ghost use Rattle.std.specs.Prelude.{◌≡◌, ◌<◌, ◌≤◌, [], true, length, sum, Some, OnOk, OnErr};
-ghost use Rattle.strm_buffers.specs.Tells.{Tells, told_by, ClosesWriter, told_by_reader};
+ghost use Rattle.std.specs.Prelude.{◌≡◌, ◌<◌, ◌≤◌, [], true, All, length, sum, Some, OnOk, OnErr};
+ghost use Rattle.strm_buffers.specs.Tells.{Tells, HoldsItems, told_by, ClosesWriter, told_by_reader};
 ghost use Rattle.strm_machine.specs.Soundness.{sizes_of, IsPlaced};
 ghost use Rattle.strm_channels.specs.Guests.{seen};
 ghost use Rattle.strm_host_turns.specs.Turning.{scene, Turns};
@@ -177,6 +177,10 @@ pub trait HostEnds {
             (told_by (tells self.new) writer) (told_by_reader (tells self.new) reader)) }
         ensures payload { kept.new.payload ≡ kept.old.payload }
         ensures others { OnlyPipe writer reader (tells self.old) (tells self.new) };
+
+    /// What each host writer holds are items of its payload. It changes nothing.
+    fn sound(&self)
+        ensures { All HoldsItems (tells self.now).writers };
 }
 
 #[tactic(auto, using(strm_buffers::proofs::BoxLemmas::boxes))]
@@ -285,5 +289,9 @@ impl HostEnds for Hosts {
     ) -> Result<Answer, TakeError> {
         let (from, to) = (&mut self.writers[writer], &mut self.readers[reader]);
         offer(alloc, stream, consumer, kept, from, to)
+    }
+
+    fn sound(&self) {
+        Hosts::sound(self);
     }
 }

@@ -6,7 +6,8 @@ use Rattle.strm_tape.specs.Spelling.{TapeOf, IsTape, tape_spelling}
 use Rattle.strm_tape_runs.proofs.RunLemmas.{hosts_stay}
 use Rattle.strm_tape_program.specs.Reading.{IsReadable, most_bytes}
 use Rattle.tape.specs.HostEnds.{writers, readers, unused, following, following_reader, followers}
-use Rattle.tape.specs.Outcomes.{Port, IsRead, TakesAmong, PlaysAmong, Plays, ReadsTape, PlaysRead}
+use Rattle.strm_input_output.specs.Serving.{Port, ReadsWithin}
+use Rattle.tape.specs.Outcomes.{TakesAmong, PlaysAmong, Plays, ReadsTape, PlaysRead}
 
 -- what host ends tell, by the lists of it
 tells_are : (tells : Tells) (ws : List WriterTells) (rs : List ReaderTells) → tells.writers ≡ ws → tells.readers ≡ rs → tells ≡ record { writers = ws; readers = rs }
@@ -70,8 +71,8 @@ module _ (source source_after : Port) where
   abbrev pub IsWithin : Port → Port → Type 0
   IsWithin sink sink_after = (bytes : List ℕ) → Has bytes → most_bytes < length bytes → ¬ Rose sink.faults sink_after.faults → ⊥
 
-  pub plays_read : (tape : TapeOf) (sink between after : Port) (status : ℕ) → between ≡ sink → ReadsTape tape source source_after → IsRead most_bytes source source_after → IsOnly tape → IsWithin sink between → Plays tape between after status → PlaysRead source source_after sink after status
-  plays_read tape sink between after status quiet reads read only within plays =
+  pub plays_read : (tape : TapeOf) (sink mid after : Port) (status : ℕ) → mid ≡ sink → ReadsTape tape source source_after → ReadsWithin most_bytes source.bytes source_after.bytes → IsOnly tape → IsWithin sink mid → Plays tape mid after status → PlaysRead source source_after sink after status
+  plays_read tape sink mid after status quiet reads read only within plays =
       let here = subst (λ (port : Port). Plays tape port after status) quiet plays in
       record {
         played = inl (tape, reads, here);

@@ -1,41 +1,22 @@
 -- What the program does for its words: with its source, its sink and its host ends, and by which status. Ours.
 use Rattle.std.specs.Prelude.{◌≡◌, ◌≢◌, ◌⊎◌, ◌≤◌, ◌<◌, ◌+◌, ℕ, List, length, Option, Result, IfSome}
-use Rattle.std.specs.Io.KnownBytes.{Appends, Consumes, IsAtEnd}
+use Rattle.std.specs.Io.KnownBytes.{Appends, IsAtEnd}
 use Rattle.strm_buffers.specs.Tells.{Tells}
 use Rattle.strm_machine.specs.declared.steps.Step.{Step}
 use Rattle.strm_input_output.specs.Faults.{Rose, TakesPart}
+use Rattle.strm_input_output.specs.Serving.{Port, Writes, ReadsWithin, IsFaultless, IsOr}
 use Rattle.strm_lines.specs.Lines.{lines_of, Spells, IsFirstBad, IsTooLong}
 use Rattle.strm_session.specs.Records.{HostsGoOn}
 use Rattle.strm_session.specs.declared.runs.RunStop.{RunStop}
 use Rattle.strm_session.specs.declared.runs.Transcript.{Transcript}
 use Rattle.strm_tape.specs.Spelling.{TapeOf, IsTape, tape_spelling}
 use Rattle.strm_tape_runs.specs.Taking.{tape_of_run}
-use Rattle.strm_tape_runs.specs.Playing.{WasRun, IsPlayOf}
+use Rattle.strm_tape_runs.specs.Playing.{WasRunOrNot, IsPlayOf}
 use Rattle.strm_tape_program.specs.Playing.{IsOfTape, IsPlayStatus, IsStatusOfPlay}
 use Rattle.strm_tape_program.specs.Reading.{IsNoTape, IsReadStatus, IsReadable, IsSpelling, most_bytes}
-use Rattle.strm_tape_program.specs.Taking.{IsOfScript, IsTakeStatus, IsFaultless}
+use Rattle.strm_tape_program.specs.Taking.{IsOfScript, IsTakeStatus}
 use Rattle.strm_tape_program.specs.Texts.{usage_text}
 use Rattle.tape.specs.HostEnds.{unused, followers}
-
--- the bytes that a source has left or a sink took, where these are told, and how many faults it had
-pub record Port : Type 0 where
-  pub bytes : Option (List ℕ)
-  pub faults : ℕ
-
--- such bytes and such a count
-abbrev pub port : Option (List ℕ) → ℕ → Port
-port bytes faults = record { bytes = bytes; faults = faults }
-
--- with a status but 5 and 9 goes a text that a sink took; with 5 the sink failed, and took a part of one
-pub record Writes (Is : ℕ → List ℕ → Type 0) (old new : Port) (status : ℕ) : Type 0 where
-  pub told : status ≢ 5 → status ≢ 9 → (text : List ℕ) × Is status text × Appends old.bytes new.bytes text
-  pub part : status ≡ 5 → (meant : ℕ) × (text : List ℕ) × Is meant text × TakesPart old.bytes new.bytes text
-  pub write_fault : status ≡ 5 → Rose old.faults new.faults
-
--- a source gave so many bytes at most, and one more, by which it shows that there are more
-abbrev pub IsRead : ℕ → Port → Port → Type 0
-IsRead most source source_after =
-    (front : List ℕ) × Consumes source.bytes source_after.bytes front × (length front ≤ most + 1)
 
 -- a script of a source was taken among host ends that told this before and tell that after, and which answer
 -- comes but for faults and running out of memory
@@ -43,17 +24,17 @@ pub record TakesAmong (ends after : Tells) (source source_after sink sink_after 
   pub known : IsTakeStatus status
   pub writes : Writes (IsOfScript source.bytes source_after.bytes ends after source.faults source_after.faults)
       sink sink_after status
-  pub read : IsRead 16777216 source source_after
+  pub read : ReadsWithin 16777216 source.bytes source_after.bytes
   pub goes_on : HostsGoOn ends after
   pub complete : (input : List ℕ) (steps : List Step) →
       IsFaultless source.bytes input source.faults source_after.faults sink.faults sink_after.faults →
-      Spells (lines_of input) steps → ¬ IsTooLong input → (status ≡ 0) ⊎ (status ≡ 9)
+      Spells (lines_of input) steps → ¬ IsTooLong input → IsOr 0 status
   pub bad_line : (input : List ℕ) (line : ℕ) →
       IsFaultless source.bytes input source.faults source_after.faults sink.faults sink_after.faults →
-      IsFirstBad (lines_of input) line → ¬ IsTooLong input → (status ≡ 2) ⊎ (status ≡ 9)
+      IsFirstBad (lines_of input) line → ¬ IsTooLong input → IsOr 2 status
   pub too_long : (input : List ℕ) →
       IsFaultless source.bytes input source.faults source_after.faults sink.faults sink_after.faults →
-      IsTooLong input → (status ≡ 3) ⊎ (status ≡ 9)
+      IsTooLong input → IsOr 3 status
 
 -- among those of the program
 abbrev pub Takes : Port → Port → Port → Port → ℕ → Type 0
@@ -69,8 +50,8 @@ pub record PlaysAmong (ends after : Tells) (tape : TapeOf) (sink sink_after : Po
   pub complete : (end : Result Transcript RunStop) → tape_of_run tape.steps ends after ≡ tape → IsPlayOf tape end →
       ¬ Rose sink.faults sink_after.faults → IsStatusOfPlay status end ⊎ (status ≡ 9)
   pub differs : tape_of_run tape.steps ends after ≢ tape →
-      ¬ Rose sink.faults sink_after.faults → (status ≡ 10) ⊎ (status ≡ 9)
-  pub wanting : status ≡ 9 → (after ≡ ends) ⊎ WasRun ends after tape.steps
+      ¬ Rose sink.faults sink_after.faults → IsOr 10 status
+  pub wanting : status ≡ 9 → WasRunOrNot ends after tape.steps
 
 -- among those that follow it
 abbrev pub Plays : TapeOf → Port → Port → ℕ → Type 0
@@ -92,17 +73,17 @@ pub record ReadsNone (source source_after sink sink_after : Port) (status : ℕ)
 pub record PlaysRead (source source_after sink sink_after : Port) (status : ℕ) : Type 0 where
   pub played : ((tape : TapeOf) × ReadsTape tape source source_after × Plays tape sink sink_after status)
       ⊎ ReadsNone source source_after sink sink_after status
-  pub read : IsRead most_bytes source source_after
+  pub read : ReadsWithin most_bytes source.bytes source_after.bytes
   pub complete : (tape : TapeOf) → IsTape tape → length (tape_spelling tape) ≤ most_bytes →
       IsReadable source.bytes source.faults source_after.faults (tape_spelling tape) →
       Plays tape sink sink_after status ⊎ (status ≡ 9)
   -- of a sink whose count of faults is not at its end
   pub too_long : (bytes : List ℕ) → most_bytes < length bytes →
       IsReadable source.bytes source.faults source_after.faults bytes →
-      ¬ Rose sink.faults sink.faults → ¬ Rose sink.faults sink_after.faults → (status ≡ 3) ⊎ (status ≡ 9)
+      ¬ Rose sink.faults sink.faults → ¬ Rose sink.faults sink_after.faults → IsOr 3 status
   pub not_a_tape : (bytes : List ℕ) → length bytes ≤ most_bytes → ¬ IsSpelling bytes →
       IsReadable source.bytes source.faults source_after.faults bytes →
-      ¬ Rose sink.faults sink_after.faults → (status ≡ 11) ⊎ (status ≡ 9)
+      ¬ Rose sink.faults sink_after.faults → IsOr 11 status
 
 -- it was written how to call the program
 pub record TellsUsage (sink sink_after : Port) (status : ℕ) : Type 0 where

@@ -7,11 +7,12 @@ ghost use Rattle.std.specs.Process.{exit_status};
 ghost use Rattle.strm_buffers.specs.AllTells.{tells_of};
 ghost use Rattle.strm_tape_program.specs.Modes.{Names, NamesNone};
 ghost use Rattle.tape.specs.HostEnds.{writers, readers, unused, following, following_reader, followers};
-ghost use Rattle.tape.specs.Outcomes.{port, Takes, TakesAmong, Plays, PlaysAmong, PlaysRead, TellsUsage};
+ghost use Rattle.strm_input_output.specs.Serving.{port};
+ghost use Rattle.tape.specs.Outcomes.{Takes, TakesAmong, Plays, PlaysAmong, PlaysRead, TellsUsage};
 
 use std::alloc::{AllocError, Global};
+use std::io;
 use std::process::ExitCode;
-use std::{env, io};
 use strm_buffers::hosts::Hosts;
 use strm_buffers::readers::HostReader;
 use strm_buffers::writers::HostWriter;
@@ -22,6 +23,7 @@ use strm_host::empty::Empty;
 use strm_host::erased::Erased;
 use strm_input_output::ports::{Sink, Source};
 use strm_input_output::standard::{StdinSource, StdoutSink};
+use strm_input_output::words::{process_args, words_behind};
 use strm_memory::payloaded::Payloaded;
 use strm_program_ends::credit_reader::CreditReader;
 use strm_program_ends::queue_writer::QueueWriter;
@@ -63,7 +65,8 @@ fn taken<S: Source, K: Sink>(
     requires writers { (tells_of writer_tells reader_tells hosts.old).writers ≡ writers }
     requires readers { (tells_of writer_tells reader_tells hosts.old).readers ≡ readers }
     ensures takes { TakesAmong unused (tells_of writer_tells reader_tells hosts.new)
-        (port (S.left source.old) (S.faults source.old)) (port (S.left source.new) (S.faults source.new))
+        (port (S.left source.old) (S.faults source.old))
+        (port (S.left source.new) (S.faults source.new))
         (port (K.taken sink.old) (K.faults sink.old)) (port (K.taken sink.new) (K.faults sink.new))
         (exit_status result) }
     ensures nothing { exit_status result ≡ OUT_OF_MEMORY → sink.new ≡ sink.old }
@@ -79,7 +82,8 @@ fn taken_among_ends<S: Source, K: Sink>(
     sink: &mut K,
 ) -> Result<ExitCode, AllocError>
     ensures takes { IfOk result (λ code. Takes
-        (port (S.left source.old) (S.faults source.old)) (port (S.left source.new) (S.faults source.new))
+        (port (S.left source.old) (S.faults source.old))
+        (port (S.left source.new) (S.faults source.new))
         (port (K.taken sink.old) (K.faults sink.old)) (port (K.taken sink.new) (K.faults sink.new))
         (exit_status code)) }
     ensures nothing { IfOk result (λ code. exit_status code ≡ OUT_OF_MEMORY → sink.new ≡ sink.old) }
@@ -118,10 +122,12 @@ fn taken_among_ends<S: Source, K: Sink>(
 
 // Plays a tape among host ends that follow it, none of which was polled before.
 fn played<K: Sink>(alloc: Global, tape: &Tape, hosts: &mut Hosts, sink: &mut K) -> ExitCode
-    requires writers { (tells_of writer_tells reader_tells hosts.old).writers ≡ map following tape.now.writers }
+    requires writers { (tells_of writer_tells reader_tells hosts.old).writers
+        ≡ map following tape.now.writers }
     requires readers { (tells_of writer_tells reader_tells hosts.old).readers
         ≡ map following_reader tape.now.readers }
-    ensures plays { PlaysAmong (followers tape.now) (tells_of writer_tells reader_tells hosts.new) tape.now
+    ensures plays { PlaysAmong (followers tape.now)
+        (tells_of writer_tells reader_tells hosts.new) tape.now
         (port (K.taken sink.old) (K.faults sink.old)) (port (K.taken sink.new) (K.faults sink.new))
         (exit_status result) }
     ensures nothing { exit_status result ≡ OUT_OF_MEMORY → sink.new ≡ sink.old }
@@ -166,7 +172,8 @@ fn played_from<S: Source, K: Sink>(
     sink: &mut K,
 ) -> Result<ExitCode, AllocError>
     ensures plays { IfOk result (λ code. PlaysRead
-        (port (S.left source.old) (S.faults source.old)) (port (S.left source.new) (S.faults source.new))
+        (port (S.left source.old) (S.faults source.old))
+        (port (S.left source.new) (S.faults source.new))
         (port (K.taken sink.old) (K.faults sink.old)) (port (K.taken sink.new) (K.faults sink.new))
         (exit_status code)) }
     ensures nothing { IfOk result (λ code. exit_status code ≡ OUT_OF_MEMORY → sink.new ≡ sink.old) }
@@ -189,14 +196,18 @@ fn answered<S: Source, K: Sink>(
     sink: &mut K,
 ) -> Result<ExitCode, AllocError>
     ensures takes { Names (map string_bytes words.now.items) Mode.Take → IfOk result (λ code. Takes
-        (port (S.left source.old) (S.faults source.old)) (port (S.left source.new) (S.faults source.new))
+        (port (S.left source.old) (S.faults source.old))
+        (port (S.left source.new) (S.faults source.new))
         (port (K.taken sink.old) (K.faults sink.old)) (port (K.taken sink.new) (K.faults sink.new))
         (exit_status code)) }
-    ensures plays { Names (map string_bytes words.now.items) Mode.Play → IfOk result (λ code. PlaysRead
-        (port (S.left source.old) (S.faults source.old)) (port (S.left source.new) (S.faults source.new))
+    ensures plays { Names (map string_bytes words.now.items) Mode.Play → IfOk result (λ code.
+        PlaysRead
+        (port (S.left source.old) (S.faults source.old))
+        (port (S.left source.new) (S.faults source.new))
         (port (K.taken sink.old) (K.faults sink.old)) (port (K.taken sink.new) (K.faults sink.new))
         (exit_status code)) }
-    ensures usage { NamesNone (map string_bytes words.now.items) → IsOkAnd result (λ code. TellsUsage
+    ensures usage { NamesNone (map string_bytes words.now.items) → IsOkAnd result (λ code.
+        TellsUsage
         (port (K.taken sink.old) (K.faults sink.old)) (port (K.taken sink.new) (K.faults sink.new))
         (exit_status code)) }
     ensures unread { NamesNone (map string_bytes words.now.items) → source.new ≡ source.old }
@@ -212,21 +223,12 @@ fn answered<S: Source, K: Sink>(
 
 fn main(rt: HostRuntime) -> io::Result<ExitCode> {
     let alloc = rt.alloc();
-    let mut words: Vec<String> = Vec::new(alloc);
-    match env::args(&rt) {
-        Ok(mut all) => {
-            let _name = all.next();
-            match all.collect(alloc) {
-                Ok(rest) => words = rest,
-                Err(_) => return Ok(ExitCode::from(OUT_OF_MEMORY)),
-            }
-        }
-        Err(error) if error.kind() == io::ErrorKind::OutOfMemory => {
-            return Ok(ExitCode::from(OUT_OF_MEMORY));
-        }
-        // A word that is no UTF-8 is none of the program's.
-        Err(_) => {}
-    }
+    let Ok(args) = process_args(&rt) else {
+        return Ok(ExitCode::from(OUT_OF_MEMORY));
+    };
+    let Ok(words) = words_behind(alloc, args) else {
+        return Ok(ExitCode::from(OUT_OF_MEMORY));
+    };
     let mut source = StdinSource::new(rt.stdin());
     let mut sink = StdoutSink::new(rt.stdout());
     match answered(alloc, &words, &mut source, &mut sink) {

@@ -1,7 +1,7 @@
 -- What is played of what a source has left, or why that is no tape.
 use Rattle.std.proofs.Common.{inr, ap}
 use Rattle.std.proofs.lemmas.Result.{IfOk-weaker}
-use Rattle.tape.specs.Outcomes.{port}
+use Rattle.strm_input_output.specs.Serving.{port}
 use Rattle.tape.proofs.OutcomeLemmas.{no_error, of_error, plays_read, plays_same}
 use Rattle.tape.proofs.played_from.Goals as goal
 

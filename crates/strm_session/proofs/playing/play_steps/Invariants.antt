@@ -1,11 +1,10 @@
 use Rattle.std.proofs.Common.{List}
-use Rattle.strm_buffers.specs.AllTells.{tells_of}
 use Rattle.strm_machine.specs.declared.replies.Reply.{Reply}
 use Rattle.strm_session.proofs.PlayingLemmas.{Playing}
 use Rattle.strm_session.proofs.playing.play_steps.Given as goal
 
 abbrev pub invariant-loop : goal.invariant-loop
 invariant-loop g l =
-    let tells = tells_of (λ b. (goal.HostWriter-dyn g b).writer_tells b.1) (λ b. (goal.HostReader-dyn g b).reader_tells b.1) in
+    let tells = g.H.HostEnds.tells in
     (told : List Reply) × g.R.KeepsReplies.keeps l.replies told
     × Playing (tells l.fn.hosts) (tells l.hosts) (g.L.GivesSteps.left l.fn.steps) l.counter (g.L.GivesSteps.left l.steps) told l.store

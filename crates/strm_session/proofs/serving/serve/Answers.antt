@@ -1,36 +1,29 @@
-use Rattle.std.proofs.Common.{rules}
-use Rattle.strm_session.proofs.ServingLemmas.{known_status, known_unfailed, complete_memory, complete_fault, complete_told}
+use Rattle.strm_session.proofs.ServingLemmas.{known_unfailed, written_known, written_not_nine, complete_written}
 use Rattle.strm_session.proofs.serving.serve.Goals as goal
 
-pub returns-in-Ok-write_whole-clause-told : goal.returns-in-Ok-write_whole-clause-told
-returns-in-Ok-write_whole-clause-told g c = search rules
+pub write_answer-requires : goal.write_answer-requires
+write_answer-requires g c = (known_unfailed c.in-Ok.answer.status c.in-Ok.ensures.known).0
+
+pub returns-in-Ok-clause-known : goal.returns-in-Ok-clause-known
+returns-in-Ok-clause-known g c = written_known c.write_answer.result c.in-Ok.answer.status c.in-Ok.ensures.known c.write_answer.ensures.told
+
+pub returns-in-Ok-clause-told : goal.returns-in-Ok-clause-told
+returns-in-Ok-clause-told g c = λ ended memory.
+    let taken = (rw c.as_slice.ensures at c.write_answer.ensures.told) ended in
+    (c.in-Ok.answer.text, rw taken.0 c.in-Ok.ensures.told, taken.1)
+
+pub returns-in-Ok-clause-part : goal.returns-in-Ok-clause-part
+returns-in-Ok-clause-part g c = λ failed.
+    (c.in-Ok.answer.status, c.in-Ok.answer.text, c.in-Ok.ensures.told, rw c.as_slice.ensures at c.write_answer.ensures.part failed)
 
 pub returns-in-Ok-clause-nothing : goal.returns-in-Ok-clause-nothing
-returns-in-Ok-clause-nothing g c = search rules
+returns-in-Ok-clause-nothing g c = λ e.
+    absurd (written_not_nine c.write_answer.result c.in-Ok.answer.status c.in-Ok.ensures.known c.write_answer.ensures.told e)
 
-pub returns-in-Ok-write_whole-clause-complete : goal.returns-in-Ok-write_whole-clause-complete
-returns-in-Ok-write_whole-clause-complete g c =
-    complete_told _ (g.S.Source.left c.args.source.now) (g.S.Source.left c.answer_words.new.source) _ _ _ _ _ _ c.in-Ok.output.status c.in-Ok.output.text c.in-Ok.ensures.told
+pub returns-in-Ok-clause-wanting : goal.returns-in-Ok-clause-wanting
+returns-in-Ok-clause-wanting g c = λ e.
+    absurd (written_not_nine c.write_answer.result c.in-Ok.answer.status c.in-Ok.ensures.known c.write_answer.ensures.told e)
 
 pub returns-in-Ok-clause-complete : goal.returns-in-Ok-clause-complete
 returns-in-Ok-clause-complete g c =
-    complete_fault _ (g.S.Source.left c.args.source.now) (g.S.Source.left c.answer_words.new.source) _ _ _ _ _ _ _ (search rules)
-
-pub returns-clause-complete : goal.returns-clause-complete
-returns-clause-complete g c = complete_memory _ (g.S.Source.left c.args.source.now) (g.S.Source.left c.answer_words.new.source) _ _ _ _ _ _
-
-pub returns-in-Ok-write_whole-clause-known : goal.returns-in-Ok-write_whole-clause-known
-returns-in-Ok-write_whole-clause-known g c = known_status c.in-Ok.output.status c.in-Ok.ensures.known
-
-pub returns-in-Ok-write_whole-clause-part : goal.returns-in-Ok-write_whole-clause-part
-returns-in-Ok-write_whole-clause-part g c = λ e. absurd ((known_unfailed c.in-Ok.output.status c.in-Ok.ensures.known).0 e)
-
-pub returns-in-Ok-write_whole-clause-write_fault : goal.returns-in-Ok-write_whole-clause-write_fault
-returns-in-Ok-write_whole-clause-write_fault g c = λ e. absurd ((known_unfailed c.in-Ok.output.status c.in-Ok.ensures.known).0 e)
-
-pub returns-in-Ok-write_whole-clause-nothing : goal.returns-in-Ok-write_whole-clause-nothing
-returns-in-Ok-write_whole-clause-nothing g c = λ e. absurd ((known_unfailed c.in-Ok.output.status c.in-Ok.ensures.known).1 e)
-
-pub returns-in-Ok-clause-part : goal.returns-in-Ok-clause-part
-returns-in-Ok-clause-part g c = λ _.
-    (c.in-Ok.output.status, c.in-Ok.output.text, c.in-Ok.ensures.told, rw c.as_slice.ensures at c.in-Err-write_whole.ensures.err)
+    complete_written _ (g.S.Source.left c.args.source.now) (g.S.Source.left c.answer_words.new.source) _ _ _ _ _ _ c.write_answer.result c.in-Ok.answer.status c.in-Ok.answer.text c.in-Ok.ensures.told c.write_answer.ensures.told c.write_answer.ensures.write_fault

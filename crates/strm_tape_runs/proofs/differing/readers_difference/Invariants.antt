@@ -1,10 +1,9 @@
 use Rattle.std.proofs.Common.{◌≡◌, take}
-use Rattle.strm_buffers.specs.AllTells.{tells_of}
 use Rattle.strm_tape_runs.specs.Marks.{reader_behind}
 use Rattle.strm_tape_runs.specs.Taking.{zip_with}
 use Rattle.strm_tape_runs.proofs.differing.readers_difference.Given as goal
 
 abbrev pub invariant-loop-r : goal.invariant-loop-r
 invariant-loop-r g l =
-    let told = (tells_of (λ b. (goal.HostWriter-dyn g b).writer_tells b.1) (λ b. (goal.HostReader-dyn g b).reader_tells b.1) l.hosts).readers in
+    let told = (g.H.HostEnds.tells l.hosts).readers in
     take l.r (zip_with reader_behind l.marks told) ≡ take l.r l.tape.readers

@@ -1,5 +1,4 @@
 use Rattle.std.proofs.Common.{Result, inr, ap, refl, subst, sym, ◌∙◌}
-use Rattle.strm_buffers.specs.AllTells.{tells_of}
 use Rattle.strm_session.specs.declared.runs.RunStop.{RunStop}
 use Rattle.strm_session.specs.declared.runs.Transcript.{Transcript}
 use Rattle.strm_tape_runs.specs.Differing.{FirstDiffer}
@@ -14,51 +13,51 @@ returns-in-Err-clause-hosts g c = hosts_stay _
 
 pub first_difference-requires-clause-writers : goal.first_difference-requires-clause-writers
 first_difference-requires-clause-writers g c =
-    reach_writers c.in-Ok.marks.writers.items (tells_of (λ b. (goal.HostWriter-dyn g b).writer_tells b.1) (λ b. (goal.HostReader-dyn g b).reader_tells b.1) c.args.hosts.now) (tells_of (λ b. (goal.HostWriter-dyn g b).writer_tells b.1) (λ b. (goal.HostReader-dyn g b).reader_tells b.1) c.run-end.new.hosts) c.in-Ok.ensures.writers c.run-end.ensures.hosts
+    reach_writers c.in-Ok.marks.writers.items (g.H.HostEnds.tells c.args.hosts.now) (g.H.HostEnds.tells c.run-end.new.hosts) c.in-Ok.ensures.writers c.run-end.ensures.hosts
 
 pub first_difference-requires-clause-readers : goal.first_difference-requires-clause-readers
 first_difference-requires-clause-readers g c =
-    reach_readers c.in-Ok.marks.readers.items (tells_of (λ b. (goal.HostWriter-dyn g b).writer_tells b.1) (λ b. (goal.HostReader-dyn g b).reader_tells b.1) c.args.hosts.now) (tells_of (λ b. (goal.HostWriter-dyn g b).writer_tells b.1) (λ b. (goal.HostReader-dyn g b).reader_tells b.1) c.run-end.new.hosts) c.in-Ok.ensures.readers c.run-end.ensures.hosts
+    reach_readers c.in-Ok.marks.readers.items (g.H.HostEnds.tells c.args.hosts.now) (g.H.HostEnds.tells c.run-end.new.hosts) c.in-Ok.ensures.readers c.run-end.ensures.hosts
 
 pub first_difference-requires-clause-types : goal.first_difference-requires-clause-types
 first_difference-requires-clause-types g c =
-    types_marked mark_of writer_type (λ t. refl) c.in-Ok.marks.writers.items (tells_of (λ b. (goal.HostWriter-dyn g b).writer_tells b.1) (λ b. (goal.HostReader-dyn g b).reader_tells b.1) c.args.hosts.now).writers _ c.in-Ok.ensures.writers c.requires.ends.writers
+    types_marked mark_of writer_type (λ t. refl) c.in-Ok.marks.writers.items (g.H.HostEnds.tells c.args.hosts.now).writers _ c.in-Ok.ensures.writers c.requires.ends.writers
 
 pub first_difference-requires-clause-reader_types : goal.first_difference-requires-clause-reader_types
 first_difference-requires-clause-reader_types g c =
-    types_marked reader_mark_of reader_type (λ t. refl) c.in-Ok.marks.readers.items (tells_of (λ b. (goal.HostWriter-dyn g b).writer_tells b.1) (λ b. (goal.HostReader-dyn g b).reader_tells b.1) c.args.hosts.now).readers _ c.in-Ok.ensures.readers c.requires.ends.readers
+    types_marked reader_mark_of reader_type (λ t. refl) c.in-Ok.marks.readers.items (g.H.HostEnds.tells c.args.hosts.now).readers _ c.in-Ok.ensures.readers c.requires.ends.readers
 
 pub returns-in-Ok-None-clause-same : goal.returns-in-Ok-None-clause-same
 returns-in-Ok-None-clause-same g c =
-    sym (tape_is c.args.tape.now.steps c.in-Ok.marks (tells_of (λ b. (goal.HostWriter-dyn g b).writer_tells b.1) (λ b. (goal.HostReader-dyn g b).reader_tells b.1) c.args.hosts.now) (tells_of (λ b. (goal.HostWriter-dyn g b).writer_tells b.1) (λ b. (goal.HostReader-dyn g b).reader_tells b.1) c.run-end.new.hosts) c.in-Ok.ensures.writers c.in-Ok.ensures.readers)
+    sym (tape_is c.args.tape.now.steps c.in-Ok.marks (g.H.HostEnds.tells c.args.hosts.now) (g.H.HostEnds.tells c.run-end.new.hosts) c.in-Ok.ensures.writers c.in-Ok.ensures.readers)
     ∙ c.in-Ok-None.ensures.same c.in-Ok-None.field-0-is
 
 pub returns-in-Ok-None-clause-plays : goal.returns-in-Ok-None-clause-plays
 returns-in-Ok-None-clause-plays g c =
     let steps = c.steps.result.now in
-    let run : IsRunOf (tells_of (λ b. (goal.HostWriter-dyn g b).writer_tells b.1) (λ b. (goal.HostReader-dyn g b).reader_tells b.1) c.args.hosts.now) (tells_of (λ b. (goal.HostWriter-dyn g b).writer_tells b.1) (λ b. (goal.HostReader-dyn g b).reader_tells b.1) c.run-end.new.hosts) steps c.run-end.result = record { ok = c.run-end.ensures.ok; received = c.run-end.ensures.received; stop = c.run-end.ensures.stop; at = c.run-end.ensures.at; goes_on = c.run-end.ensures.hosts; alone = c.run-end.ensures.alone; decided = c.run-end.ensures.decided } in
-    subst (λ tape. IsPlayOf tape c.run-end.result) (ap (λ steps. tape_of_run steps (tells_of (λ b. (goal.HostWriter-dyn g b).writer_tells b.1) (λ b. (goal.HostReader-dyn g b).reader_tells b.1) c.args.hosts.now) (tells_of (λ b. (goal.HostWriter-dyn g b).writer_tells b.1) (λ b. (goal.HostReader-dyn g b).reader_tells b.1) c.run-end.new.hosts)) c.steps.ensures ∙ returns-in-Ok-None-clause-same g c)
-    (run_plays c.runs_are_alike.ensures steps (tells_of (λ b. (goal.HostWriter-dyn g b).writer_tells b.1) (λ b. (goal.HostReader-dyn g b).reader_tells b.1) c.args.hosts.now) (tells_of (λ b. (goal.HostWriter-dyn g b).writer_tells b.1) (λ b. (goal.HostReader-dyn g b).reader_tells b.1) c.run-end.new.hosts) c.run-end.result c.requires.ends.held run (c.wanted_memory.ensures c.if-wanted_memory.false))
+    let run : IsRunOf (g.H.HostEnds.tells c.args.hosts.now) (g.H.HostEnds.tells c.run-end.new.hosts) steps c.run-end.result = record { ok = c.run-end.ensures.ok; received = c.run-end.ensures.received; stop = c.run-end.ensures.stop; at = c.run-end.ensures.at; goes_on = c.run-end.ensures.hosts; alone = c.run-end.ensures.alone; decided = c.run-end.ensures.decided } in
+    subst (λ tape. IsPlayOf tape c.run-end.result) (ap (λ steps. tape_of_run steps (g.H.HostEnds.tells c.args.hosts.now) (g.H.HostEnds.tells c.run-end.new.hosts)) c.steps.ensures ∙ returns-in-Ok-None-clause-same g c)
+    (run_plays c.runs_are_alike.ensures steps (g.H.HostEnds.tells c.args.hosts.now) (g.H.HostEnds.tells c.run-end.new.hosts) c.run-end.result c.requires.ends.held run (c.wanted_memory.ensures c.if-wanted_memory.false))
 
 pub returns-in-Ok-Some-clause-differs : goal.returns-in-Ok-Some-clause-differs
 returns-in-Ok-Some-clause-differs g c = λ reader end at e.
     let d = c.in-Ok-Some.field-0-0 in
     let differs = rw c.in-Ok-Some.field-0-is at c.in-Ok-Some.ensures.differ in
-    told_difference {T = Result Transcript RunStop} (FirstDiffer (tape_of_run c.args.tape.now.steps (tells_of (λ b. (goal.HostWriter-dyn g b).writer_tells b.1) (λ b. (goal.HostReader-dyn g b).reader_tells b.1) c.args.hosts.now) (tells_of (λ b. (goal.HostWriter-dyn g b).writer_tells b.1) (λ b. (goal.HostReader-dyn g b).reader_tells b.1) c.run-end.new.hosts)) c.args.tape.now)
+    told_difference {T = Result Transcript RunStop} (FirstDiffer (tape_of_run c.args.tape.now.steps (g.H.HostEnds.tells c.args.hosts.now) (g.H.HostEnds.tells c.run-end.new.hosts)) c.args.tape.now)
     d.reader d.end d.at reader end at e
-    (subst (λ added. FirstDiffer added c.args.tape.now d.reader d.end d.at) (tape_is c.args.tape.now.steps c.in-Ok.marks (tells_of (λ b. (goal.HostWriter-dyn g b).writer_tells b.1) (λ b. (goal.HostReader-dyn g b).reader_tells b.1) c.args.hosts.now) (tells_of (λ b. (goal.HostWriter-dyn g b).writer_tells b.1) (λ b. (goal.HostReader-dyn g b).reader_tells b.1) c.run-end.new.hosts) c.in-Ok.ensures.writers c.in-Ok.ensures.readers) differs)
+    (subst (λ added. FirstDiffer added c.args.tape.now d.reader d.end d.at) (tape_is c.args.tape.now.steps c.in-Ok.marks (g.H.HostEnds.tells c.args.hosts.now) (g.H.HostEnds.tells c.run-end.new.hosts) c.in-Ok.ensures.writers c.in-Ok.ensures.readers) differs)
 
 pub returns-in-Ok-Some-clause-adds : goal.returns-in-Ok-Some-clause-adds
 returns-in-Ok-Some-clause-adds g c = λ reader end at e.
-    let run : IsRunOf (tells_of (λ b. (goal.HostWriter-dyn g b).writer_tells b.1) (λ b. (goal.HostReader-dyn g b).reader_tells b.1) c.args.hosts.now) (tells_of (λ b. (goal.HostWriter-dyn g b).writer_tells b.1) (λ b. (goal.HostReader-dyn g b).reader_tells b.1) c.run-end.new.hosts) c.steps.result.now c.run-end.result = record { ok = c.run-end.ensures.ok; received = c.run-end.ensures.received; stop = c.run-end.ensures.stop; at = c.run-end.ensures.at; goes_on = c.run-end.ensures.hosts; alone = c.run-end.ensures.alone; decided = c.run-end.ensures.decided } in
-    (c.run-end.result, subst (λ steps. IsRunOf (tells_of (λ b. (goal.HostWriter-dyn g b).writer_tells b.1) (λ b. (goal.HostReader-dyn g b).reader_tells b.1) c.args.hosts.now) (tells_of (λ b. (goal.HostWriter-dyn g b).writer_tells b.1) (λ b. (goal.HostReader-dyn g b).reader_tells b.1) c.run-end.new.hosts) steps c.run-end.result) c.steps.ensures run, c.wanted_memory.ensures c.if-wanted_memory.false)
+    let run : IsRunOf (g.H.HostEnds.tells c.args.hosts.now) (g.H.HostEnds.tells c.run-end.new.hosts) c.steps.result.now c.run-end.result = record { ok = c.run-end.ensures.ok; received = c.run-end.ensures.received; stop = c.run-end.ensures.stop; at = c.run-end.ensures.at; goes_on = c.run-end.ensures.hosts; alone = c.run-end.ensures.alone; decided = c.run-end.ensures.decided } in
+    (c.run-end.result, subst (λ steps. IsRunOf (g.H.HostEnds.tells c.args.hosts.now) (g.H.HostEnds.tells c.run-end.new.hosts) steps c.run-end.result) c.steps.ensures run, c.wanted_memory.ensures c.if-wanted_memory.false)
 
 pub returns-then-wanted_memory-clause-wanting : goal.returns-then-wanted_memory-clause-wanting
 returns-then-wanted_memory-clause-wanting g c = λ e.
-    let run : IsRunOf (tells_of (λ b. (goal.HostWriter-dyn g b).writer_tells b.1) (λ b. (goal.HostReader-dyn g b).reader_tells b.1) c.args.hosts.now) (tells_of (λ b. (goal.HostWriter-dyn g b).writer_tells b.1) (λ b. (goal.HostReader-dyn g b).reader_tells b.1) c.run-end.new.hosts) c.steps.result.now c.run-end.result = record { ok = c.run-end.ensures.ok; received = c.run-end.ensures.received; stop = c.run-end.ensures.stop; at = c.run-end.ensures.at; goes_on = c.run-end.ensures.hosts; alone = c.run-end.ensures.alone; decided = c.run-end.ensures.decided } in
-    inr (c.run-end.result, subst (λ steps. IsRunOf (tells_of (λ b. (goal.HostWriter-dyn g b).writer_tells b.1) (λ b. (goal.HostReader-dyn g b).reader_tells b.1) c.args.hosts.now) (tells_of (λ b. (goal.HostWriter-dyn g b).writer_tells b.1) (λ b. (goal.HostReader-dyn g b).reader_tells b.1) c.run-end.new.hosts) steps c.run-end.result) c.steps.ensures run)
+    let run : IsRunOf (g.H.HostEnds.tells c.args.hosts.now) (g.H.HostEnds.tells c.run-end.new.hosts) c.steps.result.now c.run-end.result = record { ok = c.run-end.ensures.ok; received = c.run-end.ensures.received; stop = c.run-end.ensures.stop; at = c.run-end.ensures.at; goes_on = c.run-end.ensures.hosts; alone = c.run-end.ensures.alone; decided = c.run-end.ensures.decided } in
+    inr (c.run-end.result, subst (λ steps. IsRunOf (g.H.HostEnds.tells c.args.hosts.now) (g.H.HostEnds.tells c.run-end.new.hosts) steps c.run-end.result) c.steps.ensures run)
 
 pub returns-clause-wanting : goal.returns-clause-wanting
 returns-clause-wanting g c = λ e.
-    let run : IsRunOf (tells_of (λ b. (goal.HostWriter-dyn g b).writer_tells b.1) (λ b. (goal.HostReader-dyn g b).reader_tells b.1) c.args.hosts.now) (tells_of (λ b. (goal.HostWriter-dyn g b).writer_tells b.1) (λ b. (goal.HostReader-dyn g b).reader_tells b.1) c.run-end.new.hosts) c.steps.result.now c.run-end.result = record { ok = c.run-end.ensures.ok; received = c.run-end.ensures.received; stop = c.run-end.ensures.stop; at = c.run-end.ensures.at; goes_on = c.run-end.ensures.hosts; alone = c.run-end.ensures.alone; decided = c.run-end.ensures.decided } in
-    inr (c.run-end.result, subst (λ steps. IsRunOf (tells_of (λ b. (goal.HostWriter-dyn g b).writer_tells b.1) (λ b. (goal.HostReader-dyn g b).reader_tells b.1) c.args.hosts.now) (tells_of (λ b. (goal.HostWriter-dyn g b).writer_tells b.1) (λ b. (goal.HostReader-dyn g b).reader_tells b.1) c.run-end.new.hosts) steps c.run-end.result) c.steps.ensures run)
+    let run : IsRunOf (g.H.HostEnds.tells c.args.hosts.now) (g.H.HostEnds.tells c.run-end.new.hosts) c.steps.result.now c.run-end.result = record { ok = c.run-end.ensures.ok; received = c.run-end.ensures.received; stop = c.run-end.ensures.stop; at = c.run-end.ensures.at; goes_on = c.run-end.ensures.hosts; alone = c.run-end.ensures.alone; decided = c.run-end.ensures.decided } in
+    inr (c.run-end.result, subst (λ steps. IsRunOf (g.H.HostEnds.tells c.args.hosts.now) (g.H.HostEnds.tells c.run-end.new.hosts) steps c.run-end.result) c.steps.ensures run)

@@ -1,5 +1,4 @@
 use Rattle.std.proofs.Common.{inr, ap, subst, sym, ◌∙◌}
-use Rattle.strm_buffers.specs.AllTells.{tells_of}
 use Rattle.strm_session.specs.Runs.{start_among}
 use Rattle.strm_tape_runs.specs.Marks.{tape_behind}
 use Rattle.strm_tape_runs.specs.Playing.{IsRunOf, IsPlayOf}
@@ -15,36 +14,36 @@ returns-in_err-marks-clause-hosts g c = hosts_stay _
 
 pub tape_behind-requires-clause-writers : goal.tape_behind-requires-clause-writers
 tape_behind-requires-clause-writers g c =
-    let run : IsRunOf (tells_of (λ b. (goal.HostWriter-dyn g b).writer_tells b.1) (λ b. (goal.HostReader-dyn g b).reader_tells b.1) c.args.hosts.now) (tells_of (λ b. (goal.HostWriter-dyn g b).writer_tells b.1) (λ b. (goal.HostReader-dyn g b).reader_tells b.1) c.run-end.new.hosts) c.args.steps.now c.run-end.result = record { ok = c.run-end.ensures.ok; received = c.run-end.ensures.received; stop = c.run-end.ensures.stop; at = c.run-end.ensures.at; goes_on = c.run-end.ensures.hosts; alone = c.run-end.ensures.alone; decided = c.run-end.ensures.decided } in
-    run_tapable (tells_of (λ b. (goal.HostWriter-dyn g b).writer_tells b.1) (λ b. (goal.HostReader-dyn g b).reader_tells b.1) c.args.hosts.now) (tells_of (λ b. (goal.HostWriter-dyn g b).writer_tells b.1) (λ b. (goal.HostReader-dyn g b).reader_tells b.1) c.run-end.new.hosts)
-    (λ run count s. c.totals_are_counts.ensures 0 program_limits (tells_of (λ b. (goal.HostWriter-dyn g b).writer_tells b.1) (λ b. (goal.HostReader-dyn g b).reader_tells b.1) c.args.hosts.now) (tells_of (λ b. (goal.HostWriter-dyn g b).writer_tells b.1) (λ b. (goal.HostReader-dyn g b).reader_tells b.1) c.run-end.new.hosts) run count s) (λ run count. c.states_are_sound.ensures.hosts 0 program_limits (tells_of (λ b. (goal.HostWriter-dyn g b).writer_tells b.1) (λ b. (goal.HostReader-dyn g b).reader_tells b.1) c.args.hosts.now) (tells_of (λ b. (goal.HostWriter-dyn g b).writer_tells b.1) (λ b. (goal.HostReader-dyn g b).reader_tells b.1) c.run-end.new.hosts) run count) (c.moments_lead_to_the_end.ensures (start_among (tells_of (λ b. (goal.HostWriter-dyn g b).writer_tells b.1) (λ b. (goal.HostReader-dyn g b).reader_tells b.1) c.args.hosts.now) (tells_of (λ b. (goal.HostWriter-dyn g b).writer_tells b.1) (λ b. (goal.HostReader-dyn g b).reader_tells b.1) c.run-end.new.hosts))) (c.writers_are_fed_exactly.ensures.runs (start_among (tells_of (λ b. (goal.HostWriter-dyn g b).writer_tells b.1) (λ b. (goal.HostReader-dyn g b).reader_tells b.1) c.args.hosts.now) (tells_of (λ b. (goal.HostWriter-dyn g b).writer_tells b.1) (λ b. (goal.HostReader-dyn g b).reader_tells b.1) c.run-end.new.hosts))) (c.writers_are_fed_exactly.ensures.stops (start_among (tells_of (λ b. (goal.HostWriter-dyn g b).writer_tells b.1) (λ b. (goal.HostReader-dyn g b).reader_tells b.1) c.args.hosts.now) (tells_of (λ b. (goal.HostWriter-dyn g b).writer_tells b.1) (λ b. (goal.HostReader-dyn g b).reader_tells b.1) c.run-end.new.hosts)))
+    let run : IsRunOf (g.H.HostEnds.tells c.args.hosts.now) (g.H.HostEnds.tells c.run-end.new.hosts) c.args.steps.now c.run-end.result = record { ok = c.run-end.ensures.ok; received = c.run-end.ensures.received; stop = c.run-end.ensures.stop; at = c.run-end.ensures.at; goes_on = c.run-end.ensures.hosts; alone = c.run-end.ensures.alone; decided = c.run-end.ensures.decided } in
+    run_tapable (g.H.HostEnds.tells c.args.hosts.now) (g.H.HostEnds.tells c.run-end.new.hosts)
+    (λ run count s. c.totals_are_counts.ensures 0 program_limits (g.H.HostEnds.tells c.args.hosts.now) (g.H.HostEnds.tells c.run-end.new.hosts) run count s) (λ run count. c.states_are_sound.ensures.hosts 0 program_limits (g.H.HostEnds.tells c.args.hosts.now) (g.H.HostEnds.tells c.run-end.new.hosts) run count) (c.moments_lead_to_the_end.ensures (start_among (g.H.HostEnds.tells c.args.hosts.now) (g.H.HostEnds.tells c.run-end.new.hosts))) (c.writers_are_fed_exactly.ensures.runs (start_among (g.H.HostEnds.tells c.args.hosts.now) (g.H.HostEnds.tells c.run-end.new.hosts))) (c.writers_are_fed_exactly.ensures.stops (start_among (g.H.HostEnds.tells c.args.hosts.now) (g.H.HostEnds.tells c.run-end.new.hosts)))
     c.args.steps.now c.run-end.result c.in_ok-marks.marks.writers.items c.requires.few c.in_ok-marks.ensures.writers run (c.wanted_memory.ensures c.if-wanted_memory.false)
 
 pub tape_behind-requires-clause-readers : goal.tape_behind-requires-clause-readers
 tape_behind-requires-clause-readers g c =
-    let run : IsRunOf (tells_of (λ b. (goal.HostWriter-dyn g b).writer_tells b.1) (λ b. (goal.HostReader-dyn g b).reader_tells b.1) c.args.hosts.now) (tells_of (λ b. (goal.HostWriter-dyn g b).writer_tells b.1) (λ b. (goal.HostReader-dyn g b).reader_tells b.1) c.run-end.new.hosts) c.args.steps.now c.run-end.result = record { ok = c.run-end.ensures.ok; received = c.run-end.ensures.received; stop = c.run-end.ensures.stop; at = c.run-end.ensures.at; goes_on = c.run-end.ensures.hosts; alone = c.run-end.ensures.alone; decided = c.run-end.ensures.decided } in
-    run_readers_tapable (tells_of (λ b. (goal.HostWriter-dyn g b).writer_tells b.1) (λ b. (goal.HostReader-dyn g b).reader_tells b.1) c.args.hosts.now) (tells_of (λ b. (goal.HostWriter-dyn g b).writer_tells b.1) (λ b. (goal.HostReader-dyn g b).reader_tells b.1) c.run-end.new.hosts)
-    (λ run count s. c.totals_are_counts.ensures 0 program_limits (tells_of (λ b. (goal.HostWriter-dyn g b).writer_tells b.1) (λ b. (goal.HostReader-dyn g b).reader_tells b.1) c.args.hosts.now) (tells_of (λ b. (goal.HostWriter-dyn g b).writer_tells b.1) (λ b. (goal.HostReader-dyn g b).reader_tells b.1) c.run-end.new.hosts) run count s) (λ run count. c.states_are_sound.ensures.hosts 0 program_limits (tells_of (λ b. (goal.HostWriter-dyn g b).writer_tells b.1) (λ b. (goal.HostReader-dyn g b).reader_tells b.1) c.args.hosts.now) (tells_of (λ b. (goal.HostWriter-dyn g b).writer_tells b.1) (λ b. (goal.HostReader-dyn g b).reader_tells b.1) c.run-end.new.hosts) run count) (c.moments_lead_to_the_end.ensures (start_among (tells_of (λ b. (goal.HostWriter-dyn g b).writer_tells b.1) (λ b. (goal.HostReader-dyn g b).reader_tells b.1) c.args.hosts.now) (tells_of (λ b. (goal.HostWriter-dyn g b).writer_tells b.1) (λ b. (goal.HostReader-dyn g b).reader_tells b.1) c.run-end.new.hosts))) (c.writers_are_fed_exactly.ensures.runs (start_among (tells_of (λ b. (goal.HostWriter-dyn g b).writer_tells b.1) (λ b. (goal.HostReader-dyn g b).reader_tells b.1) c.args.hosts.now) (tells_of (λ b. (goal.HostWriter-dyn g b).writer_tells b.1) (λ b. (goal.HostReader-dyn g b).reader_tells b.1) c.run-end.new.hosts))) (c.writers_are_fed_exactly.ensures.stops (start_among (tells_of (λ b. (goal.HostWriter-dyn g b).writer_tells b.1) (λ b. (goal.HostReader-dyn g b).reader_tells b.1) c.args.hosts.now) (tells_of (λ b. (goal.HostWriter-dyn g b).writer_tells b.1) (λ b. (goal.HostReader-dyn g b).reader_tells b.1) c.run-end.new.hosts)))
+    let run : IsRunOf (g.H.HostEnds.tells c.args.hosts.now) (g.H.HostEnds.tells c.run-end.new.hosts) c.args.steps.now c.run-end.result = record { ok = c.run-end.ensures.ok; received = c.run-end.ensures.received; stop = c.run-end.ensures.stop; at = c.run-end.ensures.at; goes_on = c.run-end.ensures.hosts; alone = c.run-end.ensures.alone; decided = c.run-end.ensures.decided } in
+    run_readers_tapable (g.H.HostEnds.tells c.args.hosts.now) (g.H.HostEnds.tells c.run-end.new.hosts)
+    (λ run count s. c.totals_are_counts.ensures 0 program_limits (g.H.HostEnds.tells c.args.hosts.now) (g.H.HostEnds.tells c.run-end.new.hosts) run count s) (λ run count. c.states_are_sound.ensures.hosts 0 program_limits (g.H.HostEnds.tells c.args.hosts.now) (g.H.HostEnds.tells c.run-end.new.hosts) run count) (c.moments_lead_to_the_end.ensures (start_among (g.H.HostEnds.tells c.args.hosts.now) (g.H.HostEnds.tells c.run-end.new.hosts))) (c.writers_are_fed_exactly.ensures.runs (start_among (g.H.HostEnds.tells c.args.hosts.now) (g.H.HostEnds.tells c.run-end.new.hosts))) (c.writers_are_fed_exactly.ensures.stops (start_among (g.H.HostEnds.tells c.args.hosts.now) (g.H.HostEnds.tells c.run-end.new.hosts)))
     c.args.steps.now c.run-end.result c.in_ok-marks.marks.readers.items c.requires.few c.in_ok-marks.ensures.readers run (c.wanted_memory.ensures c.if-wanted_memory.false)
 
 pub returns-clause-tape : goal.returns-clause-tape
 returns-clause-tape g c =
     c.in_ok-tape.ensures
-    ∙ ap (λ steps. tape_behind steps c.in_ok-marks.marks (tells_of (λ b. (goal.HostWriter-dyn g b).writer_tells b.1) (λ b. (goal.HostReader-dyn g b).reader_tells b.1) c.run-end.new.hosts)) c.in_ok-copy.ensures
-    ∙ tape_is c.args.steps.now c.in_ok-marks.marks (tells_of (λ b. (goal.HostWriter-dyn g b).writer_tells b.1) (λ b. (goal.HostReader-dyn g b).reader_tells b.1) c.args.hosts.now) (tells_of (λ b. (goal.HostWriter-dyn g b).writer_tells b.1) (λ b. (goal.HostReader-dyn g b).reader_tells b.1) c.run-end.new.hosts) c.in_ok-marks.ensures.writers c.in_ok-marks.ensures.readers
+    ∙ ap (λ steps. tape_behind steps c.in_ok-marks.marks (g.H.HostEnds.tells c.run-end.new.hosts)) c.in_ok-copy.ensures
+    ∙ tape_is c.args.steps.now c.in_ok-marks.marks (g.H.HostEnds.tells c.args.hosts.now) (g.H.HostEnds.tells c.run-end.new.hosts) c.in_ok-marks.ensures.writers c.in_ok-marks.ensures.readers
 
 pub returns-clause-plays : goal.returns-clause-plays
 returns-clause-plays g c =
-    let run : IsRunOf (tells_of (λ b. (goal.HostWriter-dyn g b).writer_tells b.1) (λ b. (goal.HostReader-dyn g b).reader_tells b.1) c.args.hosts.now) (tells_of (λ b. (goal.HostWriter-dyn g b).writer_tells b.1) (λ b. (goal.HostReader-dyn g b).reader_tells b.1) c.run-end.new.hosts) c.args.steps.now c.run-end.result = record { ok = c.run-end.ensures.ok; received = c.run-end.ensures.received; stop = c.run-end.ensures.stop; at = c.run-end.ensures.at; goes_on = c.run-end.ensures.hosts; alone = c.run-end.ensures.alone; decided = c.run-end.ensures.decided } in
+    let run : IsRunOf (g.H.HostEnds.tells c.args.hosts.now) (g.H.HostEnds.tells c.run-end.new.hosts) c.args.steps.now c.run-end.result = record { ok = c.run-end.ensures.ok; received = c.run-end.ensures.received; stop = c.run-end.ensures.stop; at = c.run-end.ensures.at; goes_on = c.run-end.ensures.hosts; alone = c.run-end.ensures.alone; decided = c.run-end.ensures.decided } in
     subst (λ tape. IsPlayOf tape c.run-end.result) (sym (returns-clause-tape g c))
-    (run_plays c.runs_are_alike.ensures c.args.steps.now (tells_of (λ b. (goal.HostWriter-dyn g b).writer_tells b.1) (λ b. (goal.HostReader-dyn g b).reader_tells b.1) c.args.hosts.now) (tells_of (λ b. (goal.HostWriter-dyn g b).writer_tells b.1) (λ b. (goal.HostReader-dyn g b).reader_tells b.1) c.run-end.new.hosts) c.run-end.result c.requires.held run (c.wanted_memory.ensures c.if-wanted_memory.false))
+    (run_plays c.runs_are_alike.ensures c.args.steps.now (g.H.HostEnds.tells c.args.hosts.now) (g.H.HostEnds.tells c.run-end.new.hosts) c.run-end.result c.requires.held run (c.wanted_memory.ensures c.if-wanted_memory.false))
 
 pub returns-then-wanted_memory-clause-wanting : goal.returns-then-wanted_memory-clause-wanting
 returns-then-wanted_memory-clause-wanting g c = λ e.
-    let run : IsRunOf (tells_of (λ b. (goal.HostWriter-dyn g b).writer_tells b.1) (λ b. (goal.HostReader-dyn g b).reader_tells b.1) c.args.hosts.now) (tells_of (λ b. (goal.HostWriter-dyn g b).writer_tells b.1) (λ b. (goal.HostReader-dyn g b).reader_tells b.1) c.run-end.new.hosts) c.args.steps.now c.run-end.result = record { ok = c.run-end.ensures.ok; received = c.run-end.ensures.received; stop = c.run-end.ensures.stop; at = c.run-end.ensures.at; goes_on = c.run-end.ensures.hosts; alone = c.run-end.ensures.alone; decided = c.run-end.ensures.decided } in
+    let run : IsRunOf (g.H.HostEnds.tells c.args.hosts.now) (g.H.HostEnds.tells c.run-end.new.hosts) c.args.steps.now c.run-end.result = record { ok = c.run-end.ensures.ok; received = c.run-end.ensures.received; stop = c.run-end.ensures.stop; at = c.run-end.ensures.at; goes_on = c.run-end.ensures.hosts; alone = c.run-end.ensures.alone; decided = c.run-end.ensures.decided } in
     inr (c.run-end.result, run)
 
 pub returns-in_err-tape-clause-wanting : goal.returns-in_err-tape-clause-wanting
 returns-in_err-tape-clause-wanting g c = λ e.
-    let run : IsRunOf (tells_of (λ b. (goal.HostWriter-dyn g b).writer_tells b.1) (λ b. (goal.HostReader-dyn g b).reader_tells b.1) c.args.hosts.now) (tells_of (λ b. (goal.HostWriter-dyn g b).writer_tells b.1) (λ b. (goal.HostReader-dyn g b).reader_tells b.1) c.run-end.new.hosts) c.args.steps.now c.run-end.result = record { ok = c.run-end.ensures.ok; received = c.run-end.ensures.received; stop = c.run-end.ensures.stop; at = c.run-end.ensures.at; goes_on = c.run-end.ensures.hosts; alone = c.run-end.ensures.alone; decided = c.run-end.ensures.decided } in
+    let run : IsRunOf (g.H.HostEnds.tells c.args.hosts.now) (g.H.HostEnds.tells c.run-end.new.hosts) c.args.steps.now c.run-end.result = record { ok = c.run-end.ensures.ok; received = c.run-end.ensures.received; stop = c.run-end.ensures.stop; at = c.run-end.ensures.at; goes_on = c.run-end.ensures.hosts; alone = c.run-end.ensures.alone; decided = c.run-end.ensures.decided } in
     inr (c.run-end.result, run)

@@ -1,6 +1,5 @@
 use Rattle.std.proofs.Common.{◌≡◌, take}
 use Rattle.std.specs.Prelude.{All}
-use Rattle.strm_buffers.specs.AllTells.{tells_of}
 use Rattle.strm_tape.specs.Spelling.{IsWriterTape}
 use Rattle.strm_tape_runs.specs.Marks.{writer_behind}
 use Rattle.strm_tape_runs.specs.Taking.{zip_with}
@@ -8,5 +7,5 @@ use Rattle.strm_tape_runs.proofs.taking.writer_tapes.Given as goal
 
 abbrev pub invariant-loop-n : goal.invariant-loop-n
 invariant-loop-n g l =
-    let told = (tells_of (λ b. (goal.HostWriter-dyn g b).writer_tells b.1) (λ b. (goal.HostReader-dyn g b).reader_tells b.1) l.hosts).writers in
+    let told = (g.H.HostEnds.tells l.hosts).writers in
     (l.tapes.items ≡ take l.n (zip_with writer_behind l.marks told)) × All IsWriterTape l.tapes.items

@@ -1,5 +1,4 @@
 use Rattle.std.proofs.Common.{refl, arith}
-use Rattle.strm_buffers.specs.AllTells.{tells_of}
 use Rattle.strm_buffers.specs.Tells.{no_reader_tells}
 use Rattle.strm_tape.specs.Spelling.{ReaderTape}
 use Rattle.strm_tape_runs.specs.Taking.{reader_type}
@@ -8,6 +7,6 @@ use Rattle.strm_tape_tests.proofs.ends.readers_fit.Goals as goal
 
 pub loop-r-preserved : goal.loop-r-preserved
 loop-r-preserved g c =
-    let told = (tells_of (λ b. (goal.HostWriter-dyn g b).writer_tells b.1) (λ b. (goal.HostReader-dyn g b).reader_tells b.1) c.args.hosts.now).readers in
+    let told = (g.H.HostEnds.tells c.args.hosts.now).readers in
     fits_more reader_type (λ (r : ReaderTape). r.ty) told c.args.tape.now.readers c.loop-r.r no_reader_tells c.reader.result.now c.taped_reader_type-ty.result
     (omega (arith, c.loop-r-test.true, c.readers-r-end.ensures, c.readers.ensures, c.count_readers.ensures, c.if-count_readers-readers.false)) c.reader.ensures c.taped_reader_type-ty.ensures (c.if-not-reader_fits.ensures refl) c.loop-r.invariant

@@ -1,6 +1,5 @@
 use Rattle.std.proofs.Common.{refl, arith}
 use Rattle.std.proofs.lemmas.List.Elements.{All-more}
-use Rattle.strm_buffers.specs.AllTells.{tells_of}
 use Rattle.strm_buffers.specs.Tells.{no_tells}
 use Rattle.strm_tape.specs.Spelling.{WriterTape}
 use Rattle.strm_tape_runs.specs.Taking.{writer_type, HoldsNone}
@@ -9,7 +8,7 @@ use Rattle.strm_tape_tests.proofs.ends.writers_fit.Goals as goal
 
 pub loop-n-preserved : goal.loop-n-preserved
 loop-n-preserved g c =
-    let told = (tells_of (λ b. (goal.HostWriter-dyn g b).writer_tells b.1) (λ b. (goal.HostReader-dyn g b).reader_tells b.1) c.args.hosts.now).writers in (
+    let told = (g.H.HostEnds.tells c.args.hosts.now).writers in (
       fits_more writer_type (λ (w : WriterTape). w.ty) told c.args.tape.now.writers c.loop-n.n no_tells c.writer.result.now c.taped_type-ty.result
           (omega (arith, c.loop-n-test.true, c.writers-n-end.ensures, c.writers.ensures, c.count_writers.ensures, c.if-count_writers-writers.false)) c.writer.ensures c.taped_type-ty.ensures (c.if-not-writer_fits.ensures.types refl) c.loop-n.invariant.0,
       All-more HoldsNone told c.loop-n.n no_tells

@@ -1,6 +1,5 @@
 use Rattle.std.proofs.Common.{◌≡◌, map, take}
 use Rattle.std.specs.Prelude.{All}
-use Rattle.strm_buffers.specs.AllTells.{tells_of}
 use Rattle.strm_tape.specs.Spelling.{WriterTape}
 use Rattle.strm_tape_runs.specs.Taking.{writer_type, HoldsNone}
 use Rattle.strm_tape_tests.proofs.ends.writers_fit.Given as goal
@@ -8,5 +7,5 @@ use Rattle.strm_tape_tests.proofs.ends.writers_fit.Given as goal
 -- the writers so far fit
 abbrev pub invariant-loop-n : goal.invariant-loop-n
 invariant-loop-n g l =
-    let told = (tells_of (λ b. (goal.HostWriter-dyn g b).writer_tells b.1) (λ b. (goal.HostReader-dyn g b).reader_tells b.1) l.hosts).writers in
+    let told = (g.H.HostEnds.tells l.hosts).writers in
     (map writer_type (take l.n told) ≡ map (λ (w : WriterTape). w.ty) (take l.n l.tape.writers)) × All HoldsNone (take l.n told)

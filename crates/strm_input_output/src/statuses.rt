@@ -1,15 +1,17 @@
-//! The statuses of the program.
+//! The statuses of the programs. A number means the same in each that has it.
+//!
+//! Ours.
 
-/// The run was taken on tape, or the tape was played to its end.
+/// What was asked for was done, and its text is written whole.
 pub const DONE: u8 = 0;
 
-/// The words are neither `take` nor `play`.
+/// The words ask for nothing that the program does.
 pub const USAGE: u8 = 1;
 
-/// A line is not in the grammar.
+/// A line is not in the program's grammar.
 pub const BAD_LINE: u8 = 2;
 
-/// The script has too many bytes or lines, or the tape too many bytes.
+/// The input is over the program's limit.
 pub const TOO_LONG: u8 = 3;
 
 /// The source failed.
@@ -18,13 +20,13 @@ pub const READ_FAULT: u8 = 4;
 /// The sink failed, or took nothing.
 pub const WRITE_FAULT: u8 = 5;
 
-/// A host end that was played failed.
+/// A host end failed.
 pub const HOST_FAILED: u8 = 6;
 
-/// A host end that was played broke its rules.
+/// A host end broke its rules.
 pub const HOST_BROKE: u8 = 7;
 
-/// A step that was played asked for an item that is no Unicode scalar value.
+/// A step asked for an item that is no Unicode scalar value.
 pub const BAD_ITEM: u8 = 8;
 
 /// An allocation was refused. Nothing is written.

@@ -1,8 +1,8 @@
 use Rattle.std.proofs.Common.{length, sym, ap, ◌∙◌}
 use Rattle.std.proofs.lemmas.Iterator.{items_from_collect}
 use Rattle.std.proofs.lemmas.Iterator.Adapters.{YieldsList-from_vec}
-use Rattle.strm.proofs.WordLemmas.{left_behind}
-use Rattle.strm.proofs.words_behind.Goals as goal
+use Rattle.strm_input_output.proofs.WordLemmas.{left_behind}
+use Rattle.strm_input_output.proofs.words.words_behind.Goals as goal
 
 pub returns : goal.returns
 returns c =
