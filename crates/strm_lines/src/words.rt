@@ -227,9 +227,23 @@ fn payload(word: &[u8]) -> Option<Payload>
     }
 }
 
-// The type of a stream or future: a kind, a colon and a payload.
-#[tactic(auto, unfolding(crate::specs::Reading::type_read))]
+// The type that a word spells.
+#[inline(always)]
 pub(crate) fn transmit_type(word: &[u8]) -> Option<TransmitIndex>
+    ensures { result ≡ type_read word.now }
+{
+    // Most lines name this type.
+    if let Some(rest) = behind(word, b"stream:u8") {
+        if rest.is_empty() {
+            return Some(TransmitIndex::Stream(Payload::One(Scalar::U8)));
+        }
+    }
+    other_type(word)
+}
+
+// The same of any type of a stream or future: a kind, a colon and a payload.
+#[tactic(auto, unfolding(crate::specs::Reading::type_read))]
+fn other_type(word: &[u8]) -> Option<TransmitIndex>
     ensures { result ≡ type_read word.now }
 {
     if let Some(rest) = behind(word, b"stream:") {
@@ -260,7 +274,7 @@ fn leading_other_type(line: &[u8]) -> Option<(TransmitIndex, &[u8])>
     ensures { option_map (λ p. (p.0, p.1.now)) result ≡ leading type_read line.now }
 {
     let (word, rest) = cut(b' ', line)?;
-    let ty = transmit_type(word)?;
+    let ty = other_type(word)?;
     Some((ty, rest))
 }
 

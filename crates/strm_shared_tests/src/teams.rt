@@ -12,8 +12,9 @@ use strm_machine::replies::Reply;
 use strm_machine::steps::Step;
 use strm_shared::{Seat, SharedStore};
 
-/// So many calls by each thread that works.
-pub(crate) const CALLS: u32 = 100_000;
+/// So many calls by each thread that works. The turn goes from thread to thread at many of them, so more would not
+/// end within a test's time where other work has the processors.
+pub(crate) const CALLS: u32 = 10_000;
 
 /// What a thread does, by its number in the team.
 #[derive(Clone, Copy)]

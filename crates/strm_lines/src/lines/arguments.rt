@@ -38,6 +38,7 @@ pub(crate) fn three_numbers(rest: &[u8]) -> Option<(u32, u32, u32)>
     Some((first, second, third))
 }
 
+#[inline(always)]
 #[tactic(auto, unfolding(crate::specs::Reading::number_and_type))]
 pub(crate) fn number_and_type(rest: &[u8]) -> Option<(u32, TransmitIndex)>
     ensures { result ≡ number_and_type rest.now }
@@ -47,6 +48,7 @@ pub(crate) fn number_and_type(rest: &[u8]) -> Option<(u32, TransmitIndex)>
     Some((number, ty))
 }
 
+#[inline(always)]
 #[tactic(auto, unfolding(crate::specs::Reading::two_numbers_and_type))]
 pub(crate) fn two_numbers_and_type(rest: &[u8]) -> Option<(u32, u32, TransmitIndex)>
     ensures { result ≡ two_numbers_and_type rest.now }
