@@ -1,7 +1,7 @@
 -- What the steps of a turn leave of streams: owners, operations that come out plainly, and ends that are told
 -- Dropped only where the other one is gone.
 use Rattle.std.proofs.Common.{◌≡◌, ◌≢◌, ℕ, ◌-◌, ◌<◌, ◌≤◌, Bool, true, false, cond, min, take, drop, List, length, get_or, set, Option, Some, None, refl, sym, ap, ◌∙◌, subst, inl, inr, arith}
-use Rattle.std.specs.Prelude.{◌&&◌, not}
+use Rattle.std.specs.Prelude.{◌&&◌, ◌||◌, not}
 use Rattle.std.proofs.lemmas.Bool.{cases_eq, cond_both, ne_eqb, ltb-true}
 use Rattle.std.proofs.lemmas.List.{length-set, set-get_or, get_or-set_same, get_or-set_other}
 use Rattle.std.specs.Option.{option_map}
@@ -11,7 +11,7 @@ use Rattle.strm_codes.specs.declared.codes.StreamResult.TheVariants.{Completed}
 use Rattle.strm_codes.specs.declared.codes.TransmitKind.{TransmitKind}
 use Rattle.strm_codes.specs.declared.codes.TransmitKind.TheVariants.{Stream as AStream, Future}
 use Rattle.strm_codes.specs.Codes.{completed_code}
-use Rattle.strm_events.specs.Reports.{is_dropped, report_of, operation_report, idle_report, outcome_code, left_pending}
+use Rattle.strm_events.specs.Reports.{is_dropped, report_of, operation_report, idle_report, outcome_code, left_pending, told_after}
 use Rattle.strm_machine.specs.State.{State, Guest, no_stream, memory_in, stream_at, is_gone}
 use Rattle.strm_machine.specs.Sides.{opposite, end_of, with_end, write_of, read_of}
 use Rattle.strm_machine.specs.Meetings.{meeting_of, begun, advanced}
@@ -39,16 +39,24 @@ use Rattle.strm_chain.proofs.NamingLemmas.{IsPerformed}
 
 -- ## A stream in the place of another
 
--- what is kept of a stream: who has its ends, and that its operations come out with their items
-pub record StaysOwned (old new : Stream) : Type 0 where
+-- what a step on one end of a stream keeps of it: who has its ends, that its operations come out with their
+-- items, and whether the other end was told
+pub record StaysOwned (side : Side) (old new : Stream) : Type 0 where
   pub owners : OwnersStay old new
   pub plain : ArePlain old → ArePlain new
+  pub told : (end_of (opposite side) new).told ≡ (end_of (opposite side) old).told
 
--- what a step keeps of all streams
-pub record Steady (old new : State) : Type 0 where
+-- whether an end was told that the other one is gone
+abbrev pub told_at : State → ℕ → Side → Bool
+told_at state k on = (end_of on (stream_at state k)).told
+
+-- what a step on an end of stream s keeps of all streams
+pub record Steady (s : ℕ) (side : Side) (old new : State) : Type 0 where
   pub many : length new.streams ≡ length old.streams
-  pub owner : (s : ℕ) (side : Side) → owner_in new.streams s side ≡ owner_in old.streams s side
-  pub plain : (s : ℕ) → ArePlain (stream_at old s) → ArePlain (stream_at new s)
+  pub owner : (k : ℕ) (on : Side) → owner_in new.streams k on ≡ owner_in old.streams k on
+  pub plain : (k : ℕ) → ArePlain (stream_at old k) → ArePlain (stream_at new k)
+  -- an end that the step is not on was told as before
+  pub told : (k : ℕ) (on : Side) → (k ≡ s → on ≢ side) → told_at new k on ≡ told_at old k on
 
 plain-set : (streams : List Stream) (s : ℕ) (x : Stream) (k : ℕ) → s < length streams → (ArePlain (get_or streams s no_stream) → ArePlain x) → ArePlain (get_or streams k no_stream) → ArePlain (get_or (set streams s x) k no_stream)
 plain-set streams s x k l h p =
@@ -58,17 +66,36 @@ plain-set streams s x k l h p =
       | inr ne ↦ subst ArePlain (sym (get_or-set_other streams s k x no_stream ne)) p
     ]
 
-steady_set : (old new : State) (s : ℕ) (x : Stream) → new.streams ≡ set old.streams s x → s < length old.streams → StaysOwned (stream_at old s) x → Steady old new
-steady_set old new s x e l h = record {
+other_side : (on side : Side) → on ≢ side → on ≡ opposite side
+other_side Writing Writing ne = absurd (ne refl)
+other_side Writing Reading ne = refl
+other_side Reading Writing ne = refl
+other_side Reading Reading ne = absurd (ne refl)
+
+-- what was told to an end, where a stream stands in the place of another
+told-set : (streams : List Stream) (s : ℕ) (x : Stream) (k : ℕ) (on : Side) → s < length streams → (k ≡ s → (end_of on x).told ≡ (end_of on (get_or streams s no_stream)).told) → (end_of on (get_or (set streams s x) k no_stream)).told ≡ (end_of on (get_or streams k no_stream)).told
+told-set streams s x k on l h =
+    elim (cases_eq k s) [
+      | inl e ↦ subst (λ n. (end_of on (get_or (set streams s x) n no_stream)).told ≡ (end_of on (get_or streams n no_stream)).told) (sym e)
+          (ap (λ y. (end_of on y).told) (get_or-set_same streams s x no_stream l) ∙ h e)
+      | inr ne ↦ ap (λ y. (end_of on y).told) (get_or-set_other streams s k x no_stream ne)
+    ]
+
+steady_set : (old new : State) (s : ℕ) (side : Side) (x : Stream) → new.streams ≡ set old.streams s x → s < length old.streams → StaysOwned side (stream_at old s) x → Steady s side old new
+steady_set old new s side x e l h = record {
   many = ap length e ∙ length-set old.streams s x;
-  owner = λ k side. ap (λ xs. owner_in xs k side) e ∙ owner-set_stays old.streams s x k side h.owners;
+  owner = λ k on. ap (λ xs. owner_in xs k on) e ∙ owner-set_stays old.streams s x k on h.owners;
   plain = λ k p. subst (λ xs. ArePlain (get_or xs k no_stream)) (sym e) (plain-set old.streams s x k l h.plain p);
+  told = λ k on other.
+      ap (λ xs. (end_of on (get_or xs k no_stream)).told) e
+      ∙ told-set old.streams s x k on l
+      (λ at. subst (λ o. (end_of o x).told ≡ (end_of o (stream_at old s)).told) (sym (other_side on side (other at))) h.told);
 }
 
 -- ## A read or write
 
-owned_same : (stream : Stream) → StaysOwned stream stream
-owned_same stream = record { owners = record { writer = refl; reader = refl }; plain = λ p. p }
+owned_same : (side : Side) (stream : Stream) → StaysOwned side stream stream
+owned_same side stream = record { owners = record { writer = refl; reader = refl }; plain = λ p. p; told = refl }
 
 -- one that is called with some items, and one that some were moved of
 begun_items : (guest address n : ℕ) → 1 ≤ n → HasItems (begun guest address n)
@@ -87,46 +114,95 @@ advanced_items payload o n some = record {
   moved = λ e. omega (arith, some);
 }
 
-moves-owned : (side : Side) (guests : List Guest) (stream : Stream) (mine theirs : Operation) (n : ℕ) (after : Option (List Guest)) → 1 ≤ n → StaysOwned stream (moves side guests stream mine theirs n after).stream
-moves-owned side guests stream mine theirs n None some = owned_same stream
-moves-owned Writing guests stream mine theirs n (Some after) some = record { owners = record { writer = refl; reader = refl }; plain = λ p. (p.0, advanced_items stream.payload theirs n some) }
-moves-owned Reading guests stream mine theirs n (Some after) some = record { owners = record { writer = refl; reader = refl }; plain = λ p. (advanced_items stream.payload theirs n some, p.1) }
+moves-owned : (side : Side) (guests : List Guest) (stream : Stream) (mine theirs : Operation) (n : ℕ) (after : Option (List Guest)) → 1 ≤ n → StaysOwned side stream (moves side guests stream mine theirs n after).stream
+moves-owned side guests stream mine theirs n None some = owned_same side stream
+moves-owned Writing guests stream mine theirs n (Some after) some = record { owners = record { writer = refl; reader = refl }; plain = λ p. (p.0, advanced_items stream.payload theirs n some); told = refl }
+moves-owned Reading guests stream mine theirs n (Some after) some = record { owners = record { writer = refl; reader = refl }; plain = λ p. (advanced_items stream.payload theirs n some, p.1); told = refl }
 
-waits-owned : (side : Side) (stream : Stream) (mine : Operation) → HasItems mine → StaysOwned stream (with_end side stream (record (end_of side stream) { operation = Some mine }))
-waits-owned Writing stream mine c = record { owners = record { writer = refl; reader = refl }; plain = λ p. (c, p.1) }
-waits-owned Reading stream mine c = record { owners = record { writer = refl; reader = refl }; plain = λ p. (p.0, c) }
+waits-owned : (side : Side) (stream : Stream) (mine : Operation) → HasItems mine → StaysOwned side stream (with_end side stream (record (end_of side stream) { operation = Some mine }))
+waits-owned Writing stream mine c = record { owners = record { writer = refl; reader = refl }; plain = λ p. (c, p.1); told = refl }
+waits-owned Reading stream mine c = record { owners = record { writer = refl; reader = refl }; plain = λ p. (p.0, c); told = refl }
 
 -- where both have items, both complete
 meeting_some : (write read : ℕ) → 1 ≤ write → 1 ≤ read → meeting_of write read ≡ BothComplete
 meeting_some write read a b = rw (ne_eqb write 0 (λ e. omega (arith, a, e)), ne_eqb read 0 (λ e. omega (arith, b, e))) refl
 
-both_meet : (side : Side) (mine theirs : Operation) → 1 ≤ mine.left → 1 ≤ theirs.left → meeting_of (write_of side mine theirs).left (read_of side mine theirs).left ≡ BothComplete
+pub both_meet : (side : Side) (mine theirs : Operation) → 1 ≤ mine.left → 1 ≤ theirs.left → meeting_of (write_of side mine theirs).left (read_of side mine theirs).left ≡ BothComplete
 both_meet Writing mine theirs a b = meeting_some mine.left theirs.left a b
 both_meet Reading mine theirs a b = meeting_some theirs.left mine.left b a
 
-finds-owned : (side : Side) (guests : List Guest) (stream : Stream) (mine : Operation) (o : Option Operation) → IsPlain o → 1 ≤ mine.left → HasItems mine → StaysOwned stream (finds side guests stream mine o).stream
+finds-owned : (side : Side) (guests : List Guest) (stream : Stream) (mine : Operation) (o : Option Operation) → IsPlain o → 1 ≤ mine.left → HasItems mine → StaysOwned side stream (finds side guests stream mine o).stream
 finds-owned side guests stream mine None f l c = waits-owned side stream mine c
 finds-owned side guests stream mine (Some theirs) f l c =
-    cond_both theirs.is_open _ _ (λ (t : Turn). StaysOwned stream t.stream)
-    (λ e. subst (λ m. StaysOwned stream (rendezvous_by m side guests stream mine theirs).stream) (sym (both_meet side mine theirs l (f.left e)))
+    cond_both theirs.is_open _ _ (λ (t : Turn). StaysOwned side stream t.stream)
+    (λ e. subst (λ m. StaysOwned side stream (rendezvous_by m side guests stream mine theirs).stream) (sym (both_meet side mine theirs l (f.left e)))
     (moves-owned side guests stream mine theirs (min mine.left theirs.left) _ (omega (arith, l, f.left e))))
     (λ e. waits-owned side stream mine c)
 
-learns-owned : (side : Side) (stream : Stream) → StaysOwned stream (with_end side stream (record (end_of side stream) { told = true }))
-learns-owned Writing stream = record { owners = record { writer = refl; reader = refl }; plain = λ p. p }
-learns-owned Reading stream = record { owners = record { writer = refl; reader = refl }; plain = λ p. p }
+learns-owned : (side : Side) (stream : Stream) → StaysOwned side stream (with_end side stream (record (end_of side stream) { told = true }))
+learns-owned Writing stream = record { owners = record { writer = refl; reader = refl }; plain = λ p. p; told = refl }
+learns-owned Reading stream = record { owners = record { writer = refl; reader = refl }; plain = λ p. p; told = refl }
 
 -- the operation of one end
 pub plain_on : (side : Side) (stream : Stream) → ArePlain stream → IsPlain (end_of side stream).operation
 plain_on Writing stream p = p.0
 plain_on Reading stream p = p.1
 
-turn-owned : (side : Side) (guests : List Guest) (stream : Stream) (mine : Operation) → ArePlain stream → 1 ≤ mine.left → HasItems mine → StaysOwned stream (turn side guests stream mine).stream
+turn-owned : (side : Side) (guests : List Guest) (stream : Stream) (mine : Operation) → ArePlain stream → 1 ≤ mine.left → HasItems mine → StaysOwned side stream (turn side guests stream mine).stream
 unfolding turn
 turn-owned side guests stream mine p l c =
-    cond_both (is_gone (end_of (opposite side) stream).owner) _ _ (λ (t : Turn). StaysOwned stream t.stream)
+    cond_both (is_gone (end_of (opposite side) stream).owner) _ _ (λ (t : Turn). StaysOwned side stream t.stream)
     (λ e. learns-owned side stream)
     (λ e. finds-owned side guests stream mine (end_of (opposite side) stream).operation (plain_on (opposite side) stream p) l c)
+
+-- ## An end is told where its code is Dropped, and else as it was
+
+waits-told : (side : Side) (stream : Stream) (mine : Operation) → (end_of side (with_end side stream (record (end_of side stream) { operation = Some mine }))).told ≡ (end_of side stream).told
+waits-told Writing stream mine = refl
+waits-told Reading stream mine = refl
+
+moves-told : (side : Side) (guests : List Guest) (stream : Stream) (mine theirs : Operation) (n : ℕ) (after : Option (List Guest)) → (end_of side (moves side guests stream mine theirs n after).stream).told ≡ (end_of side stream).told
+moves-told side guests stream mine theirs n None = refl
+moves-told Writing guests stream mine theirs n (Some after) = refl
+moves-told Reading guests stream mine theirs n (Some after) = refl
+
+alone-told : (who side : Side) (guests : List Guest) (stream : Stream) (mine theirs : Operation) → (end_of side (completes_alone who side guests stream mine theirs).stream).told ≡ (end_of side stream).told
+alone-told Writing Writing guests stream mine theirs = refl
+alone-told Reading Reading guests stream mine theirs = refl
+alone-told Writing Reading guests stream mine theirs = refl
+alone-told Reading Writing guests stream mine theirs = refl
+
+meeting-told : (m : Meeting) (side : Side) (guests : List Guest) (stream : Stream) (mine theirs : Operation) → (end_of side (rendezvous_by m side guests stream mine theirs).stream).told ≡ (end_of side stream).told
+meeting-told BothComplete side guests stream mine theirs = moves-told side guests stream mine theirs _ _
+meeting-told WriteCompletes side guests stream mine theirs = alone-told Writing side guests stream mine theirs
+meeting-told ReadCompletes side guests stream mine theirs = alone-told Reading side guests stream mine theirs
+
+finds-told : (side : Side) (guests : List Guest) (stream : Stream) (mine : Operation) (o : Option Operation) → (end_of side (finds side guests stream mine o).stream).told ≡ (end_of side stream).told
+finds-told side guests stream mine None = waits-told side stream mine
+finds-told side guests stream mine (Some theirs) =
+    cond_both theirs.is_open _ _ (λ (t : Turn). (end_of side t.stream).told ≡ (end_of side stream).told)
+    (λ e. meeting-told (meeting_of (write_of side mine theirs).left (read_of side mine theirs).left) side guests stream mine theirs)
+    (λ e. waits-told side stream mine)
+
+-- the code of a turn is another than Dropped, and so the end was told as before
+abbrev TellsOther : Side → Stream → Turn → Type 0
+TellsOther side stream t = (code : ReturnCode) → t.code ≡ Some code → is_dropped code ≡ false → (end_of side t.stream).told ≡ (end_of side stream).told
+
+turn-told : (side : Side) (guests : List Guest) (stream : Stream) (mine : Operation) → TellsOther side stream (turn side guests stream mine)
+unfolding turn
+turn-told side guests stream mine =
+    cond_both (is_gone (end_of (opposite side) stream).owner) _ _ (TellsOther side stream)
+    (λ gone code e d. absurd (let same : codes.Dropped 0 ≡ code = cc in let wrong : true ≡ false = ap is_dropped same ∙ d in cc))
+    (λ e code f d. finds-told side guests stream mine (end_of (opposite side) stream).operation)
+
+or_false : (b : Bool) → b || false ≡ b
+or_false true = refl
+or_false false = refl
+
+delivered-told : (side : Side) (stream : Stream) (code : ReturnCode) → report_on side stream ≡ Some code → is_dropped code ≡ false → (end_of side (delivered side stream)).told ≡ (end_of side stream).told
+unfolding delivered
+delivered-told Writing stream code e d = ap (λ o. told_after o stream.writer.told) e ∙ ap (λ b. stream.writer.told || b) d ∙ or_false stream.writer.told
+delivered-told Reading stream code e d = ap (λ o. told_after o stream.reader.told) e ∙ ap (λ b. stream.reader.told || b) d ∙ or_false stream.reader.told
 
 -- ## What completes has moved items
 
@@ -255,7 +331,7 @@ report-only stream k p c e d =
 
 -- ## Whole steps
 
-written_is : (state next : State) (s : ℕ) (t : Turn) (o : Option ReturnCode) (code : ReturnCode) → written_back state s t o ≡ goes (replies.Code code) next → (o ≡ Some code) × (next ≡ written state s t)
+pub written_is : (state next : State) (s : ℕ) (t : Turn) (o : Option ReturnCode) (code : ReturnCode) → written_back state s t o ≡ goes (replies.Code code) next → (o ≡ Some code) × (next ≡ written state s t)
 written_is state next s t None code e = absurd (let wrong = ap (λ (r : Reaction). r.reply) e in cc)
 written_is state next s t (Some x) code e =
     let reply : replies.Code x ≡ replies.Code code = ap (λ (r : Reaction). r.reply) e in
@@ -270,7 +346,8 @@ pub record IsOfSome (state : State) (s count : ℕ) : Type 0 where
 
 -- a read or write that answers a code
 pub record Operated (state next : State) (s : ℕ) (side : Side) (code : ReturnCode) : Type 0 where
-  pub steady : Steady state next
+  pub steady : Steady s side state next
+  pub own : is_dropped code ≡ false → told_at next s side ≡ told_at state s side
   pub only : is_dropped code ≡ true → is_gone (end_of (opposite side) (stream_at state s)).owner ≡ true
   pub some : (n : ℕ) → code ≡ codes.Completed n → 1 ≤ n
 
@@ -283,8 +360,13 @@ module _ (state next : State) (s : ℕ) (side : Side) (end : NamedEnd) (address 
       let t = turn side state.guests (stream_at state n) mine in
       let w = written_is state next n t t.code code p.does in
       let y : IsOfSome state n (items_asked end.ty count) = subst (λ k. IsOfSome state k (items_asked end.ty count)) (sym e) z in
+      let there : n < length state.streams = subst (λ k. k < length state.streams) (sym e) l in
+      let is : next.streams ≡ set state.streams n t.stream = ap (λ (x : State). x.streams) w.1 in
       record {
-        steady = steady_set state next n t.stream (ap (λ (x : State). x.streams) w.1) (subst (λ k. k < length state.streams) (sym e) l) (turn-owned side state.guests (stream_at state n) mine y.plain y.some (begun_items end.guest address (items_asked end.ty count) y.some));
+        own = λ d. subst (λ k. told_at next k side ≡ told_at state k side) e
+            (ap (λ xs. (end_of side (get_or xs n no_stream)).told) is ∙ ap (λ y. (end_of side y).told) (get_or-set_same state.streams n t.stream no_stream there)
+            ∙ turn-told side state.guests (stream_at state n) mine code w.0 d);
+        steady = subst (λ k. Steady k side state next) e (steady_set state next n side t.stream is there (turn-owned side state.guests (stream_at state n) mine y.plain y.some (begun_items end.guest address (items_asked end.ty count) y.some)));
         only = λ d. subst (λ k. is_gone (end_of (opposite side) (stream_at state k)).owner ≡ true) e (turn-only side state.guests (stream_at state n) mine code w.0 d);
         some = λ i c. turn-some side state.guests (stream_at state n) mine y.kind y.plain y.some i (w.0 ∙ ap Some c);
       }
@@ -293,14 +375,15 @@ left_plain : (code : Option ReturnCode) (o : Option Operation) → IsPlain o →
 left_plain None o p = p
 left_plain (Some code) o p = tt
 
-delivered-owned : (side : Side) (stream : Stream) → StaysOwned stream (delivered side stream)
+delivered-owned : (side : Side) (stream : Stream) → StaysOwned side stream (delivered side stream)
 unfolding delivered
-delivered-owned Writing stream = record { owners = record { writer = refl; reader = refl }; plain = λ p. (left_plain (report_on Writing stream) stream.writer.operation p.0, p.1) }
-delivered-owned Reading stream = record { owners = record { writer = refl; reader = refl }; plain = λ p. (p.0, left_plain (report_on Reading stream) stream.reader.operation p.1) }
+delivered-owned Writing stream = record { owners = record { writer = refl; reader = refl }; plain = λ p. (left_plain (report_on Writing stream) stream.writer.operation p.0, p.1); told = refl }
+delivered-owned Reading stream = record { owners = record { writer = refl; reader = refl }; plain = λ p. (p.0, left_plain (report_on Reading stream) stream.reader.operation p.1); told = refl }
 
 -- an event that answers this
 pub record Told (state next : State) (s : ℕ) (side : Side) (code : Option ReturnCode) : Type 0 where
-  pub steady : Steady state next
+  pub steady : Steady s side state next
+  pub own : (told : ReturnCode) → code ≡ Some told → is_dropped told ≡ false → told_at next s side ≡ told_at state s side
   pub reports : report_on side (stream_at state s) ≡ code
   pub guests : next.guests ≡ state.guests
 
@@ -313,9 +396,13 @@ module _ (state next : State) (g handle s : ℕ) (side : Side) (code : Option Re
       let reply : replies.Event (report_on side (stream_at state s)) ≡ replies.Event code = ap (λ (r : Reaction). r.reply) does in
       let next_is : next ≡ told state s side = sym (ap (λ (r : Reaction). r.state) does) in
       let is : next.streams ≡ set state.streams s (delivered side (stream_at state s)) = ap (λ (x : State). x.streams) next_is in
+      let reports : report_on side (stream_at state s) ≡ code = cc in
       record {
-        steady = steady_set state next s (delivered side (stream_at state s)) is l (delivered-owned side (stream_at state s));
-        reports = cc;
+        steady = steady_set state next s side (delivered side (stream_at state s)) is l (delivered-owned side (stream_at state s));
+        own = λ told e d.
+            ap (λ xs. (end_of side (get_or xs s no_stream)).told) is ∙ ap (λ y. (end_of side y).told) (get_or-set_same state.streams s (delivered side (stream_at state s)) no_stream l)
+            ∙ delivered-told side (stream_at state s) told (reports ∙ e) d;
+        reports = reports;
         guests = ap (λ (x : State). x.guests) next_is;
       }
 
@@ -343,6 +430,11 @@ pub record Forsaken (state next : State) (s : ℕ) : Type 0 where
   pub others : (k : ℕ) → k ≢ s → owner_in next.streams k Writing ≡ owner_in state.streams k Writing
   pub gone : owner_in next.streams s Writing ≡ Gone
   pub plain : (k : ℕ) → ArePlain (stream_at state k) → ArePlain (stream_at next k)
+  pub told : (k : ℕ) (on : Side) → told_at next k on ≡ told_at state k on
+
+same_told : (stream : Stream) (on : Side) → (end_of on (with_end Writing stream (record stream.writer { owner = Gone }))).told ≡ (end_of on stream).told
+same_told stream Writing = refl
+same_told stream Reading = refl
 
 pub drop_after : (state next : State) (s : ℕ) (end : NamedEnd) → IsPerformed state (OnEnd Writing end Drop) replies.Done next → stream_named (named state end) ≡ s → s < length state.streams → Forsaken state next s
 unfolding performs dropped
@@ -356,6 +448,7 @@ drop_after state next s end p e l =
       others = λ k ne. ap (λ xs. owner_in xs k Writing) is ∙ owner-set_other state.streams s x k Writing ne;
       gone = ap (λ xs. owner_in xs s Writing) is ∙ ap (λ (y : Stream). y.writer.owner) (get_or-set_same state.streams s x no_stream l);
       plain = λ k q. subst (λ xs. ArePlain (get_or xs k no_stream)) (sym is) (plain-set state.streams s x k l (λ y. y) q);
+      told = λ k on. ap (λ xs. (end_of on (get_or xs k no_stream)).told) is ∙ told-set state.streams s x k on l (λ at. same_told (stream_at state s) on);
     }
 
 -- bytes put into a memory, and bytes shown

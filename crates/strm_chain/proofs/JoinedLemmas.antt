@@ -9,6 +9,7 @@ use Rattle.strm_machine.specs.Soundness.{type_with, type_of}
 use Rattle.strm_machine.specs.Reactions.{Reaction}
 use Rattle.strm_machine.specs.Moments.{Moment, is_named}
 use Rattle.strm_machine.specs.Untouched.{LiesApart, Region, put_by}
+use Rattle.strm_machine.specs.Sides.{end_of}
 use Rattle.strm_machine.specs.declared.streams.Side.{Side}
 use Rattle.strm_machine.specs.declared.streams.Side.TheVariants.{Writing, Reading}
 use Rattle.strm_machine.specs.declared.streams.Stream.{Stream}
@@ -17,12 +18,13 @@ use Rattle.strm_machine.specs.declared.replies.Reply.{Reply}
 use Rattle.strm_machine.proofs.StreamSteps.{StreamsStay, reaction_streams}
 use Rattle.strm_machine.proofs.TableLemmas.{owner_in}
 use Rattle.strm_chain.specs.declared.workers.Worker.{Worker}
+use Rattle.strm_chain.specs.declared.workers.Doing.TheVariants.{Reading as Reads}
 use Rattle.strm_chain.specs.Playing.{Play, Adds, bytes_type}
 use Rattle.strm_chain.specs.Flowing.{got_on}
 use Rattle.strm_chain.specs.Keeping.{worker_at, ArePlain, WritesOn, ReadsFrom, IsSink, IsJoined}
 use Rattle.strm_chain.proofs.MomentLemmas.{moment_at, IsSeen}
 use Rattle.strm_chain.proofs.RegionLemmas.{ReceivesLow}
-use Rattle.strm_chain.proofs.AfterLemmas.{Steady, Forsaken}
+use Rattle.strm_chain.proofs.AfterLemmas.{told_at, Steady, Forsaken}
 use Rattle.strm_chain.proofs.StayLemmas.{low_unless, got_none, writes_stay, writes_idle, reads_stay}
 use Rattle.strm_chain.proofs.NamingLemmas.{NamesOnly, unnamed_stream, unnamed_reader, unnamed_writer}
 
@@ -91,7 +93,7 @@ module _ (p q : Play) (ws : List Worker) (step : Step) (reply : Reply) (a : Adds
   there s l = omega (arith, l, j.guests)
 
   -- a step that puts no bytes into a memory, names one read end, and receives low on its stream
-  pub reader_passes : (s : ℕ) → Steady p.state q.state → ((r : Region) → LiesApart r (put_by (act_of step) reply)) → NamesOnly m s Reading → ReceivesLow m s → Passes (length ws) p q Each (But s)
+  pub reader_passes : (s : ℕ) → Steady s Reading p.state q.state → ((r : Region) → LiesApart r (put_by (act_of step) reply)) → NamesOnly m s Reading → ReceivesLow m s → Passes (length ws) p q Each (But s)
   reader_passes s steady put only here =
       let low : (t : ℕ) → ReceivesLow m t = λ t. elim (cases_eq t s) [
         | inl e ↦ subst (ReceivesLow m) (sym e) here
@@ -100,21 +102,21 @@ module _ (p q : Play) (ws : List Worker) (step : Step) (reply : Reply) (a : Adds
       record {
         frame = frame_stays (length ws) p q step reply a seen steady.many (frame_of p ws j);
         writes = λ k w l _ h. writes_stay m k w _ _ (j.joins k l).typed (seen.change k Writing) (unnamed_writer m s k only) seen.aside (there k (omega (arith, l))) (λ c. put _) low
-            (steady.owner k Writing) (seen.got k) h;
+            (steady.owner k Writing) (steady.told k Writing (λ e f. cc)) (seen.got k) h;
         reads = λ k w l ne h. reads_stay m k w _ _ (j.joins k l).typed (seen.change k Reading) (unnamed_stream m s Reading k Reading only ne) seen.aside (there (k + 1) (omega (arith, l))) (λ c _. put _) low
-            (steady.owner k Reading) (λ g. ap is_gone (steady.owner k Writing) ∙ g) (steady.plain k) (seen.got k) h;
+            (steady.owner k Reading) (λ g. ap is_gone (steady.owner k Writing) ∙ g) (steady.plain k) (steady.told k Reading (λ e. absurd (ne e))) (seen.got k) h;
       }
 
   -- a step that puts no bytes into a memory, and names one write end
-  pub writer_passes : (s : ℕ) → Steady p.state q.state → ((r : Region) → LiesApart r (put_by (act_of step) reply)) → NamesOnly m s Writing → Passes (length ws) p q (But s) Each
+  pub writer_passes : (s : ℕ) → Steady s Writing p.state q.state → ((r : Region) → LiesApart r (put_by (act_of step) reply)) → NamesOnly m s Writing → Passes (length ws) p q (But s) Each
   writer_passes s steady put only =
       let low : (t : ℕ) → ReceivesLow m t = λ t. low_unless p ws m t refl j (seen.change t Reading) (unnamed_reader m s t only) in
       record {
         frame = frame_stays (length ws) p q step reply a seen steady.many (frame_of p ws j);
         writes = λ k w l ne h. writes_stay m k w _ _ (j.joins k l).typed (seen.change k Writing) (unnamed_stream m s Writing k Writing only ne) seen.aside (there k (omega (arith, l))) (λ c. put _) low
-            (steady.owner k Writing) (seen.got k) h;
+            (steady.owner k Writing) (steady.told k Writing (λ e. absurd (ne e))) (seen.got k) h;
         reads = λ k w l _ h. reads_stay m k w _ _ (j.joins k l).typed (seen.change k Reading) (unnamed_reader m s k only) seen.aside (there (k + 1) (omega (arith, l))) (λ c _. put _) low
-            (steady.owner k Reading) (λ g. ap is_gone (steady.owner k Writing) ∙ g) (steady.plain k) (seen.got k) h;
+            (steady.owner k Reading) (λ g. ap is_gone (steady.owner k Writing) ∙ g) (steady.plain k) (steady.told k Reading (λ e f. cc)) (seen.got k) h;
       }
 
   -- the drop of a write end
@@ -131,9 +133,9 @@ module _ (p q : Play) (ws : List Worker) (step : Step) (reply : Reply) (a : Adds
       record {
         frame = frame_stays (length ws) p q step reply a seen f.many (frame_of p ws j);
         writes = λ k w l ne h. writes_stay m k w _ _ (j.joins k l).typed (seen.change k Writing) (unnamed_stream m s Writing k Writing only ne) seen.aside (there k (omega (arith, l))) (λ c. put _) low
-            (f.others k ne) (seen.got k) h;
+            (f.others k ne) (f.told k Writing) (seen.got k) h;
         reads = λ k w l _ h. reads_stay m k w _ _ (j.joins k l).typed (seen.change k Reading) (unnamed_reader m s k only) seen.aside (there (k + 1) (omega (arith, l))) (λ c _. put _) low
-            (f.readers k) (gone_stays s k f) (f.plain k) (seen.got k) h;
+            (f.readers k) (gone_stays s k f) (f.plain k) (f.told k Reading) (seen.got k) h;
       }
 
   -- a poke of guest g from byte 64 of its memory on, where it has no write that waits
@@ -141,16 +143,17 @@ module _ (p q : Play) (ws : List Worker) (step : Step) (reply : Reply) (a : Adds
     pub poke_passes : ((k : ℕ) (side : Side) → is_named k side m ≡ false) → ((r : Region) → (r.place.guest ≡ g → 0 < r.size → r.place.address + r.size ≤ 64) → LiesApart r (put_by (act_of step) reply)) → (stream_at p.state g).writer.operation ≡ None → Passes (length ws) p q Each Each
     poke_passes none put idle =
         let low : (t : ℕ) → ReceivesLow m t = λ t. low_unless p ws m t refl j (seen.change t Reading) (none t Reading) in
+        let told : (k : ℕ) (side : Side) → told_at q.state k side ≡ told_at p.state k side = λ k side. ap (λ xs. (end_of side (get_or xs k no_stream)).told) same in
         let owner : (k : ℕ) (side : Side) → owner_in q.state.streams k side ≡ owner_in p.state.streams k side = λ k side. ap (λ xs. owner_in xs k side) same in
         record {
           frame = frame_stays (length ws) p q step reply a seen (ap length same) (frame_of p ws j);
           writes = λ k w l _ h. elim (cases_eq k g) [
-            | inl e ↦ writes_idle m k w _ _ (seen.change k Writing) (none k Writing) (ap (λ n. (stream_at p.state n).writer.operation) e ∙ idle) (owner k Writing) (seen.got k) h
+            | inl e ↦ writes_idle m k w _ _ (seen.change k Writing) (none k Writing) (ap (λ n. (stream_at p.state n).writer.operation) e ∙ idle) (owner k Writing) (told k Writing) (seen.got k) h
             | inr ne ↦ writes_stay m k w _ _ (j.joins k l).typed (seen.change k Writing) (none k Writing) seen.aside (there k (omega (arith, l))) (λ c. put _ (λ e some. absurd (ne e))) low
-                (owner k Writing) (seen.got k) h
+                (owner k Writing) (told k Writing) (seen.got k) h
           ];
           reads = λ k w l _ h. reads_stay m k w _ _ (j.joins k l).typed (seen.change k Reading) (none k Reading) seen.aside (there (k + 1) (omega (arith, l))) (λ c few. put _ (λ e some. omega (arith, few))) low
-              (owner k Reading) (λ x. ap is_gone (owner k Writing) ∙ x) (λ x. subst (λ xs. ArePlain (get_or xs k no_stream)) (sym same) x) (seen.got k) h;
+              (owner k Reading) (λ x. ap is_gone (owner k Writing) ∙ x) (λ x. subst (λ xs. ArePlain (get_or xs k no_stream)) (sym same) x) (told k Reading) (seen.got k) h;
         }
 
 -- of fewer streams
@@ -181,6 +184,7 @@ pub record SamePart (w w' : Worker) : Type 0 where
   pub write : w'.write ≡ w.write
   pub stage : w'.work.stage ≡ w.work.stage
   pub source : w.read ≡ None → (w'.closed ≡ w.closed) × (w'.made ≡ w.made)
+  pub unreading : w.read ≡ None → w.doing ≢ Reads → w'.doing ≢ Reads
   pub sink : IsSink w → IsSink w'
 
 -- one guest of a list is another, and all others are as they were
@@ -197,7 +201,7 @@ either P g ws ws' k one same changed =
     ]
 
 pub same_part : (w w' : Worker) → w' ≡ w → SamePart w w'
-same_part w w' e = subst (SamePart w) (sym e) (record { read = refl; write = refl; stage = refl; source = λ _. (refl, refl); sink = λ x. x })
+same_part w w' e = subst (SamePart w) (sym e) (record { read = refl; write = refl; stage = refl; source = λ _. (refl, refl); unreading = λ _ ne. ne; sink = λ x. x })
 
 module _ (p q : Play) (ws ws' : List Worker) (g : ℕ) (j : IsJoined p ws) (one : OneChanged g ws ws') (part : SamePart (worker_at ws g) (worker_at ws' g)) where
   pub joined_again : Passes (length ws) p q (But g) (λ s. s + 1 ≢ g) → (g + 1 < length ws → WritesOn g (worker_at ws' g) q.state (got_on q.steps g)) → ((s : ℕ) → s + 1 < length ws → s + 1 ≡ g → ReadsFrom s (worker_at ws' g) q.state (got_on q.steps s)) → IsJoined q ws'
@@ -221,6 +225,8 @@ module _ (p q : Play) (ws ws' : List Worker) (g : ℕ) (j : IsJoined p ws) (one 
         };
     source = either (λ w w'. (w.read ≡ None) × (w.closed ≡ true) → (w'.read ≡ None) × (w'.closed ≡ true)) g ws ws' 0 one (λ w x. x)
         (λ x. (part.read ∙ x.0, (part.source x.0).0 ∙ x.1)) j.source;
+    unreading = either (λ w w'. (w.read ≡ None) × (w.doing ≢ Reads) → w'.doing ≢ Reads) g ws ws' 0 one (λ w x. x.1)
+        (λ x. part.unreading x.0 x.1) (j.source.0, j.unreading);
     sink = subst (λ n. IsSink (worker_at ws' (n - 1))) (sym one.many)
         (either (λ w w'. IsSink w → IsSink w') g ws ws' (length ws - 1) one (λ w x. x) part.sink j.sink);
   }

@@ -12,12 +12,14 @@ pub mod PrefixLemmas
 pub mod NamingLemmas
 pub mod MomentLemmas
 pub mod AfterLemmas
+pub mod DoneLemmas
 pub mod StayLemmas
 pub mod JoinedLemmas
 pub mod OwnLemmas
 pub mod TurnedLemmas
 pub mod ReadTurnLemmas
 pub mod TurnLemmas
+pub mod GuestLemmas
 pub mod EndLemmas
 pub mod ToldLemmas
 pub mod StandingLemmas
@@ -26,6 +28,7 @@ pub mod BoundLemmas
 pub mod StuckLemmas
 pub mod RoundLemmas
 pub mod OutcomeLemmas
+pub mod LimitLemmas
 pub mod MakingLemmas
 pub mod RoomLemmas
 pub mod ChainLemmas

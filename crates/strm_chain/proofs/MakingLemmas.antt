@@ -1,6 +1,6 @@
 -- The making of a chain leaves it joined.
-use Rattle.std.proofs.Common.{◌≡◌, ℕ, zero, suc, ◌+◌, ◌-◌, ◌<◌, true, false, List, [], ◌∷◌, ◌++◌, length, take, drop, get_or, Some, None, refl, sym, ap, ◌∙◌, subst, inl, inr, append_assoc, add-one, arith}
-use Rattle.std.specs.Prelude.{map, replicate}
+use Rattle.std.proofs.Common.{◌≡◌, ℕ, zero, suc, ◌+◌, ◌-◌, ◌<◌, ◌≤◌, true, false, List, [], ◌∷◌, ◌++◌, length, take, drop, get_or, Some, None, refl, sym, ap, ◌∙◌, subst, inl, inr, append_assoc, add-one, arith}
+use Rattle.std.specs.Prelude.{map, replicate, Result, Ok, Err, IfOk, OnOk}
 use Rattle.std.proofs.lemmas.Bool.{cases_lt}
 use Rattle.std.proofs.lemmas.List.{append-nil, length_push, length-set, length-replicate, length-map, take_more, take_all, map_push, replicate_more}
 use Rattle.strm_handles.specs.Handles.{no_handles, Handles}
@@ -31,6 +31,7 @@ use Rattle.strm_chain.specs.Keeping.{new_worker, worker_at, sink_of, Items, IsJo
 use Rattle.strm_chain.specs.Making.{AreMade, IsNew, MakesPair, HasWrite, HasRead, source_of, AreJoined, IsReady}
 use Rattle.strm_chain.proofs.StageLemmas.{done-none, left-none}
 use Rattle.strm_chain.proofs.NamingLemmas.{IsPerformed, performed}
+use Rattle.strm_chain.proofs.LimitLemmas.{little_guest, little_pair}
 use Rattle.strm_chain.proofs.ToldLemmas.{even_adds, last-adds}
 use Rattle.strm_machine.specs.declared.steps.Step.{Step}
 
@@ -57,6 +58,7 @@ none_made = record {
   guests_are = refl;
   streams_are = refl;
   room = λ g l. absurd (omega (arith, l));
+  little = record { limits = refl; bytes = refl; handles = omega arith; tables = λ g. record { freed = refl; entries = omega arith }; sets = refl; contexts = refl };
   steps_are = refl;
   even = refl;
   quiet = λ g. refl;
@@ -73,6 +75,7 @@ guest_made p q n k a m =
       room = λ g l.
           ap (λ xs. length (memory_in xs g)) guests
           ∙ at_push p.state.guests x no_guest g (λ (y : Guest). length y.memory ≡ 8192) (λ e. length-replicate {A = ℕ} 8192 0) (λ ne. m.room g (omega (arith, l, m.guests_are, ne)));
+      little = little_guest k 0 p.state q.state is m.little;
       steps_are = a.steps_are ∙ ap (λ xs. xs ++ steps.Guest 8192 ∷ []) (m.steps_are ∙ no_streams (guests_made k)) ∙ replicate_more k (steps.Guest 8192) ∙ sym (no_streams (guests_made (k + 1)));
       even = even_adds p q (steps.Guest 8192) (replies.Number n) a m.even;
       quiet = λ g. last-adds g p q (steps.Guest 8192) (replies.Number n) a m.even ∙ m.quiet g;
@@ -104,16 +107,18 @@ pair_is state next writer reader pair p =
       memory = λ k. sym (ap (λ (s : State). memory_in s.guests k) is) ∙ with_handles-memory held writer _ k ∙ with_handles-memory state.guests reader _ k;
     }
 
-pub pair_made : (p q : Play) (s : ℕ) (pair : Pair) → Adds p q (steps.Between s (s + 1) bytes_type) (replies.Pair pair) → MakesPair s p pair q
-pair_made p q s pair a =
+pub pair_made : (p q : Play) (s there : ℕ) (pair : Pair) → s ≤ 8 → s + 1 < there → AreMade there s p → Adds p q (steps.Between s (s + 1) bytes_type) (replies.Pair pair) → MakesPair s p pair q
+pair_made p q s there pair few more before a =
     let step = steps.Between s (s + 1) bytes_type in
-    let is = pair_is p.state q.state s (s + 1) pair (performed p.state (act_of step) (replies.Pair pair) q.state a.reacts refl) in
+    let does = performed p.state (act_of step) (replies.Pair pair) q.state a.reacts refl in
+    let is = pair_is p.state q.state s (s + 1) pair does in
     let x = made_stream bytes_type s pair.write (s + 1) pair.read in
     record {
       made = λ guests m. record {
         guests_are = is.many ∙ m.guests_are;
         streams_are = ap length is.streams ∙ length_push p.state.streams x ∙ ap (λ i. i + 1) m.streams_are;
         room = λ g l. ap length (is.memory g) ∙ m.room g l;
+        little = little_pair guests s p.state m.guests_are m.streams_are few (omega (arith, more, before.guests_are, m.guests_are)) m.little q.state pair does;
         steps_are = a.steps_are ∙ ap (λ xs. xs ++ step ∷ []) m.steps_are ∙ append_assoc (guests_made guests) (streams_made s) (step ∷ [])
             ∙ ap (λ xs. guests_made guests ++ xs) (sym (stream_more s));
         even = even_adds p q step (replies.Pair pair) a m.even;
@@ -252,6 +257,7 @@ ready_joined stages input p ws r counts = record {
           idle = λ _. write_none;
           busy = λ e. absurd (let wrong : Nothing ≡ Writing = sym a.rests.1 ∙ e in cc);
           gone = λ e. absurd (let wrong : Nothing ≡ Ended = sym a.rests.1 ∙ e in cc);
+          untold = ap (λ (x : Stream). x.writer.told) a.new;
           over = λ e. absurd (let wrong : Nothing ≡ Ended = sym a.rests.1 ∙ e in cc);
         };
         reads = record {
@@ -269,16 +275,19 @@ ready_joined stages input p ws r counts = record {
           idle = λ _. read_none;
           busy = λ e. absurd (let wrong : Nothing ≡ Reading = sym (ap (λ (x : Worker). x.doing) b.fresh) ∙ e in cc);
           unclosed = λ _. ap (λ (x : Worker). x.closed) b.fresh;
+          untold = λ _. ap (λ (x : Stream). x.reader.told) b.new;
           plain = (rw write_none tt, rw read_none tt);
           gone = λ e. absurd (let wrong : false ≡ true = sym (ap (λ (x : Worker). x.closed) b.fresh) ∙ e in cc);
         };
       };
   source = (ap (λ (x : Worker). x.read) r.source.1, ap (λ (x : Worker). x.closed) r.source.1);
+  unreading = λ e. let wrong : Nothing ≡ Reading = sym (ap (λ (x : Worker). x.doing) r.source.1) ∙ e in cc;
   sink = record {
     write = ap (λ (x : Worker). x.write) r.sink.1;
     copies = ap stage_of r.sink.1;
     ends = λ e. absurd (let wrong : Nothing ≡ Ended = sym (ap (λ (x : Worker). x.doing) r.sink.1) ∙ e in cc);
     ended = λ e. absurd (let wrong : false ≡ true = sym (ap (λ (x : Worker). x.closed) r.sink.1) ∙ e in cc);
+    unwriting = λ e. let wrong : Nothing ≡ Writing = sym (ap (λ (x : Worker). x.doing) r.sink.1) ∙ e in cc;
   };
 }
 
@@ -302,3 +311,12 @@ module _ (input : List ℕ) (stages : List Stage) (guests i s read : ℕ) (stage
         subst (AreJoined input (i + 1) pair.read stages q) (sym is) (joined_more input i read stages stage p q ws _ pair j y m.streams_are l at refl),
         subst (λ k. AreMade guests k q) (omega arith) z,
       )
+
+-- what the player answers
+pub guest_ok : {E : Type 0} (r : Result ℕ E) (p q : Play) → IfOk r (λ number. Adds p q (steps.Guest 8192) (replies.Number number)) → (n : ℕ) → AreMade n 0 p → OnOk r (AreMade (n + 1) 0 q)
+guest_ok (Ok number) p q a n m = guest_made p q number n a m
+guest_ok (Err e) p q a n m = tt
+
+pub pair_ok : {E : Type 0} (r : Result Pair E) (p q : Play) (s there : ℕ) → s ≤ 8 → s + 1 < there → AreMade there s p → IfOk r (λ pair. Adds p q (steps.Between s (s + 1) bytes_type) (replies.Pair pair)) → IfOk r (λ pair. MakesPair s p pair q)
+pair_ok (Ok pair) p q s there few more m a = pair_made p q s there pair few more m a
+pair_ok (Err e) p q s there few more m a = tt

@@ -34,6 +34,10 @@ played_run p f = record {
   are = record { few = f.few; bytes = f.bytes };
 }
 
+-- handles and ends agree in it
+pub holds_at : (play : Play) → IsRunOf play → HandlesHold play.state
+holds_at p r = subst HandlesHold (sym r.last_is) (handles_hold (last start p.steps) (held 0 _ p.steps))
+
 -- as many items as a stream counts were received on it
 pub count_is : (p : Play) (s : ℕ) → IsRunOf p → length (got_on p.steps s) ≡ received s p.state
 count_is p s r = (conserves start.tag start.limits p.steps s r.are).count ∙ ap (received s) (sym r.last_is)
@@ -88,7 +92,7 @@ seen p q step reply r are a =
       aside = subst StaysAside at (other_bytes_stay 0 _ run step all);
       lies = subst LieThere at (bytes_are_put 0 _ run step);
       sound = subst IsSound (sym r.last_is) (sound 0 _ run);
-      holds = subst HandlesHold (sym r.last_is) (handles_hold (last start run) (held 0 _ run));
+      holds = holds_at p r;
       got = λ s. ap (λ x. got s (moments start x)) a.steps_are ∙ ap (got s) (moments-push start run step)
           ∙ got-push s (moments start run) (moment_of (last start run) step) ∙ ap (λ m. got_on run s ++ got_in s m) at;
     }

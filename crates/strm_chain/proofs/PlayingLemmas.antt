@@ -13,6 +13,7 @@ use Rattle.strm_machine.proofs.AskedLemmas.{react-by}
 use Rattle.strm_host_machine.specs.Steps.{touches}
 use Rattle.strm_host_machine.specs.Does.{Fits}
 use Rattle.strm_transmit.specs.Hosted.{lone}
+use Rattle.strm_transmit.specs.Meets.{is_done}
 use Rattle.strm_transmit.specs.Guests.{nobody, Unhosted, is_of_guests}
 use Rattle.strm_transmit.proofs.GuestLemmas.{reaction-unhosted, empty-unhosted, touches-none}
 use Rattle.strm_laws.specs.Laws.{HasBytes}
@@ -47,6 +48,12 @@ follows_start fits = record {
 -- a step of guests touches no host end
 pub touches_none : (steps : List Step) (replies : List Reply) (state : State) (step : Step) → Follows steps replies state → is_of_guests (act_of step) ≡ true → touches (lone state) (act_of step) ≡ false
 touches_none steps replies state step f e = touches-none state (act_of step) f.unhosted e
+
+-- a step that is done is settled
+pub done_settled : (reply : Reply) → is_done reply ≡ true → is_settled reply ≡ true
+done_settled (replies.BadItem s) d = cc
+done_settled replies.StoreTrapped d = cc
+done_settled _ d = refl
 
 module _ (steps : List Step) (replies : List Reply) (state : State) (step : Step) (reply : Reply) (next : State) where
   pub follows_more : Follows steps replies state → HasBytes step → length steps < 4294967295 → react state step ≡ goes reply next → is_settled reply ≡ true → Fits next nobody → Follows (steps ++ step ∷ []) (replies ++ reply ∷ []) next

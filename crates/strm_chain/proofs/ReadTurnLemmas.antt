@@ -61,10 +61,10 @@ module _ (p : Play) (ws : List Worker) (g chunk : ℕ) (j : IsJoined p ws) (l : 
   abbrev w : Worker
   w = worker_at ws g
 
-  own_reads : (s : ℕ) → BeforeIt ws g s → ReadsFrom s w p.state (got_on p.steps s)
+  pub own_reads : (s : ℕ) → BeforeIt ws g s → ReadsFrom s w p.state (got_on p.steps s)
   own_reads s b = subst (λ n. ReadsFrom s (worker_at ws n) p.state (got_on p.steps s)) (sym b.is) (j.joins s b.there).reads
 
-  read_owner : (s handle : ℕ) → BeforeIt ws g s → w.read ≡ Some handle → (stream_at p.state s).reader.owner ≡ Held g handle
+  pub read_owner : (s handle : ℕ) → BeforeIt ws g s → w.read ≡ Some handle → (stream_at p.state s).reader.owner ≡ Held g handle
   read_owner s handle b has =
       let r = own_reads s b in
       r.owner ∙ held_same g (s + 1) r.handle handle (sym b.is) (one_handle w.read r.handle handle r.has has)
@@ -115,6 +115,7 @@ module _ (p : Play) (ws : List Worker) (g chunk : ℕ) (j : IsJoined p ws) (l : 
             idle = λ n. absurd (n refl);
             busy = λ e. own.2;
             unclosed = λ e. x.unclosed;
+            untold = λ c. after.own refl ∙ r.untold c;
             plain = after.steady.plain s r.plain;
             gone = λ c. ap is_gone (after.steady.owner s AWrite) ∙ r.gone c;
           },
@@ -149,6 +150,7 @@ module _ (p : Play) (ws : List Worker) (g chunk : ℕ) (j : IsJoined p ws) (l : 
             few = own.few;
             plain = after.steady.plain s r.plain;
             gone = λ d. ap is_gone (after.steady.owner s AWrite) ∙ after.only d;
+            untold = λ d. after.own d ∙ r.untold x.unclosed;
           };
           taken = own.taken;
           some = after.some;
@@ -181,6 +183,7 @@ module _ (p : Play) (ws : List Worker) (g chunk : ℕ) (j : IsJoined p ws) (l : 
             few = own.few;
             plain = after.steady.plain s r.plain;
             gone = λ d. ap is_gone (after.steady.owner s AWrite) ∙ told_gone p.state mid.state s code after (kind_is p.state s ty) r.plain.1 d;
+            untold = λ d. after.own code refl d ∙ r.untold (r.unclosed x.waits);
           };
           taken = own.taken;
           some = told_some p.state mid.state s ARead code after (kind_is p.state s ty) r.plain;
@@ -226,11 +229,13 @@ module _ (p : Play) (ws : List Worker) (g chunk : ℕ) (j : IsJoined p ws) (l : 
         write = refl;
         stage = refl;
         source = λ none. absurd (no_handle w.read x.handle none x.has);
+        unreading = λ none. absurd (no_handle w.read x.handle none x.has);
         sink = λ k. record {
           write = k.write;
           copies = k.copies;
           ends = λ f. absurd (let wrong = f in cc);
           ended = λ c. absurd (let wrong : false ≡ true = sym x.unclosed ∙ c in cc);
+          unwriting = λ f. let wrong : Reading ≡ Writing = f in cc;
         };
       }))
       (fewer (length ws) p q Each (But s) (But g) (λ k. k + 1 ≢ g) waits.0 (λ k _. tt) (λ k ne f. ne (ap (λ n. n + 1) f ∙ sym b.is)))

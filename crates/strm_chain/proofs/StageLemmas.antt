@@ -86,6 +86,10 @@ unfolding done
 done-copy sum rest [] = refl
 done-copy sum rest (b ∷ bs) = ap (λ more. b ∷ more) (done-copy ((sum + b) % 256) (rest - 1) bs)
 
+-- a copy puts out what it takes
+pub copy_done : (work : Work) (bytes : List ℕ) → work.stage ≡ stages.Copy → done work bytes ≡ bytes
+copy_done work bytes e = ap (λ s. done (under_way s work.sum work.left) bytes) e ∙ done-copy work.sum work.left bytes
+
 done-add : (k sum rest : ℕ) (bytes : List ℕ) → done (under_way (stages.Add k) sum rest) bytes ≡ map (λ b. (b + k) % 256) bytes
 unfolding done
 done-add k sum rest [] = refl

@@ -97,8 +97,8 @@ module _ (m : Moment) (s : ℕ) (w : Worker) (got new : Items) (ty : type_of (st
     (change : Change Writing (scene s Writing m)) (unnamed : is_named s Writing m ≡ false) (aside : StaysAside m)
     (there : s < length m.before.guests)
     (put : (c : ℕ) → LiesApart (record { place = record { guest = s; address = 64 }; size = c }) (put_by m.act m.reply)) where
-  pub writes_stay : ((t : ℕ) → ReceivesLow m t) → (stream_at m.after s).writer.owner ≡ (stream_at m.before s).writer.owner → new ≡ got ++ got_in s m → WritesOn s w m.before got → WritesOn s w m.after new
-  writes_stay low owner e h = record {
+  pub writes_stay : ((t : ℕ) → ReceivesLow m t) → (stream_at m.after s).writer.owner ≡ (stream_at m.before s).writer.owner → (stream_at m.after s).writer.told ≡ (stream_at m.before s).writer.told → new ≡ got ++ got_in s m → WritesOn s w m.before got → WritesOn s w m.after new
+  writes_stay low owner told e h = record {
     handle = h.handle;
     has = h.has;
     owner = λ n. owner ∙ h.owner n;
@@ -107,13 +107,18 @@ module _ (m : Moment) (s : ℕ) (w : Worker) (got new : Items) (ty : type_of (st
     idle = λ n. idle_stays Writing (scene s Writing m) (still s Writing m unnamed change) (h.idle n);
     busy = λ e. busy_stays Writing (scene s Writing m) (still s Writing m unnamed change) (h.busy e);
     gone = λ e. ap is_gone owner ∙ h.gone e;
+    untold = told ∙ h.untold;
     over = h.over;
   }
 
 -- a guest that writes but has no write that waits, whatever is put into its memory
-module _ (m : Moment) (s : ℕ) (w : Worker) (got new : Items) where
-  pub writes_idle : Change Writing (scene s Writing m) → is_named s Writing m ≡ false → (stream_at m.before s).writer.operation ≡ None → (stream_at m.after s).writer.owner ≡ (stream_at m.before s).writer.owner → new ≡ got ++ got_in s m → WritesOn s w m.before got → WritesOn s w m.after new
-  writes_idle change unnamed none owner e h = by (still s Writing m unnamed change)
+module _ (m : Moment) (s : ℕ) (w : Worker) (got new : Items)
+    (change : Change Writing (scene s Writing m)) (unnamed : is_named s Writing m ≡ false)
+    (none : (stream_at m.before s).writer.operation ≡ None)
+    (owner : (stream_at m.after s).writer.owner ≡ (stream_at m.before s).writer.owner)
+    (told : (stream_at m.after s).writer.told ≡ (stream_at m.before s).writer.told) where
+  pub writes_idle : new ≡ got ++ got_in s m → WritesOn s w m.before got → WritesOn s w m.after new
+  writes_idle e h = by (still s Writing m unnamed change)
     where
       by : Still Writing (scene s Writing m) → WritesOn s w m.after new
       by (Going o p n x) = absurd (some_none _ o x.was none)
@@ -128,6 +133,7 @@ module _ (m : Moment) (s : ℕ) (w : Worker) (got new : Items) where
             idle = λ n. r.is;
             busy = λ e. absurd (no_operation _ none (h.busy e));
             gone = λ e. ap is_gone owner ∙ h.gone e;
+            untold = told ∙ h.untold;
             over = h.over;
           }
 
@@ -139,8 +145,8 @@ module _ (m : Moment) (s : ℕ) (w : Worker) (got new : Items) (ty : type_of (st
     (low : (t : ℕ) → ReceivesLow m t)
     (owner : (stream_at m.after s).reader.owner ≡ (stream_at m.before s).reader.owner)
     (gone : is_gone (stream_at m.before s).writer.owner ≡ true → is_gone (stream_at m.after s).writer.owner ≡ true) where
-  pub reads_stay : (ArePlain (stream_at m.before s) → ArePlain (stream_at m.after s)) → new ≡ got ++ got_in s m → ReadsFrom s w m.before got → ReadsFrom s w m.after new
-  reads_stay plain e h = record {
+  pub reads_stay : (ArePlain (stream_at m.before s) → ArePlain (stream_at m.after s)) → (stream_at m.after s).reader.told ≡ (stream_at m.before s).reader.told → new ≡ got ++ got_in s m → ReadsFrom s w m.before got → ReadsFrom s w m.after new
+  reads_stay plain told e h = record {
     handle = h.handle;
     has = h.has;
     owner = owner ∙ h.owner;
@@ -149,6 +155,7 @@ module _ (m : Moment) (s : ℕ) (w : Worker) (got new : Items) (ty : type_of (st
     idle = λ n. idle_stays Reading (scene s Reading m) (still s Reading m unnamed change) (h.idle n);
     busy = λ e. busy_stays Reading (scene s Reading m) (still s Reading m unnamed change) (h.busy e);
     unclosed = h.unclosed;
+    untold = λ c. told ∙ h.untold c;
     plain = plain h.plain;
     gone = λ c. gone (h.gone c);
   }

@@ -1,8 +1,9 @@
 -- A turn leaves a chain joined, whatever its guest did in it.
-use Rattle.std.proofs.Common.{◌≡◌, ◌≢◌, ℕ, ◌+◌, ◌-◌, ◌<◌, ◌≤◌, true, List, length, take, drop, Option, Some, None, refl, sym, ap, ◌∙◌, subst, arith}
+use Rattle.std.proofs.Common.{◌≡◌, ◌≢◌, ℕ, ◌+◌, ◌-◌, ◌<◌, ◌≤◌, true, false, List, length, take, drop, Option, Some, None, refl, sym, ap, ◌∙◌, subst, arith}
 use Rattle.strm_codes.specs.Codes.{count_of}
 use Rattle.strm_codes.specs.declared.codes.ReturnCode.{ReturnCode}
 use Rattle.strm_codes.specs.declared.codes.ReturnCode.TheVariants as codes
+use Rattle.strm_events.specs.Reports.{is_dropped}
 use Rattle.strm_memory.specs.Bytes.{bytes_at}
 use Rattle.strm_machine.specs.State.{memory_in, stream_at, is_gone}
 use Rattle.strm_machine.specs.Acts.{act_of, end_named_by}
@@ -30,7 +31,7 @@ use Rattle.strm_chain.proofs.RegionLemmas.{nothing_put, write_region_stays}
 use Rattle.strm_chain.proofs.KeepLemmas.{poke_leaves}
 use Rattle.strm_chain.proofs.MomentLemmas.{IsRunOf, IsSeen, moment_at, run_before, are_before, seen}
 use Rattle.strm_chain.proofs.NamingLemmas.{NamesOnly, performed, operate_names, drop_names, event_names, unnamed_reader}
-use Rattle.strm_chain.proofs.AfterLemmas.{Steady, Told, operate_after, event_after, drop_after, poke_after, event_none}
+use Rattle.strm_chain.proofs.AfterLemmas.{told_at, Steady, Told, operate_after, event_after, drop_after, poke_after, event_none}
 use Rattle.strm_chain.proofs.StayLemmas.{low_unless, kind_is}
 use Rattle.strm_chain.proofs.JoinedLemmas.{frame_of, Passes, Each, But, same_passes, writer_passes, drop_passes, poke_passes, fewer, both_pass, none_pass, SamePart, OneChanged, joined_again, joined_same, unchanged}
 use Rattle.strm_chain.proofs.OwnLemmas.{front_itself, next_within, own_write_waits, own_write_serves, own_write_settles, dropped_sends}
@@ -45,7 +46,7 @@ module _ (p : Play) (ws : List Worker) (g chunk : ℕ) (j : IsJoined p ws) (l : 
   abbrev w : Worker
   w = worker_at ws g
 
-  write_owner : (handle : ℕ) → g + 1 < length ws → w.doing ≢ Ended → w.write ≡ Some handle → (stream_at p.state g).writer.owner ≡ Held g handle
+  pub write_owner : (handle : ℕ) → g + 1 < length ws → w.doing ≢ Ended → w.write ≡ Some handle → (stream_at p.state g).writer.owner ≡ Held g handle
   write_owner handle more a has =
       let h = (j.joins g more).writes in
       h.owner a ∙ held_same g g h.handle handle refl (one_handle w.write h.handle handle h.has has)
@@ -53,14 +54,14 @@ module _ (p : Play) (ws : List Worker) (g chunk : ℕ) (j : IsJoined p ws) (l : 
   -- ## Writes
 
   -- the bytes that are to be written lie where they are written from
-  record IsPoked (bytes : List ℕ) (mid : Play) : Type 0 where
-    joined : IsJoined mid ws
+  pub record IsPoked (bytes : List ℕ) (mid : Play) : Type 0 where
+    pub joined : IsJoined mid ws
     run_mid : IsRunOf mid
     lies : bytes_at (memory_in mid.state.guests g) 64 (length bytes) ≡ take (length bytes) (drop w.sent w.made)
     within : w.sent + length bytes ≤ length w.made
     few : length bytes ≤ 64
 
-  poked : (bytes : List ℕ) (mid : Play) → AreSteps mid.steps → g + 1 < length ws → Pokes g chunk w bytes p mid → IsPoked bytes mid
+  pub poked : (bytes : List ℕ) (mid : Play) → AreSteps mid.steps → g + 1 < length ws → Pokes g chunk w bytes p mid → IsPoked bytes mid
   poked bytes mid are more x =
       let step = steps.Poke g 64 bytes in
       let look = seen p mid step replies.Done run are x.adds in
@@ -103,7 +104,14 @@ module _ (p : Play) (ws : List Worker) (g chunk : ℕ) (j : IsJoined p ws) (l : 
           write = refl;
           stage = refl;
           source = λ none. (refl, refl);
-          sink = λ k. record { write = k.write; copies = k.copies; ends = closed; ended = λ _. absurd (no_handle w.write handle k.write has) };
+          unreading = λ none _. b;
+          sink = λ k. record {
+            write = k.write;
+            copies = k.copies;
+            ends = closed;
+            ended = λ _. absurd (no_handle w.write handle k.write has);
+            unwriting = λ _. no_handle w.write handle k.write has;
+          };
         }))
         (fewer (length ws) p q (But g) Each (But g) (λ k. k + 1 ≢ g) passes (λ k ne. ne) (λ k _. tt))
         (λ _. subst (λ u. WritesOn g u q.state (got_on q.steps g)) (sym is) writes)
@@ -131,7 +139,8 @@ module _ (p : Play) (ws : List Worker) (g chunk : ℕ) (j : IsJoined p ws) (l : 
     record WriteIsMade : Type 0 where
       look : IsSeen mw x.mid.steps q.steps
       only : NamesOnly mw g AWrite
-      steady : Steady x.mid.state q.state
+      steady : Steady g AWrite x.mid.state q.state
+      own : is_dropped code ≡ false → told_at q.state g AWrite ≡ told_at x.mid.state g AWrite
       some : (n : ℕ) → code ≡ codes.Completed n → 1 ≤ n
       passes : Passes (length ws) p q (But g) Each
       idle : (stream_at x.mid.state g).writer.operation ≡ None
@@ -160,6 +169,7 @@ module _ (p : Play) (ws : List Worker) (g chunk : ℕ) (j : IsJoined p ws) (l : 
           look = look;
           only = names.only;
           steady = after.steady;
+          own = after.own;
           some = after.some;
           passes = both_pass (length ws) p x.mid q (But g) Each (fewer (length ws) p x.mid Each Each (But g) Each first (λ k _. tt) (λ k _. tt)) second;
           idle = h.idle (apart_doing w Nothing Writing resting (λ e. cc));
@@ -194,6 +204,7 @@ module _ (p : Play) (ws : List Worker) (g chunk : ℕ) (j : IsJoined p ws) (l : 
           idle = λ n. absurd (n refl);
           busy = λ n. own.1;
           gone = λ e. absurd (let wrong = e in cc);
+          untold = k.own (ap is_dropped blocked) ∙ k.writes.untold;
           over = λ e. absurd (let wrong = e in cc);
         })
 
@@ -219,6 +230,7 @@ module _ (p : Play) (ws : List Worker) (g chunk : ℕ) (j : IsJoined p ws) (l : 
           idle = λ n. own.1;
           busy = λ e. absurd (let wrong = e in cc);
           gone = λ e. absurd (let wrong = e in cc);
+          untold = k.own (ap is_dropped h.ends) ∙ k.writes.untold;
           over = λ e. absurd (let wrong = e in cc);
         })
 
@@ -260,6 +272,7 @@ module _ (p : Play) (ws : List Worker) (g chunk : ℕ) (j : IsJoined p ws) (l : 
         idle = λ n. own.1;
         busy = λ e. absurd (let wrong = e in cc);
         gone = λ e. absurd (let wrong = e in cc);
+        untold = after.own code refl (ap is_dropped h.ends) ∙ at.writes.untold;
         over = λ e. absurd (let wrong = e in cc);
       })
 
@@ -287,6 +300,7 @@ module _ (p : Play) (ws : List Worker) (g chunk : ℕ) (j : IsJoined p ws) (l : 
         idle = λ n. own.1;
         busy = λ e. absurd (let wrong = e in cc);
         gone = λ e. ap is_gone after.gone;
+        untold = after.told g AWrite ∙ at.writes.untold;
         over = λ e. (x.closed, omega (arith, x.all, at.writes.sends.within));
       })
 

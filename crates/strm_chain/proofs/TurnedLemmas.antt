@@ -67,6 +67,7 @@ writes_doing g w d state got a b c ne h = record {
   idle = λ n. h.idle b;
   busy = λ e. absurd (ne e);
   gone = λ e. absurd (c e);
+  untold = h.untold;
   over = λ e. absurd (c e);
 }
 
@@ -80,6 +81,7 @@ reads_doing s w d sent state got a ne h = record {
   idle = λ n. h.idle a;
   busy = λ e. absurd (ne e);
   unclosed = λ e. absurd (ne e);
+  untold = h.untold;
   plain = h.plain;
   gone = h.gone;
 }
@@ -96,6 +98,7 @@ pub record Arrives (s : ℕ) (w : Worker) (code : ReturnCode) (state : State) (g
   pub few : count_of code ≤ 64
   pub gone : is_dropped code ≡ true → is_gone (stream_at state s).writer.owner ≡ true
   pub plain : ArePlain (stream_at state s)
+  pub untold : is_dropped code ≡ false → (stream_at state s).reader.told ≡ false
 
 pub unblocked : (code : ReturnCode) → EndsRead code → code ≢ codes.Blocked
 unblocked code (WithMore e) f = let wrong : codes.Blocked ≡ codes.Completed (count_of code) = sym f ∙ e in cc
@@ -106,6 +109,11 @@ after_unread : (write : Option ℕ) (dropped : Bool) → after_read write droppe
 after_unread None true e = cc
 after_unread None false e = cc
 after_unread (Some h) dropped e = cc
+
+after_unwriting : (write : Option ℕ) (dropped : Bool) → after_read write dropped ≡ Writing → ⊥
+after_unwriting None true e = cc
+after_unwriting None false e = cc
+after_unwriting (Some h) dropped e = cc
 
 -- the dump of its bytes, which its stage takes
 module _ (p q : Play) (count s g : ℕ) (w w' : Worker) (code : ReturnCode) (e : g ≡ s + 1) (run : IsRunOf p) (are : AreSteps q.steps) (frame : Frame count p.state)
@@ -145,6 +153,7 @@ module _ (p q : Play) (count s g : ℕ) (w w' : Worker) (code : ReturnCode) (e :
         idle = λ n. h.none;
         busy = λ f. absurd (after_unread w.write (is_dropped code) f);
         unclosed = λ f. absurd (after_unread w.write (is_dropped code) f);
+        untold = h.untold;
         plain = h.plain;
         gone = h.gone;
       } in
@@ -170,6 +179,7 @@ writes_taken g w w' code p q state got x a b h =
       idle = λ n. h.idle b;
       busy = λ f. absurd (let wrong : Nothing ≡ Writing = sym resting ∙ f in cc);
       gone = λ f. absurd (let wrong : Nothing ≡ Ended = sym resting ∙ f in cc);
+      untold = h.untold;
       over = λ f. absurd (let wrong : Nothing ≡ Ended = sym resting ∙ f in cc);
     } in
     subst (λ u. WritesOn g u state got) (sym x.is) there
@@ -191,5 +201,6 @@ part_taken g handle w w' code p q x has =
       write = refl;
       stage = left-stage w.work x.bytes;
       source = λ none. absurd (no_handle w.read handle none has);
-      sink = λ k. record { write = k.write; copies = left-stage w.work x.bytes ∙ k.copies; ends = sink_ends w.write (is_dropped code); ended = sink_over w.write (is_dropped code) k.write };
+      unreading = λ none. absurd (no_handle w.read handle none has);
+      sink = λ k. record { write = k.write; copies = left-stage w.work x.bytes ∙ k.copies; ends = sink_ends w.write (is_dropped code); ended = sink_over w.write (is_dropped code) k.write; unwriting = after_unwriting w.write (is_dropped code) };
     })

@@ -12,7 +12,7 @@ use Rattle.strm_chain.specs.declared.stages.Stage.TheVariants.{Copy}
 use Rattle.strm_chain.specs.declared.workers.Worker.{Worker}
 use Rattle.strm_chain.specs.declared.workers.Doing.TheVariants.{Nothing, Reading, Writing, Ended}
 use Rattle.strm_chain.specs.Stages.{begun}
-use Rattle.strm_chain.specs.Playing.{start, Play, bytes_type}
+use Rattle.strm_chain.specs.Playing.{start, Play, IsPlayed, bytes_type}
 use Rattle.strm_chain.specs.Flowing.{got_on}
 use Rattle.strm_chain.specs.Linking.{Sends, Takes}
 use Rattle.strm_chain.specs.Reporting.{is_told}
@@ -68,6 +68,8 @@ pub record WritesOn (g : ℕ) (w : Worker) (state : State) (received : Items) : 
   pub idle : w.doing ≢ Writing → (stream_at state g).writer.operation ≡ None
   pub busy : w.doing ≡ Writing → IsSome (stream_at state g).writer.operation
   pub gone : w.doing ≡ Ended → is_gone (stream_at state g).writer.owner ≡ true
+  -- it was never told that nobody reads
+  pub untold : (stream_at state g).writer.told ≡ false
   pub over : w.doing ≡ Ended → (w.closed ≡ true) × (w.sent ≡ length w.made)
 
 -- an operation comes out with its items: it is open until it has met, has items left as long as it is open, and
@@ -98,6 +100,8 @@ pub record ReadsFrom (s : ℕ) (w : Worker) (state : State) (received : Items) :
   pub idle : w.doing ≢ Reading → (stream_at state s).reader.operation ≡ None
   pub busy : w.doing ≡ Reading → IsSome (stream_at state s).reader.operation
   pub unclosed : w.doing ≡ Reading → w.closed ≡ false
+  -- it was told that nobody writes where there is nothing more to read
+  pub untold : w.closed ≡ false → (stream_at state s).reader.told ≡ false
   pub plain : ArePlain (stream_at state s)
   pub gone : w.closed ≡ true → is_gone (stream_at state s).writer.owner ≡ true
 
@@ -113,6 +117,7 @@ pub record IsSink (w : Worker) : Type 0 where
   pub copies : w.work.stage ≡ Copy
   pub ends : w.doing ≡ Ended → w.closed ≡ true
   pub ended : w.closed ≡ true → w.doing ≡ Ended
+  pub unwriting : w.doing ≢ Writing
 
 -- the guests of a chain, joined by streams from each to the next; the source reads nothing, and the sink
 -- copies and writes nothing
@@ -123,7 +128,16 @@ pub record IsJoined (play : Play) (workers : List Worker) : Type 0 where
   pub joins : (s : ℕ) → s + 1 < length workers →
       Joins s (worker_at workers s) (worker_at workers (s + 1)) play
   pub source : ((worker_at workers 0).read ≡ None) × ((worker_at workers 0).closed ≡ true)
+  pub unreading : (worker_at workers 0).doing ≢ Reading
   pub sink : IsSink (sink_of workers)
+
+-- guest g of such a chain
+pub record IsGuest (g : ℕ) (w : Worker) (play : Play) : Type 0 where
+  pub workers : List Worker
+  pub joined : IsJoined play workers
+  pub there : g < length workers
+  pub is : worker_at workers g ≡ w
+  pub played : IsPlayed play
 
 -- and the sink knows what it was told
 pub record IsGoing (play : Play) (workers : List Worker) : Type 0 where

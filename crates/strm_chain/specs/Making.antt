@@ -1,6 +1,8 @@
 -- The making of a chain: first its guests, then the streams from each to the next. Ours.
-use Rattle.std.specs.Prelude.{◌≡◌, ℕ, ◌+◌, ◌-◌, ◌<◌, true, List, length, map, drop, take, ◌++◌, Some, None}
-use Rattle.strm_machine.specs.State.{memory_in, stream_at}
+use Rattle.std.specs.Prelude.{◌≡◌, ℕ, ◌+◌, ◌-◌, ◌*◌, ◌<◌, ◌≤◌, true, List, [], length, map, drop, take, ◌++◌, Some, None}
+use Rattle.strm_handles.specs.Handles.{Handles}
+use Rattle.strm_error_contexts.specs.Contexts.{len as contexts_there}
+use Rattle.strm_machine.specs.State.{State, guest_in, memory_in, stream_at, bytes_in_use, handles_in_use, sets_in_use}
 use Rattle.strm_machine.specs.Making.{made_stream}
 use Rattle.strm_machine.specs.declared.replies.Pair.{Pair}
 use Rattle.strm_chain.specs.declared.stages.Stage.{Stage}
@@ -9,14 +11,30 @@ use Rattle.strm_chain.specs.declared.workers.Worker.{Worker}
 use Rattle.strm_chain.specs.declared.workers.Doing.TheVariants.{Nothing}
 use Rattle.strm_chain.specs.Reporting.{last_report}
 use Rattle.strm_chain.specs.Running.{guests_made, streams_made}
-use Rattle.strm_chain.specs.Playing.{Play, bytes_type}
+use Rattle.strm_chain.specs.Playing.{start, Play, bytes_type}
 use Rattle.strm_chain.specs.Keeping.{new_worker, worker_at}
+
+-- a table that has given no number back, and so many at most
+pub record IsShort (n : ℕ) (handles : Handles) : Type 0 where
+  pub freed : handles.freed ≡ []
+  pub entries : length handles.entries ≤ n
+
+-- what so many guests and streams take of what a chain's store limits: each guest 8,192 bytes, each stream
+-- two handles
+pub record TakesLittle (guests streams : ℕ) (state : State) : Type 0 where
+  pub limits : state.limits ≡ start.limits
+  pub bytes : bytes_in_use state ≡ 8192 * guests
+  pub handles : handles_in_use state ≤ 2 * streams
+  pub tables : (g : ℕ) → IsShort (2 * streams) (guest_in state.guests g).handles
+  pub sets : sets_in_use state ≡ 0
+  pub contexts : contexts_there state.contexts ≡ 0
 
 -- so many guests of 8,192 bytes and so many streams were made, and nothing else was done
 pub record AreMade (guests streams : ℕ) (play : Play) : Type 0 where
   pub guests_are : length play.state.guests ≡ guests
   pub streams_are : length play.state.streams ≡ streams
   pub room : (g : ℕ) → g < guests → length (memory_in play.state.guests g) ≡ 8192
+  pub little : TakesLittle guests streams play.state
   pub steps_are : play.steps ≡ guests_made guests ++ streams_made streams
   pub even : length play.steps ≡ length play.replies
   -- nothing was reported to any guest

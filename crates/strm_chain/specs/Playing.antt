@@ -1,5 +1,5 @@
 -- A store of guests that is played step by step. Ours.
-use Rattle.std.specs.Prelude.{◌≡◌, ℕ, ◌+◌, ◌≤◌, false, List, [], ◌∷◌, ◌++◌, length, All}
+use Rattle.std.specs.Prelude.{◌≡◌, ℕ, ◌+◌, ◌≤◌, true, false, List, [], ◌∷◌, ◌++◌, length, All}
 use Rattle.strm_codes.specs.declared.codes.TransmitIndex.{TransmitIndex}
 use Rattle.strm_codes.specs.declared.codes.TransmitIndex.TheVariants as index
 use Rattle.strm_codes.specs.declared.payloads.Payload.TheVariants.{One}
@@ -8,9 +8,13 @@ use Rattle.strm_machine.specs.State.{State, empty}
 use Rattle.strm_machine.specs.Reactions.{react, goes}
 use Rattle.strm_machine.specs.Plays.{play}
 use Rattle.strm_machine.specs.declared.steps.Step.{Step}
+use Rattle.strm_machine.specs.declared.steps.Step.TheVariants as steps
+use Rattle.strm_machine.specs.declared.streams.Side.{Side}
+use Rattle.strm_machine.specs.declared.streams.Side.TheVariants.{Writing, Reading}
 use Rattle.strm_machine.specs.declared.replies.Reply.{Reply}
 use Rattle.strm_laws.specs.Laws.{HasBytes}
 use Rattle.strm_host_machine.specs.Does.{Fits}
+use Rattle.strm_transmit.specs.Meets.{is_done}
 use Rattle.strm_transmit.specs.Guests.{nobody, Unhosted}
 
 -- a chain begins with a store without guests, named 0, under these limits
@@ -30,6 +34,15 @@ pub record Follows (steps : List Step) (replies : List Reply) (state : State) : 
   pub few : length steps ≤ 4294967295
   pub bytes : All HasBytes steps
 
+-- a step behind these was done, and had this reply
+pub record IsAnswered (steps : List Step) (replies : List Reply) (step : Step) (reply : Reply) (next : State) : Type 0 where
+  pub before : State
+  pub follows : Follows steps replies before
+  pub room : length steps + 1 ≤ 4294967295
+  pub reacts : react before step ≡ goes reply next
+  pub done : is_done reply ≡ true
+  pub fits : Fits next nobody
+
 -- what was played: the steps, their replies and the state that they led to
 pub record Play : Type 0 where
   pub steps : List Step
@@ -47,6 +60,15 @@ IsPlayed play = Follows play.steps play.replies play.state
 -- the laws speak of so many steps more: of no play of more than 4,294,967,295
 abbrev pub HasRoom : ℕ → Play → Type 0
 HasRoom count play = length play.steps + count ≤ 4294967295
+
+-- a read or a write of guest g, on an end of a stream of bytes
+abbrev pub operation : Side → ℕ → ℕ → ℕ → ℕ → Step
+operation Writing g handle address count = steps.Write g bytes_type handle address count
+operation Reading g handle address count = steps.Read g bytes_type handle address count
+
+-- the machine does this step in this state
+abbrev pub IsDone : State → Step → Type 0
+IsDone state step = is_done (react state step).reply ≡ true
 
 -- one step was played, and had this reply
 pub record Adds (play play' : Play) (step : Step) (reply : Reply) : Type 0 where

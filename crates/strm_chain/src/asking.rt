@@ -65,8 +65,10 @@ fn stage_of(word: &[u8]) -> Option<Stage>
 
 // The stages of these words, where each has one.
 fn stages_of(alloc: Global, words: &[String]) -> Result<Option<Vec<Stage>>, OutOfMemory>
-    ensures some { IfOk result (λ o. IfSome o (λ list. Spells (map string_bytes words.now) list.items)) }
-    ensures none { result ≡ Ok None → (list : List IsAStage) → ¬ Spells (map string_bytes words.now) list }
+    ensures some { IfOk result (λ o.
+        IfSome o (λ list. Spells (map string_bytes words.now) list.items)) }
+    ensures none { result ≡ Ok None → (list : List IsAStage)
+        → ¬ Spells (map string_bytes words.now) list }
 {
     let mut stages = Vec::new(alloc);
     for word in words {
@@ -83,10 +85,12 @@ fn stages_of(alloc: Global, words: &[String]) -> Result<Option<Vec<Stage>>, OutO
 
 // The stages of these words, where they make a chain.
 fn chain_of(alloc: Global, words: &[String]) -> Result<Option<Vec<Stage>>, OutOfMemory>
-    ensures some { IfOk result (λ o. IfSome o (λ list. Spells (map string_bytes words.now) list.items)) }
+    ensures some { IfOk result (λ o.
+        IfSome o (λ list. Spells (map string_bytes words.now) list.items)) }
     ensures few { IfOk result (λ o. IfSome o (λ list. length list.items ≤ 8)) }
     ensures few_twice { IfOk result (λ o. IfSome o (λ list. count_by is_twice list.items ≤ 2)) }
-    ensures none { result ≡ Ok None → (list : List IsAStage) → length list ≤ 8 → count_by is_twice list ≤ 2 →
+    ensures none { result ≡ Ok None → (list : List IsAStage) → length list ≤ 8
+        → count_by is_twice list ≤ 2 →
         ¬ Spells (map string_bytes words.now) list }
 {
     if words.len() > MAX_STAGES {
@@ -103,7 +107,8 @@ fn chain_of(alloc: Global, words: &[String]) -> Result<Option<Vec<Stage>>, OutOf
 
 /// The chain that the words ask for.
 pub(crate) fn plan_of(alloc: Global, words: &[String]) -> Result<Option<Plan>, OutOfMemory>
-    ensures some { IfOk result (λ o. IfSome o (λ p. Asks (map string_bytes words.now) p.chunk p.stages.items)) }
+    ensures some { IfOk result (λ o.
+        IfSome o (λ p. Asks (map string_bytes words.now) p.chunk p.stages.items)) }
     ensures none { result ≡ Ok None → ¬ IsAsked (map string_bytes words.now) }
 {
     let Some((first, rest)) = words.split_first() else {

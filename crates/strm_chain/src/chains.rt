@@ -11,7 +11,7 @@ ghost use Rattle.strm_chain.specs.Faults.{is_twice, fault_of, IsFault};
 ghost use Rattle.strm_chain.specs.Reporting.{is_told};
 ghost use Rattle.strm_chain.specs.Turning.{Turns};
 ghost use Rattle.strm_chain.specs.Running.{AreTurns, AreSomeTurns, IsRun};
-ghost use Rattle.strm_chain.specs.Keeping.{worker_at, sink_of, stages_of, input_of, IsGoing, GoesOn};
+ghost use Rattle.strm_chain.specs.Keeping.{worker_at, sink_of, stages_of, input_of, IsJoined, IsGoing, GoesOn};
 ghost use Rattle.strm_chain.specs.Measuring.{most_of, to_do, IsStuck, Lowers};
 ghost use Rattle.strm_chain.specs.Turned.{Turned};
 
@@ -180,12 +180,14 @@ impl Chain {
 
         // It is one of this guest alone, and the machine answers its steps: the guest has ended and makes none,
         // or it has an operation and is told of that, or not, or it reads, writes or drops.
-        ensures turns { IfOk result (λ turn. Turns (length self.old.workers - 1) self.old.chunk who turn
+        ensures turns { IfOk result (λ turn.
+            Turns (length self.old.workers - 1) self.old.chunk who turn
             self.old.play self.new.play) }
 
         // The chain goes on with the same stages and input, and no other guest is changed.
         ensures goes_on { OnOk result (GoesOn self.old self.new) }
-        ensures others { (g : ℕ) → g ≢ who → worker_at self.new.workers g ≡ worker_at self.old.workers g }
+        ensures others { (g : ℕ) → g ≢ who →
+            worker_at self.new.workers g ≡ worker_at self.old.workers g }
         ensures many { length self.new.workers ≡ length self.old.workers }
         ensures error { IfErr result (λ error. error ≡ ChainError.OutOfMemory) }
 
@@ -214,10 +216,12 @@ impl Chain {
         requires there { who < length self.old.workers }
         requires runs { self.old.failed ≡ false }
         requires room { HasRoom 2 self.old.play }
-        ensures turns { IfOk result (λ turn. Turns (length self.old.workers - 1) self.old.chunk who turn
+        ensures turns { IfOk result (λ turn.
+            Turns (length self.old.workers - 1) self.old.chunk who turn
             self.old.play self.new.play) }
         ensures goes_on { OnOk result (GoesOn self.old self.new) }
-        ensures others { (g : ℕ) → g ≢ who → worker_at self.new.workers g ≡ worker_at self.old.workers g }
+        ensures others { (g : ℕ) → g ≢ who →
+            worker_at self.new.workers g ≡ worker_at self.old.workers g }
         ensures many { length self.new.workers ≡ length self.old.workers }
         ensures error { IfErr result (λ error. error ≡ ChainError.OutOfMemory) }
         ensures lowers { IfOk result (λ turn. Lowers who turn self.old.play.state self.old.workers
@@ -246,7 +250,8 @@ impl Chain {
     /// The sink was told that there is no more.
     pub fn ended(&self) -> bool
         ensures { self.now.failed ≡ false →
-            result ≡ is_told (length self.now.workers - 1) self.now.play.steps self.now.play.replies }
+            result ≡ is_told (length self.now.workers - 1)
+            self.now.play.steps self.now.play.replies }
     {
         match self.workers.as_slice() {
             [.., sink] => sink.closed,
@@ -258,7 +263,8 @@ impl Chain {
     fn somebody_goes(&self)
         ensures few { length self.now.workers ≤ 10 }
         ensures goes { self.now.failed ≡ false →
-            is_told (length self.now.workers - 1) self.now.play.steps self.now.play.replies ≡ false →
+            is_told (length self.now.workers - 1)
+            self.now.play.steps self.now.play.replies ≡ false →
             ((g : ℕ) → g < length self.now.workers →
             IsStuck g (worker_at self.now.workers g) self.now.play.state) → ⊥ }
     {
@@ -271,11 +277,14 @@ impl Chain {
         // All that was played, with the machine's replies.
         ensures steps { IfOk result (λ end. end.steps ≡ self.play.steps) }
         ensures replies { IfOk result (λ end. end.replies ≡ self.play.replies) }
-        ensures plays { IfOk result (λ end. play [] start end.steps ≡ Ends end.replies self.play.state) }
+        ensures plays { IfOk result (λ end.
+            play [] start end.steps ≡ Ends end.replies self.play.state) }
 
         // It has ended exactly where the last report of the sink says that there is no more.
-        ensures ended { IfOk result (λ end. end.ended ≡ is_told (length self.workers - 1) end.steps end.replies) }
-        ensures flows { IfOk result (λ end. Flows (stages_of self.workers) (input_of self.workers) end.output end.steps) }
+        ensures ended { IfOk result (λ end.
+            end.ended ≡ is_told (length self.workers - 1) end.steps end.replies) }
+        ensures flows { IfOk result (λ end.
+            Flows (stages_of self.workers) (input_of self.workers) end.output end.steps) }
         ensures composed { IfOk result (λ end. end.ended ≡ true →
             end.output ≡ composed (stages_of self.workers) (input_of self.workers)) }
 
@@ -297,11 +306,15 @@ impl Chain {
 }
 
 // The sink of these guests.
-fn take_sink(workers: Vec<Worker>) -> Option<Worker>
-    ensures { IfSome result (λ sink. sink ≡ sink_of workers.items) }
+fn take_sink(workers: Vec<Worker>) -> Worker
+    requires { 2 ≤ length workers.items }
+    ensures { result ≡ sink_of workers.items }
 {
     let mut workers = workers;
-    workers.pop()
+    let Some(sink) = workers.pop() else {
+        unreachable!()
+    };
+    sink
 }
 
 // What a chain of these guests has come to.
@@ -311,17 +324,18 @@ fn end_of(player: Player, workers: Vec<Worker>) -> Result<ChainEnd, ChainError>
     ensures steps { IfOk result (λ end. end.steps ≡ player.steps) }
     ensures replies { IfOk result (λ end. end.replies ≡ player.replies) }
     ensures plays { IfOk result (λ end. play [] start end.steps ≡ Ends end.replies player.state) }
-    ensures ended { IfOk result (λ end. end.ended ≡ is_told (length workers.items - 1) end.steps end.replies) }
-    ensures flows { IfOk result (λ end. Flows (stages_of workers.items) (input_of workers.items) end.output end.steps) }
-    ensures composed { IfOk result (λ end. end.ended ≡ true → end.output ≡ composed (stages_of workers.items) (input_of workers.items)) }
+    ensures ended { IfOk result (λ end.
+        end.ended ≡ is_told (length workers.items - 1) end.steps end.replies) }
+    ensures flows { IfOk result (λ end.
+        Flows (stages_of workers.items) (input_of workers.items) end.output end.steps) }
+    ensures composed { IfOk result (λ end. end.ended ≡ true →
+        end.output ≡ composed (stages_of workers.items) (input_of workers.items)) }
     ensures within { IfOk result (λ end. length end.steps ≤ 4294967295) }
     ensures error { IfErr result (λ error. error ≡ ChainError.OutOfMemory) }
 {
     conservation();
     let stream = workers.len() as u32 - 2;
-    let Some(sink) = take_sink(workers) else {
-        return Err(ChainError::OutOfMemory);
-    };
+    let sink = take_sink(workers);
     let ended = sink.closed;
     let mut output = sink.made;
     player.add_received(stream, stream + 1, &mut output)?;
@@ -343,8 +357,10 @@ fn turn_at(
 ) -> Result<ChainTurn, OutOfMemory>
     requires chunk { (16 ≤ chunk) × (chunk ≤ 64) }
     requires there { who < length workers.old }
+    requires joined { IsJoined player.old workers.old }
     requires room { HasRoom 2 player.old }
-    ensures turned { IfOk result (λ turn. Turned who chunk (worker_at workers.old who) player.old turn
+    ensures turned { IfOk result (λ turn.
+        Turned who chunk (worker_at workers.old who) player.old turn
         (worker_at workers.new who) player.new) }
     ensures others { (g : ℕ) → g ≢ who → worker_at workers.new g ≡ worker_at workers.old g }
     ensures many { length workers.new ≡ length workers.old }
@@ -372,8 +388,10 @@ fn turn_in(
     ensures going { OnOk result (IsGoing player.new workers.new) }
     ensures stages { OnOk result (stages_of workers.new ≡ stages_of workers.old) }
     ensures input { OnOk result (input_of workers.new ≡ input_of workers.old) }
-    ensures turns { IfOk result (λ turn. Turns (length workers.old - 1) chunk who turn player.old player.new) }
-    ensures lowers { IfOk result (λ turn. Lowers who turn player.old.state workers.old player.new.state workers.new) }
+    ensures turns { IfOk result (λ turn.
+        Turns (length workers.old - 1) chunk who turn player.old player.new) }
+    ensures lowers { IfOk result (λ turn.
+        Lowers who turn player.old.state workers.old player.new.state workers.new) }
     ensures short { OnOk result (length player.new.steps ≤ length player.old.steps + 2) }
     ensures others { (g : ℕ) → g ≢ who → worker_at workers.new g ≡ worker_at workers.old g }
     ensures many { length workers.new ≡ length workers.old }
@@ -400,7 +418,8 @@ fn take_turns(chain: &mut Chain, schedule: &[u32]) -> Result<(), ChainError>
 // One round of all guests, which leaves less to do, in at most two steps for each of ten guests.
 fn take_round(chain: &mut Chain) -> Result<(), ChainError>
     requires runs { chain.old.failed ≡ false }
-    requires untold { is_told (length chain.old.workers - 1) chain.old.play.steps chain.old.play.replies ≡ false }
+    requires untold { is_told (length chain.old.workers - 1)
+        chain.old.play.steps chain.old.play.replies ≡ false }
     requires room { HasRoom 20 chain.old.play }
     ensures error { IfErr result (λ error. error ≡ ChainError.OutOfMemory) }
     ensures turns { OnOk result (AreSomeTurns (length chain.old.workers - 1) chain.old.chunk
@@ -434,14 +453,16 @@ pub fn chain_run(
         (map (λ s. s % (length stages.now + 2)) schedule.now) end.steps end.replies) }
 
     // It has ended exactly where the last report of the sink says that there is no more.
-    ensures ended { IfOk result (λ end. end.ended ≡ is_told (length stages.now + 1) end.steps end.replies) }
+    ensures ended { IfOk result (λ end.
+        end.ended ≡ is_told (length stages.now + 1) end.steps end.replies) }
 
     // What stream 0 received is a front of the input, and what each stream behind a stage received a front
     // of what the stage makes of what was received before it. The output is what the last one received.
     ensures flows { IfOk result (λ end. Flows stages.now input.items end.output end.steps) }
 
     // Where the chain has ended, the output is what the stages make of the input.
-    ensures composed { IfOk result (λ end. end.ended ≡ true → end.output ≡ composed stages.now input.items) }
+    ensures composed { IfOk result (λ end. end.ended ≡ true →
+        end.output ≡ composed stages.now input.items) }
 
     // A run of which the laws speak: where its play has no room for a turn of the schedule, memory is wanting.
     ensures within { IfOk result (λ end. length end.steps ≤ 4294967295) }
@@ -463,12 +484,14 @@ pub fn chain_all(
 
     // The steps are those that make the chain and then those of guests' turns, and the replies those of the
     // machine's play.
-    ensures runs { IfOk result (λ end. (whos : List ℕ) × IsRun (length stages.now) chunk whos end.steps end.replies) }
+    ensures runs { IfOk result (λ end. (whos : List ℕ)
+        × IsRun (length stages.now) chunk whos end.steps end.replies) }
     ensures flows { IfOk result (λ end. Flows stages.now input.items end.output end.steps) }
 
     // It ends: by its last report the sink was told that there is no more. The output is what the stages make
     // of the input.
-    ensures told { IfOk result (λ end. is_told (length stages.now + 1) end.steps end.replies ≡ true) }
+    ensures told { IfOk result (λ end.
+        is_told (length stages.now + 1) end.steps end.replies ≡ true) }
     ensures ended { IfOk result (λ end. end.ended ≡ true) }
     ensures composed { IfOk result (λ end. end.output ≡ composed stages.now input.items) }
 

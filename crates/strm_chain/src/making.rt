@@ -12,12 +12,11 @@ ghost use Rattle.strm_chain.specs.Making.{AreMade, MakesPair, source_of, AreJoin
 use crate::lists::Bytes8;
 use crate::playing::Player;
 use crate::stages::{Stage, Work};
-use crate::workers::{BYTES, Doing, Worker};
+use crate::workers::{Doing, Worker};
 use std::alloc::Global;
 use strm_codes::counts::OutOfMemory;
 use strm_laws::laws::conservation;
-use strm_machine::replies::{Pair, Reply};
-use strm_machine::steps::Step;
+use strm_machine::replies::Pair;
 
 // The bytes of a guest's memory.
 const MEMORY: u32 = 8_192;
@@ -53,9 +52,12 @@ fn add_source(
     input: Vec<u8>,
 ) -> Result<u32, OutOfMemory>
     requires none { workers.old.items ≡ [] }
+    requires made { (guests : ℕ) × (1 < guests) × AreMade guests 0 player.old }
     requires room { HasRoom 1 player.old }
-    ensures { (stages : List Stage) (guests : ℕ) → AreMade guests 0 player.old → IfOk result (λ read.
-        AreJoined input.items 0 read stages player.new workers.new.items × AreMade guests 1 player.new) }
+    ensures { (stages : List Stage) (guests : ℕ) → AreMade guests 0 player.old
+        → IfOk result (λ read.
+        AreJoined input.items 0 read stages player.new workers.new.items
+        × AreMade guests 1 player.new) }
 {
     let pair = make_pair(player, 0)?;
     add_worker(workers, source(input, pair.write))?;
@@ -72,10 +74,15 @@ fn add_stage(
     read: u32,
 ) -> Result<u32, OutOfMemory>
     requires few { length workers.old.items ≤ 8 }
+    requires made { (guests : ℕ) × (length workers.old.items + 1 < guests)
+        × AreMade guests (length workers.old.items) player.old }
     requires room { HasRoom 1 player.old }
-    ensures { (input : List ℕ) (stages : List Stage) (guests i : ℕ) → i < length stages → stage ≡ slice_index_or stages i Copy
-        → AreJoined input i read stages player.old workers.old.items → AreMade guests (i + 1) player.old → IfOk result (λ next.
-        AreJoined input (i + 1) next stages player.new workers.new.items × AreMade guests (i + 2) player.new) }
+    ensures { (input : List ℕ) (stages : List Stage) (guests i : ℕ) → i < length stages
+        → stage ≡ slice_index_or stages i Copy
+        → AreJoined input i read stages player.old workers.old.items
+        → AreMade guests (i + 1) player.old → IfOk result (λ next.
+        AreJoined input (i + 1) next stages player.new workers.new.items
+        × AreMade guests (i + 2) player.new) }
 {
     let pair = make_pair(player, workers.len() as u32)?;
     add_worker(workers, new_worker(alloc, stage, read, Some(pair.write)))?;
@@ -96,29 +103,23 @@ fn add_guests(player: &mut Player, count: u32) -> Result<(), OutOfMemory>
 
 // A guest more; the answer is its number.
 fn add_guest(player: &mut Player) -> Result<u32, OutOfMemory>
-    requires { HasRoom 1 player.old }
+    requires made { (n : ℕ) × (n ≤ 9) × AreMade n 0 player.old }
+    requires room { HasRoom 1 player.old }
     ensures { (n : ℕ) → AreMade n 0 player.old → OnOk result (AreMade (n + 1) 0 player.new) }
 {
-    match player.play(&Step::Guest { size: MEMORY }) {
-        Ok(Reply::Number(number)) => Ok(number),
-        _ => Err(OutOfMemory),
-    }
+    player.played();
+    player.add_guest(MEMORY)
 }
 
 // A stream from a guest to the next one.
 fn make_pair(player: &mut Player, writer: u32) -> Result<Pair, OutOfMemory>
     requires few { writer ≤ 8 }
+    requires made { (guests : ℕ) × (writer + 1 < guests) × AreMade guests writer player.old }
     requires room { HasRoom 1 player.old }
     ensures { IfOk result (λ pair. MakesPair writer player.old pair player.new) }
 {
-    match player.play(&Step::Between {
-        writer,
-        reader: writer + 1,
-        ty: BYTES,
-    }) {
-        Ok(Reply::Pair(pair)) => Ok(pair),
-        _ => Err(OutOfMemory),
-    }
+    player.played();
+    player.new_between(writer, writer + 1)
 }
 
 // The source, which has all its bytes to write.

@@ -2,28 +2,36 @@
 //!
 //! Meaning: `Playing.antt`, and `play` of `Plays.antt` of `strm_machine`. Ours.
 
-ghost use Rattle.std.specs.Prelude.{◌≡◌, ◌≤◌, ◌<◌, ◌∷◌, ◌++◌, ◌-◌, [], true, false, OnOk, OnErr, IfOk, IfSome, length, take};
+ghost use Rattle.std.specs.Prelude.{◌≡◌, ◌≤◌, ◌<◌, ◌∷◌, ◌++◌, ◌-◌, [], true, false, OnOk, IfOk, length, take};
 ghost use Rattle.strm_machine.specs.Acts.{act_of};
 ghost use Rattle.strm_machine.specs.State.{memory_in, stream_at};
 ghost use Rattle.strm_laws.specs.Laws.{HasBytes};
 ghost use Rattle.strm_machine.specs.Reactions.{react, goes};
-ghost use Rattle.strm_machine.specs.Plays.{is_settled};
+ghost use Rattle.strm_machine.specs.declared.replies.Reply.TheVariants as replies;
+ghost use Rattle.strm_machine.specs.declared.steps.Step.TheVariants as steps;
 ghost use Rattle.strm_host_machine.specs.Steps.{touches};
 ghost use Rattle.strm_host_machine.specs.Does.{Fits};
 ghost use Rattle.strm_transmit.specs.Hosted.{lone};
-ghost use Rattle.strm_transmit.specs.Guests.{is_of_guests, nobody};
-ghost use Rattle.strm_chain.specs.Playing.{Follows};
+ghost use Rattle.strm_transmit.specs.Guests.{nobody};
+ghost use Rattle.strm_transmit.specs.declared.errors.StoreError.TheVariants.{OutOfMemory as NoMemory};
+ghost use Rattle.strm_chain.specs.Playing.{bytes_type, operation, IsDone, IsAnswered, Follows};
 
 use crate::lists::Bytes8;
 use std::alloc::Global;
 use std::marker::Model;
 use strm_buffers::hosts::Hosts;
+use strm_codes::codes::{ReturnCode, TransmitIndex};
 use strm_codes::counts::OutOfMemory;
+use strm_codes::payloads::Payload;
+use strm_codes::scalars::Scalar;
 use strm_lines::lists::{Replies, Steps};
+use strm_machine::acts::NamedEnd;
+use strm_machine::chunks::Chunk;
 use strm_machine::limits::Limits;
-use strm_machine::replies::Reply;
+use strm_machine::replies::{Pair, Reply};
 use strm_machine::steps::Step;
-use strm_transmit::steps::apply;
+use strm_machine::streams::Side;
+use strm_transmit::errors::StoreError;
 use strm_transmit::store::Store;
 
 // The limits of a chain's store.
@@ -38,7 +46,13 @@ const MAX_STEPS: usize = 4_294_967_295;
 // The most steps of a turn.
 const TURN_STEPS: usize = 2;
 
-// A store among no host ends, with the steps that it was played and their replies.
+// The streams of a chain are of bytes.
+const BYTE: Payload = Payload::One(Scalar::U8);
+
+const BYTES: TransmitIndex = TransmitIndex::Stream(BYTE);
+
+// A store among no host ends, with the steps that it was played and their replies. Each of its calls is one
+// step, which the machine does; where an allocation is refused, all that was played is forgotten.
 #[derive(Drop)]
 pub(crate) struct Player {
     alloc: Global,
@@ -77,28 +91,188 @@ impl Player {
         }
     }
 
-    // Plays one step of guests. Where an allocation is refused, all that was played is forgotten.
-    pub(crate) fn play(&mut self, step: &Step) -> Result<Reply, OutOfMemory>
-        requires guests { is_of_guests (act_of step.now) ≡ true }
+    // A guest more; the answer is its number.
+    pub(crate) fn add_guest(&mut self, size: u32) -> Result<u32, OutOfMemory>
+        requires done { IsDone self.old.state (steps.Guest size) }
         requires room { HasRoom 1 self.old }
-        ensures ok { IfOk result (λ reply. Adds self.old self.new step.now reply) }
-        ensures err { OnErr result (self.new ≡ no_play) }
+        ensures { IfOk result (λ number.
+            Adds self.old self.new (steps.Guest size) (replies.Number number)) }
     {
-        match play_once(
+        let number = match self.store.add_guest(size) {
+            Ok(number) => number,
+            Err(error) => return Err(wanting(error)),
+        };
+        let step = Step::Guest { size };
+        keep(
             self.alloc,
             &mut self.store,
             &mut self.steps,
             &mut self.replies,
-            step,
-        ) {
-            Ok(reply) => Ok(reply),
-            Err(error) => {
-                self.store = Store::new(self.alloc, 0, LIMITS);
-                self.steps = Steps::new(self.alloc);
-                self.replies = Replies::new(self.alloc);
-                Err(error)
-            }
-        }
+            &step,
+            &Reply::Number(number),
+        )?;
+        Ok(number)
+    }
+
+    // A stream of bytes from a guest to another.
+    pub(crate) fn new_between(&mut self, writer: u32, reader: u32) -> Result<Pair, OutOfMemory>
+        requires done { IsDone self.old.state (steps.Between writer reader bytes_type) }
+        requires room { HasRoom 1 self.old }
+        ensures { IfOk result (λ pair.
+            Adds self.old self.new (steps.Between writer reader bytes_type) (replies.Pair pair)) }
+    {
+        let pair = match self.store.new_between(writer, reader, BYTES) {
+            Ok(pair) => pair,
+            Err(error) => return Err(wanting(error)),
+        };
+        let step = Step::Between {
+            writer,
+            reader,
+            ty: BYTES,
+        };
+        keep(
+            self.alloc,
+            &mut self.store,
+            &mut self.steps,
+            &mut self.replies,
+            &step,
+            &Reply::Pair(pair),
+        )?;
+        Ok(pair)
+    }
+
+    // A read or a write.
+    #[inline(always)]
+    pub(crate) fn operate(
+        &mut self,
+        side: Side,
+        guest: u32,
+        handle: u32,
+        address: u32,
+        count: u32,
+    ) -> Result<ReturnCode, OutOfMemory>
+        requires done { IsDone self.old.state (operation side guest handle address count) }
+        requires room { HasRoom 1 self.old }
+        ensures { IfOk result (λ code. Adds self.old self.new
+            (operation side guest handle address count) (replies.Code code)) }
+    {
+        let code = operate(&mut self.store, side, guest, handle, address, count);
+        let step = operation(side, guest, handle, address, count);
+        keep(
+            self.alloc,
+            &mut self.store,
+            &mut self.steps,
+            &mut self.replies,
+            &step,
+            &code_reply(&code),
+        )?;
+        Ok(code)
+    }
+
+    // An event.
+    #[inline(always)]
+    pub(crate) fn take_event(
+        &mut self,
+        guest: u32,
+        handle: u32,
+    ) -> Result<Option<ReturnCode>, OutOfMemory>
+        requires done { IsDone self.old.state (steps.Event guest handle) }
+        requires room { HasRoom 1 self.old }
+        ensures { IfOk result (λ code.
+            Adds self.old self.new (steps.Event guest handle) (replies.Event code)) }
+    {
+        let code = take_event(&mut self.store, guest, handle);
+        let step = Step::Event { guest, handle };
+        keep(
+            self.alloc,
+            &mut self.store,
+            &mut self.steps,
+            &mut self.replies,
+            &step,
+            &event_reply(&code),
+        )?;
+        Ok(code)
+    }
+
+    // Bytes are put into a guest's memory.
+    #[inline(always)]
+    pub(crate) fn poke(
+        &mut self,
+        guest: u32,
+        address: u32,
+        bytes: &Chunk,
+    ) -> Result<(), OutOfMemory>
+        requires done { IsDone self.old.state (steps.Poke guest address bytes.now) }
+        requires room { HasRoom 1 self.old }
+        ensures { OnOk result (Adds self.old self.new
+            (steps.Poke guest address bytes.now) replies.Done) }
+    {
+        poke(&mut self.store, guest, address, bytes);
+        let bytes = *bytes;
+        let step = Step::Poke {
+            guest,
+            address,
+            bytes,
+        };
+        keep(
+            self.alloc,
+            &mut self.store,
+            &mut self.steps,
+            &mut self.replies,
+            &step,
+            &Reply::Done,
+        )?;
+        Ok(())
+    }
+
+    // At most 64 bytes of a guest's memory.
+    #[inline(always)]
+    pub(crate) fn dump(&mut self, guest: u32, address: u32, len: u32) -> Result<Chunk, OutOfMemory>
+        requires few { len ≤ 64 }
+        requires done { IsDone self.old.state (steps.Dump guest address len) }
+        requires room { HasRoom 1 self.old }
+        ensures { IfOk result (λ bytes.
+            Adds self.old self.new (steps.Dump guest address len) (replies.Bytes bytes)) }
+    {
+        let bytes = dump(&self.store, guest, address, len);
+        let step = Step::Dump {
+            guest,
+            address,
+            len,
+        };
+        keep(
+            self.alloc,
+            &mut self.store,
+            &mut self.steps,
+            &mut self.replies,
+            &step,
+            &Reply::Bytes(bytes),
+        )?;
+        Ok(bytes)
+    }
+
+    // A write end is dropped.
+    pub(crate) fn drop_writable(&mut self, guest: u32, handle: u32) -> Result<(), OutOfMemory>
+        requires done { IsDone self.old.state (steps.DropWrite guest bytes_type handle) }
+        requires room { HasRoom 1 self.old }
+        ensures { OnOk result (Adds self.old self.new
+            (steps.DropWrite guest bytes_type handle) replies.Done) }
+    {
+        drop_writable(self.alloc, &mut self.store, guest, handle);
+        let step = Step::DropWrite {
+            guest,
+            ty: BYTES,
+            handle,
+        };
+        keep(
+            self.alloc,
+            &mut self.store,
+            &mut self.steps,
+            &mut self.replies,
+            &step,
+            &Reply::Done,
+        )?;
+        Ok(())
     }
 
     // Whether there is room for the steps of a turn.
@@ -117,12 +291,15 @@ impl Player {
         guest: u32,
         bytes: &mut Bytes8,
     ) -> Result<(), OutOfMemory>
+        requires stream { stream < length self.now.state.streams }
+        requires guest { guest < length self.now.state.guests }
         ensures { OnOk result (bytes.new ≡ bytes.old
-            ++ take ((stream_at self.now.state stream).received - length bytes.old) (memory_in self.now.state.guests guest)) }
+            ++ take ((stream_at self.now.state stream).received - length bytes.old)
+            (memory_in self.now.state.guests guest)) }
     {
         let (Some(received), Some(memory)) = (self.store.moved(stream), self.store.memory(guest))
         else {
-            return Err(OutOfMemory);
+            unreachable!()
         };
         let count = received.saturating_sub(bytes.as_slice().len() as u128);
         let (front, _) = memory.split_at(count.min(memory.len() as u128) as usize);
@@ -130,6 +307,7 @@ impl Player {
     }
 
     // What was played led to the state. It does nothing.
+    #[inline(always)]
     pub(crate) fn played(&self)
         ensures { IsPlayed self.now }
     {
@@ -146,7 +324,18 @@ impl Player {
     }
 }
 
+// All that was played is forgotten. Apart from the code that plays.
+#[inline(never)]
+fn forget(alloc: Global, store: &mut Store, steps: &mut Steps, replies: &mut Replies)
+    ensures { Follows steps.new replies.new store.new }
+{
+    *store = Store::new(alloc, 0, LIMITS);
+    *steps = Steps::new(alloc);
+    *replies = Replies::new(alloc);
+}
+
 // What a step puts into a memory is bytes. It does nothing.
+#[inline(always)]
 fn sound(step: &Step)
     ensures { HasBytes step.now }
 {
@@ -156,30 +345,49 @@ fn sound(step: &Step)
     }
 }
 
-// Plays one step, and keeps it and its reply.
-fn play_once(
+// Keeps a step that was done, and its reply. Where an allocation is refused, all that was played is forgotten.
+#[inline(always)]
+fn keep(
     alloc: Global,
     store: &mut Store,
     steps: &mut Steps,
     replies: &mut Replies,
     step: &Step,
-) -> Result<Reply, OutOfMemory>
-    requires follows { Follows steps.old replies.old store.old }
-    requires guests { is_of_guests (act_of step.now) ≡ true }
-    requires room { length steps.old < 4294967295 }
-    ensures follows { OnOk result (Follows steps.new replies.new store.new) }
+    reply: &Reply,
+) -> Result<(), OutOfMemory>
+    requires played { IsAnswered steps.old replies.old step.now reply.now store.old }
+    ensures follows { Follows steps.new replies.new store.new }
+    ensures store { OnOk result (store.new ≡ store.old) }
     ensures steps { OnOk result (steps.new ≡ steps.old ++ step.now ∷ []) }
-    ensures replies { IfOk result (λ reply. replies.new ≡ replies.old ++ reply ∷ []) }
-    ensures reacts { IfOk result (λ reply. react store.old step.now ≡ goes reply store.new) }
+    ensures replies { OnOk result (replies.new ≡ replies.old ++ reply.now ∷ []) }
 {
     sound(step);
-    let reply = answer(alloc, store, step)?;
+    match keep_rows(steps, replies, step, reply) {
+        Ok(()) => Ok(()),
+        Err(error) => {
+            forget(alloc, store, steps, replies);
+            Err(error)
+        }
+    }
+}
+
+// Keeps a step and its reply, as long as there is memory.
+#[inline(always)]
+fn keep_rows(
+    steps: &mut Steps,
+    replies: &mut Replies,
+    step: &Step,
+    reply: &Reply,
+) -> Result<(), OutOfMemory>
+    ensures steps { OnOk result (steps.new ≡ steps.old ++ step.now ∷ []) }
+    ensures replies { OnOk result (replies.new ≡ replies.old ++ reply.now ∷ []) }
+{
     keep_step(steps, step)?;
-    keep_reply(replies, &reply)?;
-    Ok(reply)
+    keep_reply(replies, reply)
 }
 
 // Keeps a step.
+#[inline(always)]
 fn keep_step(steps: &mut Steps, step: &Step) -> Result<(), OutOfMemory>
     ensures { OnOk result (steps.new ≡ steps.old ++ step.now ∷ []) }
 {
@@ -187,26 +395,154 @@ fn keep_step(steps: &mut Steps, step: &Step) -> Result<(), OutOfMemory>
 }
 
 // Keeps a reply.
+#[inline(always)]
 fn keep_reply(replies: &mut Replies, reply: &Reply) -> Result<(), OutOfMemory>
     ensures { OnOk result (replies.new ≡ replies.old ++ reply.now ∷ []) }
 {
     replies.push(*reply)
 }
 
-// Does one step among no host ends.
-fn answer(alloc: Global, store: &mut Store, step: &Step) -> Result<Reply, OutOfMemory>
+// The read or write of an end.
+#[inline(always)]
+fn operation(side: Side, guest: u32, handle: u32, address: u32, count: u32) -> Step
+    ensures { result ≡ operation side guest handle address count }
+{
+    match side {
+        Side::Writing => Step::Write {
+            guest,
+            ty: BYTES,
+            handle,
+            address,
+            count,
+        },
+        Side::Reading => Step::Read {
+            guest,
+            ty: BYTES,
+            handle,
+            address,
+            count,
+        },
+    }
+}
+
+// Where the store does not do a step that the machine does, memory is wanting.
+fn wanting(error: StoreError) -> OutOfMemory
+    requires { error ≡ NoMemory }
+{
+    match error {
+        StoreError::OutOfMemory => OutOfMemory,
+        StoreError::Refused(_)
+        | StoreError::HostFailed { .. }
+        | StoreError::HostBroke { .. }
+        | StoreError::BadItem { .. }
+        | StoreError::StoreTrapped => unreachable!(),
+    }
+}
+
+// A code, as a reply.
+#[inline(always)]
+fn code_reply(code: &ReturnCode) -> Reply
+    ensures { result ≡ replies.Code code.now }
+{
+    Reply::Code(*code)
+}
+
+// What an end was told, as a reply.
+#[inline(always)]
+fn event_reply(code: &Option<ReturnCode>) -> Reply
+    ensures { result ≡ replies.Event code.now }
+{
+    Reply::Event(*code)
+}
+
+// A read or a write, done by the store.
+#[inline(always)]
+fn operate(
+    store: &mut Store,
+    side: Side,
+    guest: u32,
+    handle: u32,
+    address: u32,
+    count: u32,
+) -> ReturnCode
     requires fits { Fits store.old nobody }
-    requires alone { touches (lone store.old) (act_of step.now) ≡ false }
+    requires done { IsDone store.old (operation side guest handle address count) }
     ensures fits { Fits store.new nobody }
-    ensures settled { IfOk result (λ reply. is_settled reply ≡ true) }
-    ensures reacts { IfOk result (λ reply. react store.old step.now ≡ goes reply store.new) }
+    ensures reacts { react store.old (operation side guest handle address count)
+        ≡ goes (replies.Code result) store.new }
+{
+    let end = NamedEnd {
+        guest,
+        ty: BYTES,
+        handle,
+    };
+    match store.operate_alone(side, &end, address, count) {
+        Ok(code) => code,
+        Err(_) => unreachable!(),
+    }
+}
+
+// An event.
+#[inline(always)]
+fn take_event(store: &mut Store, guest: u32, handle: u32) -> Option<ReturnCode>
+    requires fits { Fits store.old nobody }
+    requires done { IsDone store.old (steps.Event guest handle) }
+    ensures fits { Fits store.new nobody }
+    ensures reacts { react store.old (steps.Event guest handle)
+        ≡ goes (replies.Event result) store.new }
+{
+    match store.take_event(guest, handle) {
+        Ok(code) => code,
+        Err(_) => unreachable!(),
+    }
+}
+
+// Bytes are put into a memory.
+#[inline(always)]
+fn poke(store: &mut Store, guest: u32, address: u32, bytes: &Chunk)
+    requires fits { Fits store.old nobody }
+    requires done { IsDone store.old (steps.Poke guest address bytes.now) }
+    ensures fits { Fits store.new nobody }
+    ensures reacts { react store.old (steps.Poke guest address bytes.now)
+        ≡ goes replies.Done store.new }
+{
+    match store.poke(guest, address, bytes) {
+        Ok(()) => {}
+        Err(_) => unreachable!(),
+    }
+}
+
+// Bytes of a memory.
+#[inline(always)]
+fn dump(store: &Store, guest: u32, address: u32, len: u32) -> Chunk
+    requires few { len ≤ 64 }
+    requires done { IsDone store.now (steps.Dump guest address len) }
+    ensures { react store.now (steps.Dump guest address len)
+        ≡ goes (replies.Bytes result) store.now }
+{
+    match store.dump(guest, address, len) {
+        Ok(bytes) => bytes,
+        Err(_) => unreachable!(),
+    }
+}
+
+// A write end is dropped, among no host ends.
+#[inline(never)]
+fn drop_writable(alloc: Global, store: &mut Store, guest: u32, handle: u32)
+    requires fits { Fits store.old nobody }
+    requires alone { touches (lone store.old) (act_of (steps.DropWrite guest bytes_type handle))
+        ≡ false }
+    requires done { IsDone store.old (steps.DropWrite guest bytes_type handle) }
+    ensures fits { Fits store.new nobody }
+    ensures reacts { react store.old (steps.DropWrite guest bytes_type handle)
+        ≡ goes replies.Done store.new }
 {
     let mut hosts = Hosts {
         writers: Vec::new(alloc),
         readers: Vec::new(alloc),
     };
-    match apply(store, &mut hosts, step) {
-        Ok(reply) => Ok(reply),
-        Err(_) => Err(OutOfMemory),
+    match store.stream_drop_writable(&mut hosts, guest, BYTE, handle) {
+        Ok(()) => {}
+        Err(_) => unreachable!(),
     }
 }

@@ -64,11 +64,34 @@ impl Work {
         ensures work { OnOk result (self.new ≡ left self.old bytes.now) }
         ensures out { OnOk result (out.new ≡ out.old ++ done self.old bytes.now) }
     {
+        match self.stage {
+            Stage::Copy => {
+                self.take_all(bytes);
+                out.extend(bytes)
+            }
+            _ => self.go_on_by_bytes(bytes, out),
+        }
+    }
+
+    // The same byte by byte.
+    fn go_on_by_bytes(&mut self, bytes: &[u8], out: &mut Bytes8) -> Result<(), OutOfMemory>
+        ensures work { OnOk result (self.new ≡ left self.old bytes.now) }
+        ensures out { OnOk result (out.new ≡ out.old ++ done self.old bytes.now) }
+    {
         for byte in bytes {
             self.put(*byte, out)?;
             self.take(*byte);
         }
         Ok(())
+    }
+
+    // These bytes were taken.
+    fn take_all(&mut self, bytes: &[u8])
+        ensures { self.new ≡ left self.old bytes.now }
+    {
+        for byte in bytes {
+            self.take(*byte);
+        }
     }
 
     // Puts out what the stage makes of one byte.

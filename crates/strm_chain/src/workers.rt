@@ -4,30 +4,23 @@
 //! those that were handed over; so a write that is told of fewer items than it asked for is followed by one
 //! that begins behind those. Ours.
 
-ghost use Rattle.std.specs.Prelude.{◌≡◌, ◌≤◌, ◌+◌, ◌++◌, ◌⊎◌, List, ℕ, length, take, drop, true, false, None, IfOk, OnOk, IfSome};
-ghost use Rattle.strm_machine.specs.Acts.{act_of};
+ghost use Rattle.std.specs.Prelude.{◌≡◌, ◌≤◌, ◌+◌, ◌++◌, ◌⊎◌, ℕ, length, take, drop, true, false, None, IfOk, OnOk, IfSome, IsSome};
+ghost use Rattle.strm_codes.specs.Codes.{count_of};
+ghost use Rattle.strm_codes.specs.declared.codes.ReturnCode.TheVariants as codes;
 ghost use Rattle.strm_machine.specs.declared.steps.Step.TheVariants as steps;
-ghost use Rattle.strm_machine.specs.declared.replies.Reply.TheVariants as replies;
-ghost use Rattle.strm_transmit.specs.Guests.{is_of_guests};
-ghost use Rattle.strm_chain.specs.Playing.{Adds, HasRoom};
-ghost use Rattle.strm_chain.specs.Stages.{left, done};
+ghost use Rattle.strm_chain.specs.Playing.{HasRoom, IsDone};
+ghost use Rattle.strm_chain.specs.Keeping.{IsGuest};
 ghost use Rattle.strm_chain.specs.Turning.{IsCount};
-ghost use Rattle.strm_chain.specs.Turned.{Turned, TakesIn, HandsOver};
+ghost use Rattle.strm_chain.specs.Turned.{Turned, EndsRead, TakesIn, HandsOver};
 ghost use Rattle.strm_chain.specs.declared.workers.Doing.TheVariants as doing;
 
 use crate::lists::Bytes8;
 use crate::playing::Player;
 use crate::stages::Work;
-use strm_codes::codes::{ReturnCode, TransmitIndex};
+use strm_codes::codes::ReturnCode;
 use strm_codes::counts::OutOfMemory;
-use strm_codes::payloads::Payload;
-use strm_codes::scalars::Scalar;
 use strm_machine::chunks::Chunk;
-use strm_machine::replies::Reply;
-use strm_machine::steps::Step;
-
-// The streams of a chain are of bytes.
-pub(crate) const BYTES: TransmitIndex = TransmitIndex::Stream(Payload::One(Scalar::U8));
+use strm_machine::streams::Side;
 
 // Where a guest reads to.
 const READ_AT: u32 = 0;
@@ -83,8 +76,10 @@ pub(crate) fn take_turn(
     chunk: u32,
 ) -> Result<ChainTurn, OutOfMemory>
     requires chunk { (16 ≤ chunk) × (chunk ≤ 64) }
+    requires guest { IsGuest guest worker.old player.old }
     requires room { HasRoom 2 player.old }
-    ensures { IfOk result (λ turn. Turned guest chunk worker.old player.old turn worker.new player.new) }
+    ensures { IfOk result (λ turn.
+        Turned guest chunk worker.old player.old turn worker.new player.new) }
 {
     match worker.doing {
         Doing::Ended => Ok(ChainTurn::Idle),
@@ -99,11 +94,15 @@ pub(crate) fn take_turn(
 }
 
 // The bytes that are to be written next, if there are any: at most `chunk`.
+#[inline(always)]
 fn next_bytes(worker: &Worker, chunk: u32) -> Option<Chunk>
     requires { (16 ≤ chunk) × (chunk ≤ 64) }
     ensures count { IfSome result (λ bytes. IsCount chunk (length bytes)) }
-    ensures value { IfSome result (λ bytes. bytes ≡ take chunk (drop worker.now.sent worker.now.made)) }
-    ensures none { result ≡ None → worker.now.write ≡ None ⊎ (length worker.now.made ≤ worker.now.sent) }
+    ensures value { IfSome result (λ bytes.
+        bytes ≡ take chunk (drop worker.now.sent worker.now.made)) }
+    ensures none { result ≡ None → worker.now.write ≡ None
+        ⊎ (length worker.now.made ≤ worker.now.sent) }
+    ensures some { IfSome result (λ _. IsSome worker.now.write) }
 {
     let made = worker.made.as_slice();
     if worker.write.is_none() || worker.sent >= made.len() {
@@ -120,15 +119,18 @@ fn hear_of_read(
     worker: &mut Worker,
     guest: u32,
 ) -> Result<ChainTurn, OutOfMemory>
+    requires guest { IsGuest guest worker.old player.old }
     requires waits { worker.old.doing ≡ doing.Reading }
     requires room { HasRoom 2 player.old }
-    ensures { (chunk : ℕ) → IfOk result (λ turn. Turned guest chunk worker.old player.old turn worker.new player.new) }
+    ensures { (chunk : ℕ) → IfOk result (λ turn.
+        Turned guest chunk worker.old player.old turn worker.new player.new) }
 {
     let Some(handle) = worker.read else {
-        return Err(OutOfMemory);
+        unreachable!()
     };
-    match play_event(player, guest, handle)? {
+    match player.take_event(guest, handle)? {
         Some(code) => {
+            player.played();
             take_read(player, worker, guest, code)?;
             Ok(ChainTurn::Moved)
         }
@@ -142,16 +144,19 @@ fn hear_of_write(
     worker: &mut Worker,
     guest: u32,
 ) -> Result<ChainTurn, OutOfMemory>
+    requires guest { IsGuest guest worker.old player.old }
     requires waits { worker.old.doing ≡ doing.Writing }
     requires room { HasRoom 2 player.old }
-    ensures { (chunk : ℕ) → IfOk result (λ turn. Turned guest chunk worker.old player.old turn worker.new player.new) }
+    ensures { (chunk : ℕ) → IfOk result (λ turn.
+        Turned guest chunk worker.old player.old turn worker.new player.new) }
 {
     let Some(handle) = worker.write else {
-        return Err(OutOfMemory);
+        unreachable!()
     };
-    match play_event(player, guest, handle)? {
+    match player.take_event(guest, handle)? {
         Some(code) => {
-            hand_over(worker, code)?;
+            player.played();
+            hand_over(worker, code);
             Ok(ChainTurn::Moved)
         }
         None => Ok(ChainTurn::Idle),
@@ -165,32 +170,30 @@ fn begin_read(
     guest: u32,
     chunk: u32,
 ) -> Result<ChainTurn, OutOfMemory>
+    requires guest { IsGuest guest worker.old player.old }
     requires rests { worker.old.doing ≡ doing.Nothing }
     requires unclosed { worker.old.closed ≡ false }
-    requires some { 1 ≤ chunk }
+    requires some { IsCount 64 chunk }
     requires room { HasRoom 2 player.old }
-    ensures { IfOk result (λ turn. Turned guest chunk worker.old player.old turn worker.new player.new) }
+    ensures { IfOk result (λ turn.
+        Turned guest chunk worker.old player.old turn worker.new player.new) }
 {
     let Some(handle) = worker.read else {
-        return Err(OutOfMemory);
+        unreachable!()
     };
-    let step = Step::Read {
-        guest,
-        ty: BYTES,
-        handle,
-        address: READ_AT,
-        count: chunk,
-    };
-    match play_code(player, &step)? {
-        ReturnCode::Blocked => {
-            worker.doing = Doing::Reading;
-            Ok(ChainTurn::Moved)
+    let code = player.operate(Side::Reading, guest, handle, READ_AT, chunk)?;
+    player.played();
+    match code {
+        ReturnCode::Blocked => worker.doing = Doing::Reading,
+        ReturnCode::Completed(count) => {
+            take_read(player, worker, guest, ReturnCode::Completed(count))?;
         }
-        code => {
-            take_read(player, worker, guest, code)?;
-            Ok(ChainTurn::Moved)
+        ReturnCode::Dropped(count) => {
+            take_read(player, worker, guest, ReturnCode::Dropped(count))?;
         }
+        ReturnCode::Cancelled(_) => unreachable!(),
     }
+    Ok(ChainTurn::Moved)
 }
 
 // The guest writes these bytes.
@@ -201,81 +204,73 @@ fn begin_write(
     chunk: u32,
     bytes: &Chunk,
 ) -> Result<ChainTurn, OutOfMemory>
+    requires guest { IsGuest guest worker.old player.old }
     requires rests { worker.old.doing ≡ doing.Nothing }
+    requires most { chunk ≤ 64 }
     requires some { IsCount chunk (length bytes.now) }
     requires next { bytes.now ≡ take chunk (drop worker.old.sent worker.old.made) }
+    requires writes { IsSome worker.old.write }
     requires room { HasRoom 2 player.old }
-    ensures { IfOk result (λ turn. Turned guest chunk worker.old player.old turn worker.new player.new) }
+    ensures { IfOk result (λ turn.
+        Turned guest chunk worker.old player.old turn worker.new player.new) }
 {
     let Some(handle) = worker.write else {
-        return Err(OutOfMemory);
+        unreachable!()
     };
-    poke(player, guest, bytes)?;
-    let step = Step::Write {
-        guest,
-        ty: BYTES,
-        handle,
-        address: WRITE_AT,
-        count: bytes.as_slice().len() as u32,
-    };
-    match play_code(player, &step)? {
-        ReturnCode::Blocked => {
-            worker.doing = Doing::Writing;
-            Ok(ChainTurn::Moved)
-        }
-        code => {
-            hand_over(worker, code)?;
-            Ok(ChainTurn::Moved)
-        }
+    player.poke(guest, WRITE_AT, bytes)?;
+    player.played();
+    let count = bytes.as_slice().len() as u32;
+    let code = player.operate(Side::Writing, guest, handle, WRITE_AT, count)?;
+    player.played();
+    match code {
+        ReturnCode::Blocked => worker.doing = Doing::Writing,
+        ReturnCode::Completed(count) => hand_over(worker, ReturnCode::Completed(count)),
+        ReturnCode::Dropped(_) => unreachable!(),
+        ReturnCode::Cancelled(_) => unreachable!(),
     }
+    Ok(ChainTurn::Moved)
 }
 
 // The guest has nothing more to read and to write: its write end is dropped.
 fn end(player: &mut Player, worker: &mut Worker, guest: u32) -> Result<ChainTurn, OutOfMemory>
+    requires guest { IsGuest guest worker.old player.old }
     requires rests { worker.old.doing ≡ doing.Nothing }
     requires closed { worker.old.closed ≡ true }
     requires all { worker.old.write ≡ None ⊎ (length worker.old.made ≤ worker.old.sent) }
-    requires room { HasRoom 1 player.old }
-    ensures { (chunk : ℕ) → IfOk result (λ turn. Turned guest chunk worker.old player.old turn worker.new player.new) }
+    requires room { HasRoom 2 player.old }
+    ensures { (chunk : ℕ) → IfOk result (λ turn.
+        Turned guest chunk worker.old player.old turn worker.new player.new) }
 {
     let Some(handle) = worker.write else {
-        return Err(OutOfMemory);
+        unreachable!()
     };
-    let step = Step::DropWrite {
-        guest,
-        ty: BYTES,
-        handle,
-    };
-    play_done(player, &step)?;
+    player.drop_writable(guest, handle)?;
     worker.doing = Doing::Ended;
     Ok(ChainTurn::Moved)
 }
 
 // The guest's read is over with this code: its stage takes what was read. The sink ends once it was told
 // that there is no more.
+#[inline(always)]
 fn take_read(
     player: &mut Player,
     worker: &mut Worker,
     guest: u32,
     code: ReturnCode,
 ) -> Result<(), OutOfMemory>
-    requires { HasRoom 1 player.old }
+    requires ends { EndsRead code }
+    requires few { count_of code ≤ 64 }
+    requires done { IsDone player.old.state (steps.Dump guest 0 (count_of code)) }
+    requires room { HasRoom 1 player.old }
     ensures { OnOk result (TakesIn guest worker.old code player.old worker.new player.new) }
 {
     let (count, dropped) = match code {
         ReturnCode::Completed(count) => (count, false),
         ReturnCode::Dropped(count) => (count, true),
-        _ => return Err(OutOfMemory),
+        ReturnCode::Blocked | ReturnCode::Cancelled(_) => unreachable!(),
     };
-    let step = Step::Dump {
-        guest,
-        address: READ_AT,
-        len: count.as_u32(),
-    };
-    match player.play(&step) {
-        Ok(reply) => take_reply(worker, &reply)?,
-        Err(error) => return Err(error),
-    }
+    let bytes = player.dump(guest, READ_AT, count.as_u32())?;
+    worker.work.go_on(bytes.as_slice(), &mut worker.made)?;
     worker.closed = dropped;
     worker.doing = if dropped && worker.write.is_none() {
         Doing::Ended
@@ -285,82 +280,18 @@ fn take_read(
     Ok(())
 }
 
-// The stage takes the bytes that a reply tells.
-fn take_reply(worker: &mut Worker, reply: &Reply) -> Result<(), OutOfMemory>
-    ensures bytes { OnOk result ((bytes : List ℕ) × (reply.now ≡ replies.Bytes bytes)
-        × (worker.new ≡ record worker.old { work = left worker.old.work bytes; made = worker.old.made ++ done worker.old.work bytes })) }
-{
-    match reply {
-        Reply::Bytes(bytes) => worker.work.go_on(bytes.as_slice(), &mut worker.made),
-        _ => Err(OutOfMemory),
-    }
-}
-
 // The guest's write is over with this code: what it says was handed over.
-fn hand_over(worker: &mut Worker, code: ReturnCode) -> Result<(), OutOfMemory>
-    ensures { OnOk result (HandsOver worker.old code worker.new) }
+#[inline(always)]
+fn hand_over(worker: &mut Worker, code: ReturnCode)
+    requires over { code ≡ codes.Completed (count_of code) }
+    requires within { worker.old.sent + count_of code ≤ length worker.old.made }
+    ensures { HandsOver worker.old code worker.new }
 {
-    let ReturnCode::Completed(count) = code else {
-        return Err(OutOfMemory);
+    let count = match code {
+        ReturnCode::Completed(count) => count.as_usize(),
+        ReturnCode::Blocked | ReturnCode::Dropped(_) | ReturnCode::Cancelled(_) => unreachable!(),
     };
-    let Some(sent) = worker.sent.checked_add(count.as_usize()) else {
-        return Err(OutOfMemory);
-    };
-    worker.sent = sent;
+    let made = worker.made.as_slice().len();
+    worker.sent = made.min(worker.sent.saturating_add(count));
     worker.doing = Doing::Nothing;
-    Ok(())
-}
-
-// Plays a step that is answered by a code.
-fn play_code(player: &mut Player, step: &Step) -> Result<ReturnCode, OutOfMemory>
-    requires guests { is_of_guests (act_of step.now) ≡ true }
-    requires room { HasRoom 1 player.old }
-    ensures ok { IfOk result (λ code. Adds player.old player.new step.now (replies.Code code)) }
-{
-    match player.play(step) {
-        Ok(Reply::Code(code)) => Ok(code),
-        _ => Err(OutOfMemory),
-    }
-}
-
-// Plays a step that is done.
-fn play_done(player: &mut Player, step: &Step) -> Result<(), OutOfMemory>
-    requires guests { is_of_guests (act_of step.now) ≡ true }
-    requires room { HasRoom 1 player.old }
-    ensures ok { OnOk result (Adds player.old player.new step.now replies.Done) }
-{
-    match player.play(step) {
-        Ok(Reply::Done) => Ok(()),
-        _ => Err(OutOfMemory),
-    }
-}
-
-// Plays an event.
-fn play_event(
-    player: &mut Player,
-    guest: u32,
-    handle: u32,
-) -> Result<Option<ReturnCode>, OutOfMemory>
-    requires { HasRoom 1 player.old }
-    ensures ok { IfOk result (λ code. Adds player.old player.new (steps.Event guest handle) (replies.Event code)) }
-{
-    match player.play(&Step::Event { guest, handle }) {
-        Ok(Reply::Event(code)) => Ok(code),
-        _ => Err(OutOfMemory),
-    }
-}
-
-// Bytes are put where the guest writes from.
-fn poke(player: &mut Player, guest: u32, bytes: &Chunk) -> Result<(), OutOfMemory>
-    requires { HasRoom 1 player.old }
-    ensures ok { OnOk result (Adds player.old player.new (steps.Poke guest 64 bytes.now) replies.Done) }
-{
-    play_done(
-        player,
-        &Step::Poke {
-            guest,
-            address: WRITE_AT,
-            bytes: *bytes,
-        },
-    )
 }

@@ -13,6 +13,17 @@ pub add_source-requires-clause-room : goal.add_source-requires-clause-room
 add_source-requires-clause-room c =
     made_room (length c.args.stages.now + 2) 0 1 c.add_guests.new.player c.in_ok-add_guests.ensures (omega (arith, c.requires))
 
+pub add_source-requires-clause-made : goal.add_source-requires-clause-made
+add_source-requires-clause-made c = (length c.args.stages.now + 2, omega arith, c.in_ok-add_guests.ensures)
+
+pub add_stage-requires-clause-made : goal.add_stage-requires-clause-made
+add_stage-requires-clause-made c =
+    let many = c.loop-stage.invariant.joined.many in (
+      length c.args.stages.now + 2,
+      omega (arith, many, c.loop-stage-test.true),
+      subst (λ k. AreMade (length c.args.stages.now + 2) k c.loop-stage.player) (sym many) c.loop-stage.invariant.made,
+    )
+
 pub add_stage-requires-clause-room : goal.add_stage-requires-clause-room
 add_stage-requires-clause-room c =
     made_room (length c.args.stages.now + 2) (c.loop-stage.stage-index + 1) 1 c.loop-stage.player c.loop-stage.invariant.made (omega (arith, c.requires, c.loop-stage-test.true))

@@ -1,12 +1,13 @@
-use Rattle.std.proofs.Common.{◌≡◌, ◌+◌, subst}
-use Rattle.strm_machine.specs.declared.steps.Step.TheVariants as steps
-use Rattle.strm_machine.specs.declared.replies.Reply.TheVariants as replies
-use Rattle.strm_chain.specs.Playing.{Adds, bytes_type}
-use Rattle.strm_chain.proofs.MakingLemmas.{pair_made}
+use Rattle.strm_chain.proofs.LimitLemmas.{pair_done}
+use Rattle.strm_chain.proofs.MakingLemmas.{pair_ok}
 use Rattle.strm_chain.proofs.making.make_pair.Goals as goal
 
-pub returns-in-Ok-Pair : goal.returns-in-Ok-Pair
-returns-in-Ok-Pair c =
-    let told : c.in-Ok-Pair.field-0 ≡ replies.Pair c.in-Ok-Pair.pair = (let e = c.in-Ok-Pair.field-0-is in cc) in
-    pair_made c.args.player.now c.play.new.self c.args.writer c.in-Ok-Pair.pair
-    (subst (Adds c.args.player.now c.play.new.self (steps.Between c.args.writer (c.args.writer + 1) bytes_type)) told c.in-Ok-Pair.ensures.ok)
+pub new_between-requires-clause-done : goal.new_between-requires-clause-done
+new_between-requires-clause-done c =
+    let m = c.requires.made in
+    pair_done m.0 c.args.writer c.args.player.now.state m.2.guests_are m.2.streams_are c.requires.few m.1 m.2.little c.played.ensures.running
+
+pub returns : goal.returns
+returns c =
+    let m = c.requires.made in
+    pair_ok c.new_between.result c.args.player.now c.new_between.new.self c.args.writer m.0 c.requires.few m.1 m.2 c.new_between.ensures
