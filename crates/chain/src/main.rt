@@ -5,8 +5,8 @@ ghost use Rattle.std.specs.Prelude.{◌≡◌, ◌≢◌, ◌⊎◌, ℕ, List, 
 ghost use Rattle.std.specs.Io.KnownBytes.{Appends};
 ghost use Rattle.std.specs.Process.{exit_status};
 ghost use Rattle.strm_input_output.specs.Faults.{Rose, TakesPart};
-ghost use Rattle.strm_chain.specs.Asking.{IsAsked};
-ghost use Rattle.strm_chain.specs.Serving.{IsTooLong, IsOutput, IsStatus, IsFaultless};
+ghost use Rattle.strm_chain.specs.Asking.{IsChainAsked};
+ghost use Rattle.strm_chain.specs.Serving.{IsChainTooLong, IsChainOutput, IsChainStatus, IsChainFaultless};
 
 use std::alloc::Global;
 use std::process::ExitCode;
@@ -23,13 +23,13 @@ fn served<S: Source, K: Sink>(
     source: &mut S,
     sink: &mut K,
 ) -> ExitCode
-    ensures known { IsStatus (exit_status result) }
+    ensures known { IsChainStatus (exit_status result) }
     ensures told { exit_status result ≢ WRITE_FAULT → exit_status result ≢ OUT_OF_MEMORY → (text : List ℕ)
-        × IsOutput (map string_bytes words.now.items) (S.left source.old) (S.left source.new)
+        × IsChainOutput (map string_bytes words.now.items) (S.left source.old) (S.left source.new)
         (S.faults source.old) (S.faults source.new) (exit_status result) text
         × Appends (K.taken sink.old) (K.taken sink.new) text }
     ensures part { exit_status result ≡ WRITE_FAULT → (status : ℕ) × (text : List ℕ)
-        × IsOutput (map string_bytes words.now.items) (S.left source.old) (S.left source.new)
+        × IsChainOutput (map string_bytes words.now.items) (S.left source.old) (S.left source.new)
         (S.faults source.old) (S.faults source.new) status text
         × TakesPart (K.taken sink.old) (K.taken sink.new) text }
     ensures write_fault { exit_status result ≡ WRITE_FAULT →
@@ -39,14 +39,14 @@ fn served<S: Source, K: Sink>(
     // What the stages make of an input within the limit is written, but for faults and running out of memory;
     // else it is told that the input is too long, or how to call the program.
     ensures complete { (input : List ℕ) →
-        IsFaultless (map string_bytes words.now.items) (S.left source.old) input
+        IsChainFaultless (map string_bytes words.now.items) (S.left source.old) input
         (S.faults source.old) (S.faults source.new) (K.faults sink.old) (K.faults sink.new) →
-        ¬ IsTooLong input → (exit_status result ≡ DONE) ⊎ (exit_status result ≡ OUT_OF_MEMORY) }
+        ¬ IsChainTooLong input → (exit_status result ≡ DONE) ⊎ (exit_status result ≡ OUT_OF_MEMORY) }
     ensures too_long { (input : List ℕ) →
-        IsFaultless (map string_bytes words.now.items) (S.left source.old) input
+        IsChainFaultless (map string_bytes words.now.items) (S.left source.old) input
         (S.faults source.old) (S.faults source.new) (K.faults sink.old) (K.faults sink.new) →
-        IsTooLong input → (exit_status result ≡ TOO_LONG) ⊎ (exit_status result ≡ OUT_OF_MEMORY) }
-    ensures usage { ¬ IsAsked (map string_bytes words.now.items) →
+        IsChainTooLong input → (exit_status result ≡ TOO_LONG) ⊎ (exit_status result ≡ OUT_OF_MEMORY) }
+    ensures usage { ¬ IsChainAsked (map string_bytes words.now.items) →
         ¬ Rose (K.faults sink.old) (K.faults sink.new) →
         (exit_status result ≡ USAGE) ⊎ (exit_status result ≡ OUT_OF_MEMORY) }
 {

@@ -7,8 +7,8 @@ ghost use Rattle.std.specs.Process.{exit_status};
 ghost use Rattle.strm_frames.specs.Frames.{Frame};
 ghost use Rattle.strm_lines.specs.Lines.{lines_of};
 ghost use Rattle.strm_input_output.specs.Faults.{Rose, TakesPart};
-ghost use Rattle.strm_mux.specs.Lines.{Puts, IsFirstBad, IsTooLong};
-ghost use Rattle.strm_mux.specs.Serving.{IsSizes, IsOutput, IsStatus, IsFaultless};
+ghost use Rattle.strm_mux.specs.Lines.{Puts, IsFirstBadLaneLine, IsMuxTooLong};
+ghost use Rattle.strm_mux.specs.Serving.{IsSizes, IsMuxOutput, IsMuxStatus, IsMuxFaultless};
 
 use std::alloc::Global;
 use std::process::ExitCode;
@@ -25,13 +25,13 @@ fn served<S: Source, K: Sink>(
     source: &mut S,
     sink: &mut K,
 ) -> ExitCode
-    ensures known { IsStatus (exit_status result) }
+    ensures known { IsMuxStatus (exit_status result) }
     ensures told { exit_status result ≢ WRITE_FAULT → exit_status result ≢ OUT_OF_MEMORY → (text : List ℕ)
-        × IsOutput (map string_bytes words.now.items) (S.left source.old) (S.left source.new)
+        × IsMuxOutput (map string_bytes words.now.items) (S.left source.old) (S.left source.new)
         (S.faults source.old) (S.faults source.new) (exit_status result) text
         × Appends (K.taken sink.old) (K.taken sink.new) text }
     ensures part { exit_status result ≡ WRITE_FAULT → (status : ℕ) × (text : List ℕ)
-        × IsOutput (map string_bytes words.now.items) (S.left source.old) (S.left source.new)
+        × IsMuxOutput (map string_bytes words.now.items) (S.left source.old) (S.left source.new)
         (S.faults source.old) (S.faults source.new) status text
         × TakesPart (K.taken sink.old) (K.taken sink.new) text }
     ensures write_fault { exit_status result ≡ WRITE_FAULT →
@@ -41,19 +41,19 @@ fn served<S: Source, K: Sink>(
     // Lines that put something within the limit are carried and written, but for faults and want of
     // memory; else the first bad line is told, that the input is too long, or how to call the program.
     ensures complete { (input : List ℕ) (given : List Frame) →
-        IsFaultless (map string_bytes words.now.items) (S.left source.old) input
+        IsMuxFaultless (map string_bytes words.now.items) (S.left source.old) input
         (S.faults source.old) (S.faults source.new) (K.faults sink.old) (K.faults sink.new) →
-        Puts (lines_of input) given → ¬ IsTooLong input →
+        Puts (lines_of input) given → ¬ IsMuxTooLong input →
         (exit_status result ≡ DONE) ⊎ (exit_status result ≡ OUT_OF_MEMORY) }
     ensures bad_line { (input : List ℕ) (line : ℕ) →
-        IsFaultless (map string_bytes words.now.items) (S.left source.old) input
+        IsMuxFaultless (map string_bytes words.now.items) (S.left source.old) input
         (S.faults source.old) (S.faults source.new) (K.faults sink.old) (K.faults sink.new) →
-        IsFirstBad (lines_of input) line → ¬ IsTooLong input →
+        IsFirstBadLaneLine (lines_of input) line → ¬ IsMuxTooLong input →
         (exit_status result ≡ BAD_LINE) ⊎ (exit_status result ≡ OUT_OF_MEMORY) }
     ensures too_long { (input : List ℕ) →
-        IsFaultless (map string_bytes words.now.items) (S.left source.old) input
+        IsMuxFaultless (map string_bytes words.now.items) (S.left source.old) input
         (S.faults source.old) (S.faults source.new) (K.faults sink.old) (K.faults sink.new) →
-        IsTooLong input → (exit_status result ≡ TOO_LONG) ⊎ (exit_status result ≡ OUT_OF_MEMORY) }
+        IsMuxTooLong input → (exit_status result ≡ TOO_LONG) ⊎ (exit_status result ≡ OUT_OF_MEMORY) }
     ensures usage { ¬ IsSizes (map string_bytes words.now.items) →
         ¬ Rose (K.faults sink.old) (K.faults sink.new) →
         (exit_status result ≡ USAGE) ⊎ (exit_status result ≡ OUT_OF_MEMORY) }

@@ -1,7 +1,7 @@
 -- What the program's host ends tell.
 use Rattle.std.proofs.Common.{◌≡◌, ◌≢◌, ℕ, List, ◌∷◌, Option, ap, subst, ◌∙◌}
 use Rattle.strm_buffers.specs.Tells.{Tells}
-use Rattle.strm_session.specs.Serving.{IsOutput, IsStatus}
+use Rattle.strm_session.specs.Serving.{IsRunOutput, IsRunStatus}
 use Rattle.strm.specs.HostEnds.{writers, readers}
 use Rattle.strm.specs.Served.{IsServed}
 
@@ -12,10 +12,10 @@ both {A} {x} {y} {xs} {ys} e f = ap (λ a. a ∷ xs) e ∙ ap (λ zs. y ∷ zs) 
 abbrev pub ToldAmong : List (List ℕ) → Option (List ℕ) → Tells → Tells → ℕ → Type 0
 ToldAmong words left old new status =
     status ≢ 5 → status ≢ 9 → (rest : Option (List ℕ)) × (faults : ℕ) × (text : List ℕ)
-    × IsOutput words left rest old new 0 faults status text
+    × IsRunOutput words left rest old new 0 faults status text
 
 -- of host ends that tell this before, a text whose cause is known is one among the program's
-pub served_so : {words : List (List ℕ)} {left : Option (List ℕ)} {status : ℕ} (old new : Tells) → old.writers ≡ writers → old.readers ≡ readers → IsStatus status → ToldAmong words left old new status → IsServed words left status
+pub served_so : {words : List (List ℕ)} {left : Option (List ℕ)} {status : ℕ} (old new : Tells) → old.writers ≡ writers → old.readers ≡ readers → IsRunStatus status → ToldAmong words left old new status → IsServed words left status
 served_so {words} {left} {status} old new e f known told = record {
   known = known;
   told = λ a b.
@@ -26,7 +26,7 @@ served_so {words} {left} {status} old new e f known told = record {
         text = t.2;
         told = new;
         output =
-            subst (λ rs. IsOutput words left t.0 (record { writers = writers; readers = rs }) new 0 t.1 status t.2) f
-            (subst (λ ws. IsOutput words left t.0 (record { writers = ws; readers = old.readers }) new 0 t.1 status t.2) e t.3);
+            subst (λ rs. IsRunOutput words left t.0 (record { writers = writers; readers = rs }) new 0 t.1 status t.2) f
+            (subst (λ ws. IsRunOutput words left t.0 (record { writers = ws; readers = old.readers }) new 0 t.1 status t.2) e t.3);
       };
 }

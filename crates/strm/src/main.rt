@@ -6,7 +6,7 @@ ghost use Rattle.std.specs.Prelude.{◌≡◌, ◌≢◌, ℕ, List, Option, IfO
 ghost use Rattle.std.specs.Process.{exit_status};
 ghost use Rattle.std.specs.Vec.Iter.{into_iter_items};
 ghost use Rattle.strm_buffers.specs.AllTells.{tells_of};
-ghost use Rattle.strm_session.specs.Serving.{IsOutput, IsStatus};
+ghost use Rattle.strm_session.specs.Serving.{IsRunOutput, IsRunStatus};
 ghost use Rattle.strm_host.specs.Erasing.{erased_tells};
 ghost use Rattle.strm.specs.HostEnds.{five, ready_writer, writers, readers};
 ghost use Rattle.strm.specs.Served.{IsServed};
@@ -42,10 +42,10 @@ fn served<R: Read + Drop, W: Write + Drop>(
 ) -> ExitCode
     requires writers { (tells_of writer_tells reader_tells hosts.old).writers ≡ writers }
     requires readers { (tells_of writer_tells reader_tells hosts.old).readers ≡ readers }
-    ensures known { IsStatus (exit_status result) }
+    ensures known { IsRunStatus (exit_status result) }
     ensures told { exit_status result ≢ WRITE_FAULT → exit_status result ≢ OUT_OF_MEMORY →
         (rest : Option (List ℕ)) × (faults : ℕ) × (text : List ℕ)
-        × IsOutput (map string_bytes words.now.items) (R.remaining input) rest
+        × IsRunOutput (map string_bytes words.now.items) (R.remaining input) rest
         (tells_of writer_tells reader_tells hosts.old)
         (tells_of writer_tells reader_tells hosts.new)
         0 faults (exit_status result) text }

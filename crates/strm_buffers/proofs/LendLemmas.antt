@@ -9,7 +9,7 @@ use Rattle.strm_codes.specs.declared.payloads.Payload.{Payload}
 use Rattle.strm_codes.specs.declared.payloads.Payload.TheVariants.{One}
 use Rattle.strm_memory.specs.Bytes.{put_at, bytes_at}
 use Rattle.strm_buffers.specs.Listing.{items_in}
-use Rattle.strm_buffers.specs.Windows.{Lent, IsBehind, last_of, window_kept, KeepsRest, IsWindow}
+use Rattle.strm_buffers.specs.Windows.{Lent, IsBehind, last_bytes, window_kept, KeepsRest, IsWindow}
 use Rattle.strm_buffers.specs.Keeping.{end_kept, kept_after}
 use Rattle.strm_buffers.specs.Lending.{written_over, with_unmarked}
 use Rattle.strm_buffers.proofs.ListingLemmas.{lie_same, length-items_in}
@@ -47,7 +47,7 @@ kept_then (x ∷ kept) there r left (inr k) n = k
 
 -- the memory as it will be given back, up to the end of the room, is the same as before
 front_kept : (m kept : List ℕ) (at left r : ℕ) → (kept ≡ []) ⊎ (left ≤ length kept) → at + left ≤ length m
-    → take at m ++ last_of left (kept_after (Some r) kept (bytes_at m at left)) ≡ take (at + left) (put_at m at (last_of left kept))
+    → take at m ++ last_bytes left (kept_after (Some r) kept (bytes_at m at left)) ≡ take (at + left) (put_at m at (last_bytes left kept))
 front_kept m [] at left r k h =
     let n : length (bytes_at m at left) ≡ left = length-take-le left (drop at m) (omega (arith, length-drop at m, h)) in
     let none : length (bytes_at m at left) - left ≡ 0 = omega (arith, n) in
@@ -55,15 +55,15 @@ front_kept m [] at left r k h =
     ∙ ap (take (at + left)) (sym (ap (put_at m at) (last_nil left) ∙ put_at-nil m at))
 front_kept m (x ∷ kept) at left r (inl e) h = cc
 front_kept m (x ∷ kept) at left r (inr k) h =
-    let s : List ℕ = last_of left (x ∷ kept) in
+    let s : List ℕ = last_bytes left (x ∷ kept) in
     let n : length s ≡ left = length-last (x ∷ kept) left k in
     let front : length (take at m) ≡ at = length-take-le at m (omega (arith, h)) in
     let both : length (take at m ++ s) ≡ at + left = length-append (take at m) s ∙ omega (arith, front, n) in
     sym (ap (take (at + left)) (put_flat m at s ∙ sym (append_assoc (take at m) s (drop (at + length s) m))) ∙ take_at (take at m ++ s) (drop (at + length s) m) (at + left) both)
 
-behind_kept : (m kept : List ℕ) (at left : ℕ) → (kept ≡ []) ⊎ (left ≤ length kept) → at ≤ length m → drop (at + left) (put_at m at (last_of left kept)) ≡ drop (at + left) m
-behind_kept m kept at left (inl e) h = ap (drop (at + left)) (ap (put_at m at) (ap (last_of left) e ∙ last_nil left) ∙ put_at-nil m at)
-behind_kept m kept at left (inr k) h = let n = length-last kept left k in ap (λ j. drop (at + j) (put_at m at (last_of left kept))) (sym n) ∙ drop-put_at m (last_of left kept) at h ∙ ap (λ j. drop (at + j) m) n
+behind_kept : (m kept : List ℕ) (at left : ℕ) → (kept ≡ []) ⊎ (left ≤ length kept) → at ≤ length m → drop (at + left) (put_at m at (last_bytes left kept)) ≡ drop (at + left) m
+behind_kept m kept at left (inl e) h = ap (drop (at + left)) (ap (put_at m at) (ap (last_bytes left) e ∙ last_nil left) ∙ put_at-nil m at)
+behind_kept m kept at left (inr k) h = let n = length-last kept left k in ap (λ j. drop (at + j) (put_at m at (last_bytes left kept))) (sym n) ∙ drop-put_at m (last_bytes left kept) at h ∙ ap (λ j. drop (at + j) m) n
 
 -- what lies before and behind the place where bytes were written
 record Written (m new w : List ℕ) (at : ℕ) : Type 0 where
@@ -112,27 +112,27 @@ module _ (bytes kept there new w : List ℕ) (space more address r marked : ℕ)
       let lie = lie_same (U8 ∷ []) bytes new address address marked win.lie same (omega (arith, m1, p.size, inside)) in
       let items = lie.is in
       let enough : left ≤ length kept' = kept_then kept there r left k n' in
-      let last : length (last_of left kept') ≡ left = length-last kept' left enough in
+      let last : length (last_bytes left kept') ≡ left = length-last kept' left enough in
       let unmarked : take (1 * left) (drop (address + 1 * marked) bytes) ≡ take left rest = ap (λ j. take j (drop (address + 1 * marked) bytes)) l1 ∙ ap (λ j. take left (drop (address + j) bytes)) m1 in
       let lent : List ℕ = take (1 * left) (drop (address + 1 * marked) bytes) in
       let n1 : length lent ≡ left = ap length unmarked ∙ n in
       let ends : address + (1 * length (items_in (U8 ∷ []) bytes address marked) + length lent) ≡ at + left = omega (arith, size, n1) in
-      let old : List ℕ = put_at bytes (address + 1 * marked) (last_of (1 * left) kept) in
-      let old_is : old ≡ put_at bytes at (last_of left kept) = ap (λ j. put_at bytes (address + j) (last_of (1 * left) kept)) m1 ∙ ap (λ j. put_at bytes at (last_of j kept)) l1 in
+      let old : List ℕ = put_at bytes (address + 1 * marked) (last_bytes (1 * left) kept) in
+      let old_is : old ≡ put_at bytes at (last_bytes left kept) = ap (λ j. put_at bytes (address + j) (last_bytes (1 * left) kept)) m1 ∙ ap (λ j. put_at bytes at (last_bytes j kept)) l1 in
       let past_is : drop (address + (1 * length (items_in (U8 ∷ []) bytes address marked) + length lent)) old ≡ drop left rest = ap (λ j. drop j old) ends ∙ ap (drop (at + left)) old_is ∙ behind_kept bytes kept at left k (omega (arith, inside)) ∙ sym (drop-drop left at bytes) in
       let all : lent ++ drop (address + (1 * length (items_in (U8 ∷ []) bytes address marked) + length lent)) old ≡ rest = ap (λ l. l ++ drop (address + (1 * length (items_in (U8 ∷ []) bytes address marked) + length lent)) old) unmarked ∙ ap (λ l. take left rest ++ l) past_is ∙ take-append-drop left rest in
       let over_is : written_over (window_kept (One U8) bytes kept address (Some r) marked prepared) w ≡ over = ap (λ l. refill (length l) l w) all in
       let behind : take (1 * left) (drop (address + 1 * marked) new) ≡ take (length lent) (written_over (window_kept (One U8) bytes kept address (Some r) marked prepared) w) =
       ap (λ j. take j (drop (address + 1 * marked) new)) l1 ∙ ap (λ j. take left (drop (address + j) new)) m1 ∙ ap (take left) p.behind ∙ ap (λ j. take j over) (sym n1) ∙ ap (take (length lent)) (sym over_is) in
-      let place : put_at new (address + 1 * marked) (last_of (1 * left) kept') ≡ take (address + (1 * length (items_in (U8 ∷ []) bytes address marked) + length lent)) old ++ drop (length lent) (written_over (window_kept (One U8) bytes kept address (Some r) marked prepared) w) =
-      ap (λ j. put_at new (address + j) (last_of (1 * left) kept')) m1 ∙ ap (λ j. put_at new at (last_of j kept')) l1
-      ∙ put_flat new at (last_of left kept') ∙ ap (λ j. take at new ++ (last_of left kept' ++ drop (at + j) new)) last
-      ∙ ap (λ l. l ++ (last_of left kept' ++ drop (at + left) new)) p.front
-      ∙ ap (λ l. take at bytes ++ (last_of left kept' ++ l)) (sym (drop-drop left at new) ∙ ap (drop left) p.behind)
-      ∙ sym (append_assoc (take at bytes) (last_of left kept') (drop left over))
-      ∙ ap (λ l. l ++ drop left over) (ap (λ l. take at bytes ++ last_of left (kept_after (Some r) kept l)) t ∙ front_kept bytes kept at left r k inside)
+      let place : put_at new (address + 1 * marked) (last_bytes (1 * left) kept') ≡ take (address + (1 * length (items_in (U8 ∷ []) bytes address marked) + length lent)) old ++ drop (length lent) (written_over (window_kept (One U8) bytes kept address (Some r) marked prepared) w) =
+      ap (λ j. put_at new (address + j) (last_bytes (1 * left) kept')) m1 ∙ ap (λ j. put_at new at (last_bytes j kept')) l1
+      ∙ put_flat new at (last_bytes left kept') ∙ ap (λ j. take at new ++ (last_bytes left kept' ++ drop (at + j) new)) last
+      ∙ ap (λ l. l ++ (last_bytes left kept' ++ drop (at + left) new)) p.front
+      ∙ ap (λ l. take at bytes ++ (last_bytes left kept' ++ l)) (sym (drop-drop left at new) ∙ ap (drop left) p.behind)
+      ∙ sym (append_assoc (take at bytes) (last_bytes left kept') (drop left over))
+      ∙ ap (λ l. l ++ drop left over) (ap (λ l. take at bytes ++ last_bytes left (kept_after (Some r) kept l)) t ∙ front_kept bytes kept at left r k inside)
       ∙ sym (ap (λ j. take j old ++ drop (length lent) (written_over (window_kept (One U8) bytes kept address (Some r) marked prepared) w)) ends ∙ ap (λ l. take (at + left) l ++ drop (length lent) (written_over (window_kept (One U8) bytes kept address (Some r) marked prepared) w)) old_is
-      ∙ ap (λ l. take (at + left) (put_at bytes at (last_of left kept)) ++ drop (length lent) l) over_is ∙ ap (λ j. take (at + left) (put_at bytes at (last_of left kept)) ++ drop j over) n1) in
+      ∙ ap (λ l. take (at + left) (put_at bytes at (last_bytes left kept)) ++ drop (length lent) l) over_is ∙ ap (λ j. take (at + left) (put_at bytes at (last_bytes left kept)) ++ drop j over) n1) in
       record {
         is_window = record { lie = lie.lie; inside = (win.inside.0, omega (arith, p.size, win.inside.1), win.inside.2, inr (refl, enough)); enough = λ a b. omega (arith, h, win.enough a b) };
         is = cc (items, place, behind);

@@ -17,7 +17,7 @@ use Rattle.strm_memory.proofs.ItemLemmas.{items-add, item_fits}
 use Rattle.strm_memory.proofs.RegionLemmas.{length-items, length-stored_at, items_at-stored_at, AreItems-items}
 use Rattle.strm_memory.proofs.AppendLemmas.{items-same, items-bytes, items_at-more, items_at-put, AreItems-append, AreItems-drop}
 use Rattle.strm_codes.specs.declared.payloads.Payload.{Payload}
-use Rattle.strm_buffers.specs.Listing.{Item, TypedItems, listed, items_in, LieIn, AreKept, AreStored, kept_items}
+use Rattle.strm_buffers.specs.Listing.{Item, TypedItems, listed, items_in, LieIn, AreItemsKept, AreStored, kept_items}
 
 some_listed : {A : Type 0} (o : Option (List A)) → IsSome o → o ≡ Some (listed o)
 some_listed None i = cc
@@ -214,7 +214,7 @@ lie_more ss bytes given a len n ys last e f h =
     lie_made ss m a (len + n) (items_in ss bytes a len ++ ys) (omega (arith, all, both, size, sizes)) (items_at-more ss m a len n (items_in ss bytes a len) ys first last) (AreItems-append ss (items_in ss bytes a len) ys l.fit f)
 
 -- the bytes of items that are kept, from their first on
-pub kept_behind : (payload : Payload) (bytes new : List ℕ) (start len : ℕ) (v : TypedItems) → AreKept payload bytes start len → kept_items payload bytes start len ≡ v → new ≡ drop start bytes → Lie (scalars_of v.payload) new 0 (length v.items) v.items
+pub kept_behind : (payload : Payload) (bytes new : List ℕ) (start len : ℕ) (v : TypedItems) → AreItemsKept payload bytes start len → kept_items payload bytes start len ≡ v → new ≡ drop start bytes → Lie (scalars_of v.payload) new 0 (length v.items) v.items
 kept_behind payload bytes new start len v k e n =
     let ss = scalars_of payload in
     let size : length new ≡ length bytes - start = ap length n ∙ length-drop start bytes in
@@ -222,14 +222,14 @@ kept_behind payload bytes new start len v k e n =
     subst (λ (u : TypedItems). Lie (scalars_of u.payload) new 0 (length u.items) u.items) e
     (subst (λ j. Lie ss new 0 j (items_in ss bytes start len)) (sym (length-items_in ss bytes start len k.lie)) there)
 
-pub kept_length : (payload : Payload) (bytes new : List ℕ) (start len : ℕ) (v : TypedItems) → AreKept payload bytes start len → kept_items payload bytes start len ≡ v → new ≡ drop start bytes → length new ≡ item_size (scalars_of v.payload) * length v.items
+pub kept_length : (payload : Payload) (bytes new : List ℕ) (start len : ℕ) (v : TypedItems) → AreItemsKept payload bytes start len → kept_items payload bytes start len ≡ v → new ≡ drop start bytes → length new ≡ item_size (scalars_of v.payload) * length v.items
 kept_length payload bytes new start len v k e n =
     let size : length new ≡ length bytes - start = ap length n ∙ length-drop start bytes in
     let count = length-items_in (scalars_of payload) bytes start len k.lie in
     rw (← e, count) (omega (arith, size, k.all))
 
 -- the same items, kept from their first byte on
-pub kept_again : (payload : Payload) (bytes new : List ℕ) (start len : ℕ) (v : TypedItems) → AreKept payload bytes start len → kept_items payload bytes start len ≡ v → new ≡ drop start bytes → AreKept payload new 0 len × (kept_items payload new 0 len ≡ v)
+pub kept_again : (payload : Payload) (bytes new : List ℕ) (start len : ℕ) (v : TypedItems) → AreItemsKept payload bytes start len → kept_items payload bytes start len ≡ v → new ≡ drop start bytes → AreItemsKept payload new 0 len × (kept_items payload new 0 len ≡ v)
 kept_again payload bytes new start len v k e n =
     let ss = scalars_of payload in
     let size : length new ≡ length bytes - start = ap length n ∙ length-drop start bytes in
@@ -239,10 +239,10 @@ kept_again payload bytes new start len v k e n =
 
 -- what is kept with items behind those that were
 pub record KeptMore (payload : Payload) (bytes : List ℕ) (start len : ℕ) (v u : TypedItems) : Type 0 where
-  pub kept : AreKept payload bytes start (len + length u.items)
+  pub kept : AreItemsKept payload bytes start (len + length u.items)
   pub items : items_in (scalars_of payload) bytes start (len + length u.items) ≡ v.items ++ u.items
 
-module _ (payload : Payload) (bytes : List ℕ) (start len : ℕ) (v : TypedItems) (k : AreKept payload bytes start len) (e : kept_items payload bytes start len ≡ v) where
+module _ (payload : Payload) (bytes : List ℕ) (start len : ℕ) (v : TypedItems) (k : AreItemsKept payload bytes start len) (e : kept_items payload bytes start len ≡ v) where
   -- items kept behind those that are kept
   pub kept_append : (given : List ℕ) (u : TypedItems) → let n = length u.items in u.payload ≡ v.payload → Lie (scalars_of u.payload) given 0 n u.items → length given ≡ item_size (scalars_of u.payload) * n → length v.items + n < 4294967295 → KeptMore payload (bytes ++ given) start len v u
   kept_append given u p l s few =
@@ -264,7 +264,7 @@ module _ (payload : Payload) (bytes : List ℕ) (start len : ℕ) (v : TypedItem
       }
 
 -- the bytes of items are kept as they are
-pub kept_stored : (payload : Payload) (bytes : List ℕ) (xs : List Item) (n : ℕ) → AreStored (scalars_of payload) bytes xs → n ≡ length xs → n < 4294967295 → AreKept payload bytes 0 n × (items_in (scalars_of payload) bytes 0 n ≡ xs)
+pub kept_stored : (payload : Payload) (bytes : List ℕ) (xs : List Item) (n : ℕ) → AreStored (scalars_of payload) bytes xs → n ≡ length xs → n < 4294967295 → AreItemsKept payload bytes 0 n × (items_in (scalars_of payload) bytes 0 n ≡ xs)
 kept_stored payload bytes xs n s e few =
     let ss = scalars_of payload in
     let there = lie_made ss bytes 0 (length xs) xs (omega (arith, s.all)) s.are s.fit in

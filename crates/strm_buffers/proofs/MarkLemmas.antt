@@ -12,8 +12,8 @@ use Rattle.strm_memory.specs.Items.{items_at, stored_at, AreItems, byte_items}
 use Rattle.strm_memory.proofs.ByteLemmas.{IsBytes-drop, IsBytes-take}
 use Rattle.strm_memory.proofs.RegionLemmas.{AreItems-items}
 use Rattle.strm_memory.proofs.AppendLemmas.{items-bytes}
-use Rattle.strm_buffers.specs.Listing.{listed, AreKept, items_in}
-use Rattle.strm_buffers.specs.Windows.{Lent, Between, CanCount, lent_memory, lent_between, with_marked, with_direct, last_of, unmarked_kept, window_kept, KeepsRest, IsWindow, standing}
+use Rattle.strm_buffers.specs.Listing.{listed, AreItemsKept, items_in}
+use Rattle.strm_buffers.specs.Windows.{Lent, Between, CanCount, lent_memory, lent_between, with_marked, with_direct, last_bytes, unmarked_kept, window_kept, KeepsRest, IsWindow, standing}
 use Rattle.strm_memory.specs.Linear.{untold}
 use Rattle.strm_buffers.proofs.ListingLemmas.{Lie, lie_none, lie_made, lie_same, length-items_in}
 use Rattle.strm_buffers.proofs.PutLemmas.{put_at-nil, put_at-same, put_at-kept, put_at-over, last_nil, length-last, stored_at-bytes, length-put_at}
@@ -28,8 +28,8 @@ module _ (payload : Payload) (memory bytes kept : List ℕ) (space address room 
       let n : length bytes ≡ length memory = ap length e in
       let none = lie_none ss bytes address (omega (arith, n, h)) in
       let at : address + w * 0 ≡ address = omega arith in
-      let last : last_of (w * (room - 0)) kept ≡ [] = ap (last_of (w * (room - 0))) k ∙ last_nil (w * (room - 0)) in
-      let place : put_at bytes (address + w * 0) (last_of (w * (room - 0)) kept) ≡ memory = ap (put_at bytes (address + w * 0)) last ∙ put_at-nil bytes (address + w * 0) ∙ e in
+      let last : last_bytes (w * (room - 0)) kept ≡ [] = ap (last_bytes (w * (room - 0))) k ∙ last_nil (w * (room - 0)) in
+      let place : put_at bytes (address + w * 0) (last_bytes (w * (room - 0)) kept) ≡ memory = ap (put_at bytes (address + w * 0)) last ∙ put_at-nil bytes (address + w * 0) ∙ e in
       let whole : room - 0 ≡ room = omega arith in
       let behind : bytes_at bytes (address + w * 0) (w * (room - 0)) ≡ bytes_at memory address (w * room) = ap (λ j. bytes_at bytes j (w * (room - 0))) at ∙ ap (λ j. bytes_at bytes address (w * j)) whole ∙ ap (λ l. bytes_at l address (w * room)) e in
       let items = none.is in
@@ -70,21 +70,21 @@ lie_bytes bytes address marked count f h =
 
 -- the memory as it will be given back, with so many of its bytes marked as they stand
 marked_memory : (m kept : List ℕ) (at left count : ℕ) → IsBytes m → (kept ≡ []) ⊎ (left ≤ length kept) → count ≤ left → at + left ≤ length m
-    → put_at m (at + count) (last_of (left - count) kept) ≡ stored_at (U8 ∷ []) (put_at m at (last_of left kept)) at (byte_items (take count (drop at m)))
+    → put_at m (at + count) (last_bytes (left - count) kept) ≡ stored_at (U8 ∷ []) (put_at m at (last_bytes left kept)) at (byte_items (take count (drop at m)))
 marked_memory m kept at left count f k h i =
     let t : List ℕ = bytes_at m at count in
     let n : length t ≡ count = length-take-le count (drop at m) (omega (arith, length-drop at m, h, i)) in
     let same : put_at m at t ≡ m = put_at-same m at count (omega (arith, h, i)) in
     let small = bytes_below t (IsBytes-take (drop at m) count (IsBytes-drop m at f)) in
-    let all : at + length t ≤ length (put_at m at (last_of left kept)) = omega (arith, n, h, i, kept_size m kept at left k i) in
-    ap (λ l. put_at l (at + count) (last_of (left - count) kept)) (sym same)
-    ∙ ap (λ j. put_at (put_at m at t) (at + j) (last_of (left - j) kept)) (sym n)
+    let all : at + length t ≤ length (put_at m at (last_bytes left kept)) = omega (arith, n, h, i, kept_size m kept at left k i) in
+    ap (λ l. put_at l (at + count) (last_bytes (left - count) kept)) (sym same)
+    ∙ ap (λ j. put_at (put_at m at t) (at + j) (last_bytes (left - j) kept)) (sym n)
     ∙ put_at-kept m kept t at left k (omega (arith, n, h)) i
-    ∙ sym (stored_at-bytes (put_at m at (last_of left kept)) t at small all)
+    ∙ sym (stored_at-bytes (put_at m at (last_bytes left kept)) t at small all)
   where
-    kept_size : (m kept : List ℕ) (at left : ℕ) → (kept ≡ []) ⊎ (left ≤ length kept) → at + left ≤ length m → length (put_at m at (last_of left kept)) ≡ length m
-    kept_size m kept at left (inl e) i = ap length (ap (put_at m at) (ap (last_of left) e ∙ last_nil left) ∙ put_at-nil m at)
-    kept_size m kept at left (inr k) i = length-put_at m (last_of left kept) at (omega (arith, length-last kept left k, i))
+    kept_size : (m kept : List ℕ) (at left : ℕ) → (kept ≡ []) ⊎ (left ≤ length kept) → at + left ≤ length m → length (put_at m at (last_bytes left kept)) ≡ length m
+    kept_size m kept at left (inl e) i = ap length (ap (put_at m at) (ap (last_bytes left) e ∙ last_nil left) ∙ put_at-nil m at)
+    kept_size m kept at left (inr k) i = length-put_at m (last_bytes left kept) at (omega (arith, length-last kept left k, i))
 
 -- bytes are kept or not
 kept_or_not : (payload : Payload) (kept : List ℕ) (left : ℕ) → KeepsRest payload kept left → (kept ≡ []) ⊎ (left ≤ length kept)
@@ -114,12 +114,12 @@ module _ (bytes kept : List ℕ) (space address marked count : ℕ) where
       ap (λ j. bytes_at bytes j (1 * (r - (marked + count)))) past ∙ ap (λ j. take j (drop (at + count) bytes)) fewer
       ∙ ap (take (left - count)) (sym (drop-drop count at bytes)) ∙ sym (drop-take count (left - count) (drop at bytes))
       ∙ ap (λ j. drop count (take j (drop at bytes))) (sym split ∙ sym ones) in
-      let place : put_at bytes (address + 1 * (marked + count)) (last_of (1 * (r - (marked + count))) kept) ≡ stored_at (U8 ∷ []) (put_at bytes at (last_of (1 * left) kept)) (address + 1 * length (items_in (U8 ∷ []) bytes address marked)) (byte_items (take count (take (1 * left) (drop at bytes)))) =
-      ap (λ j. put_at bytes j (last_of (1 * (r - (marked + count))) kept)) past ∙ ap (λ j. put_at bytes (at + count) (last_of j kept)) fewer
+      let place : put_at bytes (address + 1 * (marked + count)) (last_bytes (1 * (r - (marked + count))) kept) ≡ stored_at (U8 ∷ []) (put_at bytes at (last_bytes (1 * left) kept)) (address + 1 * length (items_in (U8 ∷ []) bytes address marked)) (byte_items (take count (take (1 * left) (drop at bytes)))) =
+      ap (λ j. put_at bytes j (last_bytes (1 * (r - (marked + count))) kept)) past ∙ ap (λ j. put_at bytes (at + count) (last_bytes j kept)) fewer
       ∙ marked_memory bytes kept at left count f (kept_or_not (One U8) kept left w.inside.3) (omega (arith, h)) (omega (arith, h, w.inside.1))
-      ∙ ap (λ j. stored_at (U8 ∷ []) (put_at bytes at (last_of j kept)) at (byte_items (take count (drop at bytes)))) (sym ones)
-      ∙ ap (λ l. stored_at (U8 ∷ []) (put_at bytes at (last_of (1 * left) kept)) at (byte_items l)) (sym first)
-      ∙ ap (λ j. stored_at (U8 ∷ []) (put_at bytes at (last_of (1 * left) kept)) (address + 1 * j) (byte_items (take count (take (1 * left) (drop at bytes))))) (sym n) in
+      ∙ ap (λ j. stored_at (U8 ∷ []) (put_at bytes at (last_bytes j kept)) at (byte_items (take count (drop at bytes)))) (sym ones)
+      ∙ ap (λ l. stored_at (U8 ∷ []) (put_at bytes at (last_bytes (1 * left) kept)) at (byte_items l)) (sym first)
+      ∙ ap (λ j. stored_at (U8 ∷ []) (put_at bytes at (last_bytes (1 * left) kept)) (address + 1 * j) (byte_items (take count (take (1 * left) (drop at bytes))))) (sym n) in
       record {
         is_window = record { lie = more.lie; inside = (h, w.inside.1, w.inside.2, rest_less (One U8) kept left (r - (marked + count)) (omega arith) w.inside.3); enough = w.enough };
         is = cc (items, place, behind);
@@ -188,7 +188,7 @@ module _ (payload : Payload) (bytes kept new : List ℕ) (space address marked c
 
 -- the items of a window between host ends, without the bytes behind them
 pub record Cut (payload : Payload) (new : List ℕ) (marked : ℕ) (v : Lent) : Type 0 where
-  pub kept : AreKept payload new 0 marked
+  pub kept : AreItemsKept payload new 0 marked
   pub items : items_in (scalars_of payload) new 0 marked ≡ v.marked
 
 module _ (payload : Payload) (bytes kept new : List ℕ) (space address marked size : ℕ) (room : Option ℕ) (prepared : Bool) where
@@ -208,8 +208,8 @@ module _ (payload : Payload) (bytes kept new : List ℕ) (space address marked s
       }
 
 -- the last bytes of the room that are kept: none, or as many as are left
-pub last_kept : (payload : Payload) (kept : List ℕ) (left : ℕ) → KeepsRest payload kept left → (last_of (item_size (scalars_of payload) * left) kept ≡ []) ⊎ (length (last_of (item_size (scalars_of payload) * left) kept) ≡ item_size (scalars_of payload) * left)
-last_kept payload kept left (inl e) = inl (ap (last_of (item_size (scalars_of payload) * left)) e ∙ last_nil (item_size (scalars_of payload) * left))
+pub last_kept : (payload : Payload) (kept : List ℕ) (left : ℕ) → KeepsRest payload kept left → (last_bytes (item_size (scalars_of payload) * left) kept ≡ []) ⊎ (length (last_bytes (item_size (scalars_of payload) * left) kept) ≡ item_size (scalars_of payload) * left)
+last_kept payload kept left (inl e) = inl (ap (last_bytes (item_size (scalars_of payload) * left)) e ∙ last_nil (item_size (scalars_of payload) * left))
 last_kept payload kept left (inr (u, k)) =
     let one : item_size (scalars_of payload) ≡ 1 = ap (λ (q : Payload). item_size (scalars_of q)) u in
     let size : item_size (scalars_of payload) * left ≡ left = ap (λ j. j * left) one ∙ omega arith in
@@ -236,7 +236,7 @@ module _ (payload : Payload) (bytes kept : List ℕ) (space address marked : ℕ
       go None w n = absurd (n refl)
       go (Some r) w n =
           let ss = scalars_of payload in
-          let s = last_of (item_size ss * (r - marked)) kept in
+          let s = last_bytes (item_size ss * (r - marked)) kept in
           let at = address + item_size ss * marked in
           let size = length-items_in ss bytes address marked w.lie in
           let more : r ≡ marked + (r - marked) = omega (arith, w.inside.0) in

@@ -5,7 +5,7 @@ use Rattle.strm_codes.specs.declared.scalars.Scalar.TheVariants.{U8}
 use Rattle.strm_memory.specs.Bytes.{put_at, bytes_at}
 use Rattle.strm_memory.specs.Items.{stored_at, byte_items}
 use Rattle.strm_memory.proofs.AppendLemmas.{stored-bytes}
-use Rattle.strm_buffers.specs.Windows.{last_of}
+use Rattle.strm_buffers.specs.Windows.{last_bytes}
 
 pub put_flat : (m : List ℕ) (at : ℕ) (s : List ℕ) → put_at m at s ≡ take at m ++ (s ++ drop (at + length s) m)
 put_flat m at s = append_assoc (take at m) s (drop (at + length s) m)
@@ -95,22 +95,22 @@ put_at-over m s t at h e =
     ∙ sym (put_flat m at t)
 
 -- the last of no bytes, of many bytes, and of these all but some
-pub last_nil : (n : ℕ) → last_of n [] ≡ []
+pub last_nil : (n : ℕ) → last_bytes n [] ≡ []
 last_nil n = drop_all (0 - n) [] (omega arith)
 
-pub length-last : (kept : List ℕ) (n : ℕ) → n ≤ length kept → length (last_of n kept) ≡ n
+pub length-last : (kept : List ℕ) (n : ℕ) → n ≤ length kept → length (last_bytes n kept) ≡ n
 length-last kept n h = length-drop (length kept - n) kept ∙ omega (arith, h)
 
-pub last_drop : (kept : List ℕ) (n k : ℕ) → n ≤ length kept → k ≤ n → drop k (last_of n kept) ≡ last_of (n - k) kept
+pub last_drop : (kept : List ℕ) (n k : ℕ) → n ≤ length kept → k ≤ n → drop k (last_bytes n kept) ≡ last_bytes (n - k) kept
 last_drop kept n k h i = let e : length kept - n + k ≡ length kept - (n - k) = omega (arith, h, i) in drop-drop k (length kept - n) kept ∙ ap (λ j. drop j kept) e
 
 -- the memory as it will be given back is one in which the bytes that were written count as marked
-pub put_at-kept : (m kept t : List ℕ) (at left : ℕ) → (kept ≡ []) ⊎ (left ≤ length kept) → length t ≤ left → at + left ≤ length m → put_at (put_at m at t) (at + length t) (last_of (left - length t) kept) ≡ put_at (put_at m at (last_of left kept)) at t
+pub put_at-kept : (m kept t : List ℕ) (at left : ℕ) → (kept ≡ []) ⊎ (left ≤ length kept) → length t ≤ left → at + left ≤ length m → put_at (put_at m at t) (at + length t) (last_bytes (left - length t) kept) ≡ put_at (put_at m at (last_bytes left kept)) at t
 put_at-kept m kept t at left (inl e) h i =
-    let none : (n : ℕ) → last_of n kept ≡ [] = λ n. ap (last_of n) e ∙ last_nil n in
+    let none : (n : ℕ) → last_bytes n kept ≡ [] = λ n. ap (last_bytes n) e ∙ last_nil n in
     ap (put_at (put_at m at t) (at + length t)) (none (left - length t)) ∙ put_at-nil (put_at m at t) (at + length t)
     ∙ sym (ap (λ l. put_at l at t) (ap (put_at m at) (none left) ∙ put_at-nil m at))
 put_at-kept m kept t at left (inr k) h i =
     let size = length-last kept left k in
     ap (put_at (put_at m at t) (at + length t)) (sym (last_drop kept left (length t) k h))
-    ∙ put_at-rest m (last_of left kept) t at (omega (arith, size, i)) (omega (arith, size, h))
+    ∙ put_at-rest m (last_bytes left kept) t at (omega (arith, size, i)) (omega (arith, size, h))

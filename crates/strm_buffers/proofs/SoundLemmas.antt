@@ -3,7 +3,7 @@ use Rattle.std.proofs.Common.{◌≡◌, ℕ, ◌+◌, ◌-◌, ◌*◌, ◌<◌
 use Rattle.std.proofs.lemmas.List.{take-take, length-take-le}
 use Rattle.strm_codes.specs.Layout.{scalars_of, item_size}
 use Rattle.strm_codes.specs.declared.payloads.Payload.{Payload}
-use Rattle.strm_buffers.specs.Windows.{Lent, last_of, place_kept, window_kept, IsRoom, IsWindow, IsSoundPlace}
+use Rattle.strm_buffers.specs.Windows.{Lent, last_bytes, place_kept, window_kept, IsRoom, IsWindow, IsSoundPlace}
 use Rattle.strm_buffers.proofs.ListingLemmas.{cut, length-items_in, lie_same}
 use Rattle.strm_buffers.proofs.MarkLemmas.{Cut}
 use Rattle.strm_buffers.proofs.PutLemmas.{length-put_at}
@@ -20,8 +20,8 @@ module _ (payload : Payload) (bytes kept : List ℕ) (space address marked : ℕ
           let w = item_size (scalars_of payload) in
           let n = w * (r - marked) in
           let parts : w * marked + n ≡ w * r = cut w marked r i.0 in
-          let most : length (last_of n kept) ≤ n = omega (arith, length-drop (length kept - n) kept) in
-          let size = length-put_at bytes (last_of n kept) (address + w * marked) (omega (arith, most, parts, i.1)) in
+          let most : length (last_bytes n kept) ≤ n = omega (arith, length-drop (length kept - n) kept) in
+          let size = length-put_at bytes (last_bytes n kept) (address + w * marked) (omega (arith, most, parts, i.1)) in
           (omega (arith, size, i.1), i.2)
 
   -- a copy of the marked items, kept from its first byte on

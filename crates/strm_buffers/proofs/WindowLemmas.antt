@@ -15,7 +15,7 @@ use Rattle.strm_memory.proofs.RegionLemmas.{length-stored_at, drop-stored_at}
 use Rattle.strm_buffers.specs.Keeping.{with_space}
 use Rattle.strm_buffers.specs.Listing.{Item, LieIn, items_in}
 use Rattle.std.specs.Ptr.{Ptr}
-use Rattle.strm_buffers.specs.Windows.{base_kept, lying, Lent, Between, HasRoom, with_items, last_of, place_kept, window_kept, KeepsRest, IsRoom, IsWindow}
+use Rattle.strm_buffers.specs.Windows.{base_kept, lying, Lent, Between, HasRoom, with_items, last_bytes, place_kept, window_kept, KeepsRest, IsRoom, IsWindow}
 use Rattle.strm_buffers.proofs.ListingLemmas.{length-items_in, lie_put, stored_past, pushed}
 use Rattle.strm_buffers.proofs.PutLemmas.{put_at-nil, put_at-kept, last_nil, stored_at-bytes, length-put_at, length-last}
 
@@ -87,37 +87,37 @@ stored_bytes m at xs = stored_at (U8 ∷ []) m at xs
 
 -- the memory as it will be given back, with more items
 placed_bytes : (m kept : List ℕ) (at left : ℕ) (xs : List Item) → left ≤ length kept → length xs ≤ left → AreItems (U8 ∷ []) xs → at + left ≤ length m
-    → put_at (stored_bytes m at xs) (at + length xs) (last_of (left - length xs) kept) ≡ stored_bytes (put_at m at (last_of left kept)) at xs
+    → put_at (stored_bytes m at xs) (at + length xs) (last_bytes (left - length xs) kept) ≡ stored_bytes (put_at m at (last_bytes left kept)) at xs
 placed_bytes m kept at left xs k h f i =
     let b = bytes_are xs f in
     let n = b.size in
     let e : (l : List ℕ) → at + length xs ≤ length l → stored_at (U8 ∷ []) l at xs ≡ put_at l at b.bytes = λ l j. ap (stored_at (U8 ∷ []) l at) b.is ∙ stored_at-bytes l b.bytes at b.below (omega (arith, n, j)) in
     let size = length-last kept left k in
-    let all = length-put_at m (last_of left kept) at (omega (arith, size, i)) in
-    ap (λ l. put_at l (at + length xs) (last_of (left - length xs) kept)) (e m (omega (arith, h, i)))
-    ∙ ap (λ j. put_at (put_at m at b.bytes) (at + j) (last_of (left - j) kept)) (sym n)
+    let all = length-put_at m (last_bytes left kept) at (omega (arith, size, i)) in
+    ap (λ l. put_at l (at + length xs) (last_bytes (left - length xs) kept)) (e m (omega (arith, h, i)))
+    ∙ ap (λ j. put_at (put_at m at b.bytes) (at + j) (last_bytes (left - j) kept)) (sym n)
     ∙ put_at-kept m kept b.bytes at left (inr k) (omega (arith, n, h)) i
-    ∙ sym (e (put_at m at (last_of left kept)) (omega (arith, all, h, i)))
+    ∙ sym (e (put_at m at (last_bytes left kept)) (omega (arith, all, h, i)))
 
 -- items stored, and then what is kept put back behind them, is all put back and then the items stored
 abbrev IsPlaced : Payload → (m kept : List ℕ) (at left : ℕ) → List Item → Type 0
 IsPlaced payload m kept at left xs =
     let ss = scalars_of payload in let w = item_size ss in
-    put_at (stored_at ss m at xs) (at + w * length xs) (last_of (w * (left - length xs)) kept) ≡ stored_at ss (put_at m at (last_of (w * left) kept)) at xs
+    put_at (stored_at ss m at xs) (at + w * length xs) (last_bytes (w * (left - length xs)) kept) ≡ stored_at ss (put_at m at (last_bytes (w * left) kept)) at xs
 
 pub placed : (payload : Payload) (m kept : List ℕ) (at left : ℕ) (xs : List Item) → KeepsRest payload kept left → length xs ≤ left → AreItems (scalars_of payload) xs → at + item_size (scalars_of payload) * left ≤ length m → IsPlaced payload m kept at left xs
 placed payload m kept at left xs (inl e) h f i =
     let ss = scalars_of payload in let w = item_size ss in
-    let none : (n : ℕ) → last_of n kept ≡ [] = λ n. ap (last_of n) e ∙ last_nil n in
+    let none : (n : ℕ) → last_bytes n kept ≡ [] = λ n. ap (last_bytes n) e ∙ last_nil n in
     let behind = at + w * length xs in
     ap (put_at (stored_at ss m at xs) behind) (none (w * (left - length xs))) ∙ put_at-nil (stored_at ss m at xs) behind
     ∙ sym (ap (λ l. stored_at ss l at xs) (ap (put_at m at) (none (w * left)) ∙ put_at-nil m at))
 placed payload m kept at left xs (inr (u, k)) h f i =
     subst (λ (p : Payload). AreItems (scalars_of p) xs → at + item_size (scalars_of p) * left ≤ length m → IsPlaced p m kept at left xs) (sym u)
     (λ g j. let a : 1 * (left - length xs) ≡ left - length xs = omega arith in let b : 1 * left ≡ left = omega arith in let c : 1 * length xs ≡ length xs = omega arith in
-    ap (λ n. put_at (stored_at (U8 ∷ []) m at xs) (at + 1 * length xs) (last_of n kept)) a
-    ∙ ap (λ n. put_at (stored_at (U8 ∷ []) m at xs) (at + n) (last_of (left - length xs) kept)) c
-    ∙ placed_bytes m kept at left xs k h g (omega (arith, b, j)) ∙ ap (λ n. stored_at (U8 ∷ []) (put_at m at (last_of n kept)) at xs) (sym b)) f i
+    ap (λ n. put_at (stored_at (U8 ∷ []) m at xs) (at + 1 * length xs) (last_bytes n kept)) a
+    ∙ ap (λ n. put_at (stored_at (U8 ∷ []) m at xs) (at + n) (last_bytes (left - length xs) kept)) c
+    ∙ placed_bytes m kept at left xs k h g (omega (arith, b, j)) ∙ ap (λ n. stored_at (U8 ∷ []) (put_at m at (last_bytes n kept)) at xs) (sym b)) f i
 
 -- the bytes behind more items
 behind_more : (ss : List Scalar) (m : List ℕ) (at rest : ℕ) (xs : List Item) → let k = item_size ss * length xs in
@@ -172,11 +172,11 @@ module _ (payload : Payload) (bytes kept : List ℕ) (space address marked : ℕ
       let some : left ≡ k + (left - k) = omega (arith, h) in
       let sizes : w * left ≡ w * k + w * (left - k) = ap (λ j. w * j) some ∙ grind arith in
       let all : at + w * left ≤ length bytes = (let r' : r ≡ marked + left = omega (arith, h) in let q : w * r ≡ w * marked + w * left = ap (λ j. w * j) r' ∙ grind arith in omega (arith, q, win.inside.1)) in
-      let place : put_at new (address + w * (marked + k)) (last_of (w * (r - (marked + k))) kept) ≡ stored_at ss (put_at bytes at (last_of (w * left) kept)) (address + w * length (items_in ss bytes address marked)) xs =
-      ap (λ j. put_at new j (last_of (w * (r - (marked + k))) kept)) more ∙ ap (λ j. put_at new (at + w * k) (last_of (w * j) kept)) fewer
-      ∙ ap (λ l. put_at l (at + w * k) (last_of (w * (left - k)) kept)) is
+      let place : put_at new (address + w * (marked + k)) (last_bytes (w * (r - (marked + k))) kept) ≡ stored_at ss (put_at bytes at (last_bytes (w * left) kept)) (address + w * length (items_in ss bytes address marked)) xs =
+      ap (λ j. put_at new j (last_bytes (w * (r - (marked + k))) kept)) more ∙ ap (λ j. put_at new (at + w * k) (last_bytes (w * j) kept)) fewer
+      ∙ ap (λ l. put_at l (at + w * k) (last_bytes (w * (left - k)) kept)) is
       ∙ placed payload bytes kept at left xs win.inside.3 (omega (arith, h)) f all
-      ∙ ap (λ j. stored_at ss (put_at bytes at (last_of (w * left) kept)) (address + w * j) xs) (sym n) in
+      ∙ ap (λ j. stored_at ss (put_at bytes at (last_bytes (w * left) kept)) (address + w * j) xs) (sym n) in
       let behind : bytes_at new (address + w * (marked + k)) (w * (r - (marked + k))) ≡ drop (w * k) (bytes_at bytes at (w * left)) =
       ap (λ j. bytes_at new j (w * (r - (marked + k)))) more ∙ ap (λ j. bytes_at new (at + w * k) (w * j)) fewer
       ∙ ap (λ l. bytes_at l (at + w * k) (w * (left - k))) is

@@ -104,9 +104,9 @@ abbrev pub Rose : ℕ → ℕ → Type 0
 Rose old new = one_more old ≤ new
 
 -- Failed comes only where the count of faults rose, which never falls
-abbrev pub Rises : Answer → ℕ → ℕ → Type 0
-Rises Failed old new = Rose old new
-Rises answer old new = old ≤ new
+abbrev pub RisesOnFailed : Answer → ℕ → ℕ → Type 0
+RisesOnFailed Failed old new = Rose old new
+RisesOnFailed answer old new = old ≤ new
 
 -- a poll that adds this record: what it had room for is marked, the rest is held
 pub record PollsWriter (old new : WriterTells) (said : WriterSaid) (marked : List Item) : Type 0 where
@@ -114,7 +114,7 @@ pub record PollsWriter (old new : WriterTells) (said : WriterSaid) (marked : Lis
   pub fits : AreItems (scalars_of old.payload) said.items
   pub marks : marked ≡ in_room said.room said.items
   pub holds : new.holds ≡ past_room said.room said.items
-  pub faults : Rises said.answer old.faults new.faults
+  pub faults : RisesOnFailed said.answer old.faults new.faults
   pub closed : new.closed ≡ old.closed
   pub heard : new.heard ≡ old.heard
   pub kind : new.kind ≡ old.kind
@@ -144,8 +144,8 @@ pub record KeepsWriter (old new : WriterTells) : Type 0 where
   pub payload : new.payload ≡ old.payload
 
 -- held items are handed over, as many as there is room for
-abbrev pub given : WriterTells → Option ℕ → WriterTells
-given tells room = record tells { holds = past_room room tells.holds }
+abbrev pub writer_given : WriterTells → Option ℕ → WriterTells
+writer_given tells room = record tells { holds = past_room room tells.holds }
 
 -- closed: what it holds from then on is not said
 pub record ClosesWriter (old new : WriterTells) : Type 0 where
@@ -157,8 +157,8 @@ abbrev pub heard_after : {A : Type 0} → Heard A → ℕ → A → Heard A
 heard_after heard count x = option_map (λ xs. xs ++ (count, x) ∷ []) heard
 
 -- the end after a feed that it took
-abbrev pub fed : WriterTells → List ℕ → WriterTells
-fed tells bytes = record tells { heard = heard_after tells.heard (length tells.said) bytes }
+abbrev pub writer_fed : WriterTells → List ℕ → WriterTells
+writer_fed tells bytes = record tells { heard = heard_after tells.heard (length tells.said) bytes }
 
 -- THE CALLS OF A HOST READER END
 
@@ -201,16 +201,16 @@ pub record PollsReader (old new : ReaderTells) (said : ReaderSaid) (took : List 
   pub holds : new.holds ≡ option_map (λ xs. xs ++ took) old.holds
   pub taken : said.taken ≡ length took
   pub most : said.taken ≤ said.offered
-  pub faults : Rises said.answer old.faults new.faults
+  pub faults : RisesOnFailed said.answer old.faults new.faults
   pub closed : new.closed ≡ old.closed
   pub heard : new.heard ≡ old.heard
   pub kind : new.kind ≡ old.kind
   pub payload : new.payload ≡ old.payload
 
 -- closed
-abbrev pub closed_reader : ReaderTells → ReaderTells
-closed_reader tells = record tells { closed = true }
+abbrev pub reader_tells_closed : ReaderTells → ReaderTells
+reader_tells_closed tells = record tells { closed = true }
 
 -- the end after a grant that it took
-abbrev pub granted : ReaderTells → ℕ → ReaderTells
-granted tells count = record tells { heard = heard_after tells.heard (length tells.said) count }
+abbrev pub reader_granted : ReaderTells → ℕ → ReaderTells
+reader_granted tells count = record tells { heard = heard_after tells.heard (length tells.said) count }

@@ -128,15 +128,15 @@ abbrev pub with_direct : Lent → ℕ → Lent
 with_direct w capacity = record w { unmarked = behind_direct w.place capacity w.unmarked }
 
 -- the last so many of the bytes, or all of them
-abbrev pub last_of : ℕ → List ℕ → List ℕ
-last_of n bytes = drop (length bytes - n) bytes
+abbrev pub last_bytes : ℕ → List ℕ → List ℕ
+last_bytes n bytes = drop (length bytes - n) bytes
 
 -- how a place is kept: all bytes, the address and the room, and the last bytes of the room as they
 -- were lent, once they may have been written to; between host ends nothing
 abbrev pub place_kept : List Scalar → List ℕ → List ℕ → ℕ → Option ℕ → ℕ → Place
 place_kept ss bytes kept address None marked = Between
 place_kept ss bytes kept address (Some room) marked =
-    Memory (put_at bytes (address + item_size ss * marked) (last_of (item_size ss * (room - marked)) kept)) address room
+    Memory (put_at bytes (address + item_size ss * marked) (last_bytes (item_size ss * (room - marked)) kept)) address room
 
 -- the bytes behind the marked items, of the room or of all
 abbrev pub unmarked_kept : List Scalar → List ℕ → ℕ → Option ℕ → ℕ → List ℕ

@@ -2,7 +2,7 @@
 
 ghost use Rattle.std.specs.Prelude.{◌≡◌, ◌<◌, All, length, OnOk, OnErr};
 ghost use Rattle.strm_buffers.specs.AllTells.{boxes_tell};
-ghost use Rattle.strm_buffers.specs.Tells.{HoldsItems, told_by, with_told, ClosesWriter, fed, told_by_reader, with_told_reader, closed_reader, granted};
+ghost use Rattle.strm_buffers.specs.Tells.{HoldsItems, told_by, with_told, ClosesWriter, writer_fed, told_by_reader, with_told_reader, reader_tells_closed, reader_granted};
 
 use crate::boxes;
 use crate::readers::HostReader;
@@ -66,7 +66,7 @@ impl Hosts {
     #[tactic(auto, using(crate::proofs::BoxLemmas::same_boxes))]
     pub fn feed(&mut self, n: usize, bytes: &[u8]) -> Result<(), OutOfMemory>
         requires { n < length (boxes_tell writer_tells reader_tells self.old).writers }
-        ensures ok { OnOk result ((boxes_tell writer_tells reader_tells self.new) ≡ with_told (boxes_tell writer_tells reader_tells self.old) n (fed (told_by (boxes_tell writer_tells reader_tells self.old) n) bytes.now)) }
+        ensures ok { OnOk result ((boxes_tell writer_tells reader_tells self.new) ≡ with_told (boxes_tell writer_tells reader_tells self.old) n (writer_fed (told_by (boxes_tell writer_tells reader_tells self.old) n) bytes.now)) }
         ensures err { OnErr result ((boxes_tell writer_tells reader_tells self.new) ≡ (boxes_tell writer_tells reader_tells self.old)) }
     {
         boxes::feed(&mut self.writers[n], bytes)
@@ -112,7 +112,7 @@ impl Hosts {
     #[tactic(auto, using(crate::proofs::BoxLemmas::same_boxes))]
     pub fn grant(&mut self, r: usize, count: u32) -> Result<(), OutOfMemory>
         requires { r < length (boxes_tell writer_tells reader_tells self.old).readers }
-        ensures ok { OnOk result ((boxes_tell writer_tells reader_tells self.new) ≡ with_told_reader (boxes_tell writer_tells reader_tells self.old) r (granted (told_by_reader (boxes_tell writer_tells reader_tells self.old) r) count)) }
+        ensures ok { OnOk result ((boxes_tell writer_tells reader_tells self.new) ≡ with_told_reader (boxes_tell writer_tells reader_tells self.old) r (reader_granted (told_by_reader (boxes_tell writer_tells reader_tells self.old) r) count)) }
         ensures err { OnErr result ((boxes_tell writer_tells reader_tells self.new) ≡ (boxes_tell writer_tells reader_tells self.old)) }
     {
         boxes::grant(&mut self.readers[r], count)
@@ -121,7 +121,7 @@ impl Hosts {
     /// `HostReader::close`.
     pub fn close_reader(&mut self, r: usize)
         requires { r < length (boxes_tell writer_tells reader_tells self.old).readers }
-        ensures { (boxes_tell writer_tells reader_tells self.new) ≡ with_told_reader (boxes_tell writer_tells reader_tells self.old) r (closed_reader (told_by_reader (boxes_tell writer_tells reader_tells self.old) r)) }
+        ensures { (boxes_tell writer_tells reader_tells self.new) ≡ with_told_reader (boxes_tell writer_tells reader_tells self.old) r (reader_tells_closed (told_by_reader (boxes_tell writer_tells reader_tells self.old) r)) }
     {
         boxes::close_reader(&mut self.readers[r])
     }

@@ -10,7 +10,7 @@ ghost use Rattle.strm_codes.specs.declared.payloads.Payload.TheVariants.{One};
 ghost use Rattle.strm_codes.specs.declared.scalars.Scalar.TheVariants.{U8};
 ghost use Rattle.strm_memory.specs.Items.{stored, stored_at, AreItems, byte_items};
 ghost use Rattle.strm_buffers.specs.Keeping.{with_space};
-ghost use Rattle.strm_buffers.specs.Listing.{kept_items, items_in, AreKept, LieIn, AreStored};
+ghost use Rattle.strm_buffers.specs.Listing.{kept_items, items_in, AreItemsKept, LieIn, AreStored};
 
 use crate::item_bytes::ItemBytes;
 use crate::kept_bytes::{append_zeros, are_bytes};
@@ -39,13 +39,13 @@ pub struct Items {
 }
 
 impl Model for Items {
-    ghost use Rattle.strm_buffers.specs.Listing.{TypedItems, kept_items, AreKept};
+    ghost use Rattle.strm_buffers.specs.Listing.{TypedItems, kept_items, AreItemsKept};
 
     ghost Value = { TypedItems };
 
     ghost view = { λ s. kept_items s.payload s.bytes s.start s.len };
 
-    ghost invariant = { λ s. AreKept s.payload s.bytes s.start s.len };
+    ghost invariant = { λ s. AreItemsKept s.payload s.bytes s.start s.len };
 }
 
 impl Items {
@@ -64,7 +64,7 @@ impl Items {
 
     /// So many items, which these bytes are. Takes no memory.
     pub fn of_bytes(payload: Payload, bytes: Vec<u8>, len: usize) -> Items
-        requires { AreKept payload bytes.items 0 len }
+        requires { AreItemsKept payload bytes.items 0 len }
         ensures { result ≡ kept_items payload bytes.items 0 len }
     {
         Items {

@@ -7,7 +7,7 @@ ghost use Rattle.std.specs.Vec.{vec_ptr};
 ghost use Rattle.strm_memory.specs.Bytes.{put_at, IsBytes};
 ghost use Rattle.strm_codes.specs.declared.payloads.Payload.TheVariants.{One};
 ghost use Rattle.strm_codes.specs.declared.scalars.Scalar.TheVariants.{U8};
-ghost use Rattle.strm_buffers.specs.Windows.{last_of, to_keep};
+ghost use Rattle.strm_buffers.specs.Windows.{last_bytes, to_keep};
 ghost use Rattle.strm_buffers.specs.Keeping.{end_kept, kept_after, space_needed};
 
 use smallvec::SmallVec;
@@ -59,7 +59,7 @@ pub(crate) fn keep(kept: &mut Kept, room: Option<u32>, bytes: &[u8])
 
 // The last so many of the bytes, or all of them.
 pub(crate) fn last_of(bytes: &[u8], count: usize) -> &[u8]
-    ensures { result.now ≡ last_of count bytes.now }
+    ensures { result.now ≡ last_bytes count bytes.now }
 {
     bytes.split_at(bytes.len().saturating_sub(count)).1
 }

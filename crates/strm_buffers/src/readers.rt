@@ -16,7 +16,7 @@ use strm_codes::payloads::Payload;
 pub trait HostReader: Drop {
     ghost use Rattle.strm_buffers.specs.Offers.{IsBadNext};
     ghost use Rattle.strm_buffers.specs.Said.{IfAnswered, IfNoMemory};
-    ghost use Rattle.strm_buffers.specs.Tells.{ReaderTells, PollsReader, KeepsReader, SameOffer, reader_record, first_lent, closed_reader, granted};
+    ghost use Rattle.strm_buffers.specs.Tells.{ReaderTells, PollsReader, KeepsReader, SameOffer, reader_record, first_lent, reader_tells_closed, reader_granted};
 
     // What it tells of itself.
     ghost reader_tells: { Self → ReaderTells };
@@ -64,12 +64,12 @@ pub trait HostReader: Drop {
 
     /// Lets it take so many items more. `OutOfMemory` changes nothing.
     fn grant(&mut self, count: u32) -> Result<(), OutOfMemory>
-        ensures ok { OnOk result (reader_tells self.new ≡ granted (reader_tells self.old) count) }
+        ensures ok { OnOk result (reader_tells self.new ≡ reader_granted (reader_tells self.old) count) }
         ensures err { OnErr result (reader_tells self.new ≡ reader_tells self.old) };
 
     /// Its stream is gone.
     fn close(&mut self)
-        ensures { reader_tells self.new ≡ closed_reader (reader_tells self.old) };
+        ensures { reader_tells self.new ≡ reader_tells_closed (reader_tells self.old) };
 
     /// How many records there are.
     fn records(&self) -> usize

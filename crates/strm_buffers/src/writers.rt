@@ -16,7 +16,7 @@ use strm_codes::payloads::Payload;
 pub trait HostWriter: Drop {
     ghost use Rattle.strm_buffers.specs.Windows.{Between, room_of};
     ghost use Rattle.strm_buffers.specs.Said.{in_room, IfAnswered, IfNoMemory};
-    ghost use Rattle.strm_buffers.specs.Tells.{WriterTells, HoldsItems, PollsWriter, KeepsWriter, ClosesWriter, Fills, writer_record, given, fed};
+    ghost use Rattle.strm_buffers.specs.Tells.{WriterTells, HoldsItems, PollsWriter, KeepsWriter, ClosesWriter, Fills, writer_record, writer_given, writer_fed};
 
     // What it tells of itself.
     ghost writer_tells: { Self → WriterTells };
@@ -71,7 +71,7 @@ pub trait HostWriter: Drop {
         requires nothing_marked { window.old.marked ≡ [] }
         ensures marked { OnOk result (window.new.marked ≡
             in_room (room_of window.old.place) (writer_tells self.old).holds) }
-        ensures ok { OnOk result (writer_tells self.new ≡ given (writer_tells self.old) (room_of window.old.place)) }
+        ensures ok { OnOk result (writer_tells self.new ≡ writer_given (writer_tells self.old) (room_of window.old.place)) }
         ensures unmarked { OnErr result (window.new.marked ≡ []) }
         ensures err { OnErr result (writer_tells self.new ≡ writer_tells self.old) }
         ensures out_of_memory { OnErr result (window.old.place ≡ Between) }
@@ -79,7 +79,7 @@ pub trait HostWriter: Drop {
 
     /// Passes on bytes from outside. `OutOfMemory` changes nothing.
     fn feed(&mut self, bytes: &[u8]) -> Result<(), OutOfMemory>
-        ensures ok { OnOk result (writer_tells self.new ≡ fed (writer_tells self.old) bytes.now) }
+        ensures ok { OnOk result (writer_tells self.new ≡ writer_fed (writer_tells self.old) bytes.now) }
         ensures err { OnErr result (writer_tells self.new ≡ writer_tells self.old) };
 
     /// Its stream is gone.

@@ -5,7 +5,7 @@ use Rattle.std.proofs.lemmas.List.{append_assoc, append-nil}
 use Rattle.std.proofs.Math.Seq.{take-suc-set}
 use Rattle.std.specs.Prelude.{Bool, true, ◌==◌, ◌-◌, if◌then◌else◌}
 use Rattle.strm_codes.specs.declared.scalars.Scalar.{Scalar}
-use Rattle.strm_c.specs.Payloads.{scalar_at, with_field, fields_at, fields_limit}
+use Rattle.strm_c.specs.Payloads.{scalar_of_number, with_field, fields_at, fields_limit}
 
 -- these fields, and then those
 abbrev pub joined : List Scalar → Option (List Scalar) → Option (List Scalar)
@@ -27,17 +27,17 @@ fields_at-end zero = refl
 fields_at-end (suc most) = refl
 
 -- one more is there
-pub fields_at-field : (most word : ℕ) (field : Scalar) → (word == 0) ≡ false → scalar_at (word % 16) ≡ Some field → fields_at (suc most) word ≡ with_field (Some field) (fields_at most (word / 16))
+pub fields_at-field : (most word : ℕ) (field : Scalar) → (word == 0) ≡ false → scalar_of_number (word % 16) ≡ Some field → fields_at (suc most) word ≡ with_field (Some field) (fields_at most (word / 16))
 unfolding fields_at
 fields_at-field most word field e s =
-    ap (λ b. if b then Some [] else with_field (scalar_at (word % 16)) (fields_at most (word / 16))) e
+    ap (λ b. if b then Some [] else with_field (scalar_of_number (word % 16)) (fields_at most (word / 16))) e
     ∙ ap (λ f. with_field f (fields_at most (word / 16))) s
 
 -- what is there is no scalar
-pub fields_at-wrong : (most word : ℕ) → (word == 0) ≡ false → scalar_at (word % 16) ≡ None → fields_at (suc most) word ≡ None
+pub fields_at-wrong : (most word : ℕ) → (word == 0) ≡ false → scalar_of_number (word % 16) ≡ None → fields_at (suc most) word ≡ None
 unfolding fields_at
 fields_at-wrong most word e s =
-    ap (λ b. if b then Some [] else with_field (scalar_at (word % 16)) (fields_at most (word / 16))) e
+    ap (λ b. if b then Some [] else with_field (scalar_of_number (word % 16)) (fields_at most (word / 16))) e
     ∙ ap (λ f. with_field f (fields_at most (word / 16))) s
 
 -- there are too many
@@ -63,7 +63,7 @@ module _ (fields : List Scalar) (k rest word : ℕ) (found : IsFound fields k re
       ∙ ap (joined (take k fields)) (ap (fields_at (8 - k)) e ∙ fields_at-end (8 - k))
       ∙ ap Some (append-nil (take k fields))
 
-  pub found_wrong : k < 8 → (rest ≡ 0 → ⊥) → scalar_at (rest % 16) ≡ None → fields_at 8 word ≡ None
+  pub found_wrong : k < 8 → (rest ≡ 0 → ⊥) → scalar_of_number (rest % 16) ≡ None → fields_at 8 word ≡ None
   found_wrong l n s =
       let e : 8 - k ≡ suc (8 - (k + 1)) = omega (arith, l) in
       sym found
@@ -75,7 +75,7 @@ module _ (fields : List Scalar) (k rest word : ℕ) (found : IsFound fields k re
       sym found
       ∙ ap (joined (take k fields)) (ap (λ m. fields_at m rest) e ∙ fields_at-past rest (is_some_word rest n))
 
-  pub found_field : (field : Scalar) → k < length fields → k < 8 → (rest ≡ 0 → ⊥) → scalar_at (rest % 16) ≡ Some field → IsFound (set fields k field) (k + 1) (rest / 16) word
+  pub found_field : (field : Scalar) → k < length fields → k < 8 → (rest ≡ 0 → ⊥) → scalar_of_number (rest % 16) ≡ Some field → IsFound (set fields k field) (k + 1) (rest / 16) word
   found_field field i l n s =
       let e : 8 - k ≡ suc (8 - (k + 1)) = omega (arith, l) in
       let one : k + 1 ≡ suc k = omega arith in

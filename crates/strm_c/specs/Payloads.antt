@@ -9,8 +9,8 @@ use Rattle.strm_codes.specs.declared.scalars.Scalar.{Scalar}
 use Rattle.strm_codes.specs.declared.scalars.Scalar.TheVariants.{Bool as Flag, S8, U8, S16, U16, S32, U32, S64, U64, Char}
 
 -- the scalar of a number, from 1 to 10 in the order of their declaration
-abbrev pub scalar_at : ℕ → Option Scalar
-scalar_at number =
+abbrev pub scalar_of_number : ℕ → Option Scalar
+scalar_of_number number =
     if number == 1 then Some Flag
     else (if number == 2 then Some S8
     else (if number == 3 then Some U8
@@ -23,17 +23,17 @@ scalar_at number =
     else (if number == 10 then Some Char else None)))))))))
 
 -- and its number
-abbrev pub scalar_number : Scalar → ℕ
-scalar_number Flag = 1
-scalar_number S8 = 2
-scalar_number U8 = 3
-scalar_number S16 = 4
-scalar_number U16 = 5
-scalar_number S32 = 6
-scalar_number U32 = 7
-scalar_number S64 = 8
-scalar_number U64 = 9
-scalar_number Char = 10
+abbrev pub number_of_scalar : Scalar → ℕ
+number_of_scalar Flag = 1
+number_of_scalar S8 = 2
+number_of_scalar U8 = 3
+number_of_scalar S16 = 4
+number_of_scalar U16 = 5
+number_of_scalar S32 = 6
+number_of_scalar U32 = 7
+number_of_scalar S64 = 8
+number_of_scalar U64 = 9
+number_of_scalar Char = 10
 
 -- a field before others, if all are scalars
 abbrev pub with_field : Option Scalar → Option (List Scalar) → Option (List Scalar)
@@ -44,7 +44,7 @@ with_field field more = None
 unfoldable pub fields_at : ℕ → ℕ → Option (List Scalar)
 fields_at zero word = if word == 0 then Some [] else None
 fields_at (suc most) word =
-    if word == 0 then Some [] else with_field (scalar_at (word % 16)) (fields_at most (word / 16))
+    if word == 0 then Some [] else with_field (scalar_of_number (word % 16)) (fields_at most (word / 16))
 
 -- a tuple has fields
 abbrev pub tuple_with : Option (List Scalar) → Option Payload
@@ -63,7 +63,7 @@ future_bit = 8589934592
 abbrev pub payload_at : ℕ → Option Payload
 payload_at word =
     if nat_lt word tuple_bit
-    then (if word == 0 then Some Nothing else option_map One (scalar_at word))
+    then (if word == 0 then Some Nothing else option_map One (scalar_of_number word))
     else tuple_with (fields_at 8 (word - tuple_bit))
 
 -- the type of a word: its payload's, with the future's bit or without
@@ -76,7 +76,7 @@ type_at word =
 -- fields as a word
 abbrev pub fields_word : List Scalar → ℕ
 fields_word [] = 0
-fields_word (field ∷ more) = scalar_number field + 16 * fields_word more
+fields_word (field ∷ more) = number_of_scalar field + 16 * fields_word more
 
 -- the first number that is no word of so many fields
 abbrev pub fields_limit : List Scalar → ℕ
@@ -86,7 +86,7 @@ fields_limit (field ∷ more) = 16 * fields_limit more
 -- a payload as its word
 abbrev pub payload_word : Payload → ℕ
 payload_word Nothing = 0
-payload_word (One scalar) = scalar_number scalar
+payload_word (One scalar) = number_of_scalar scalar
 payload_word (Tuple fields) = tuple_bit + fields_word fields
 
 -- a type as its word

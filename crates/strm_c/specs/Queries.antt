@@ -19,5 +19,5 @@ abbrev pub bytes_answer : State → ℕ → ℕ → ℕ → Result (Unit {0}) Re
 bytes_answer state guest address len = or_found (first_of (bytes_reasons state guest address len)) tt
 
 -- a count in two words
-abbrev pub count_of : StrmCount → ℕ
-count_of count = count.low + 18446744073709551616 * count.high
+abbrev pub count_in_words : StrmCount → ℕ
+count_in_words count = count.low + 18446744073709551616 * count.high

@@ -28,8 +28,8 @@ abbrev pub no_payload : ℕ
 no_payload = 67
 
 -- no stream has the number, or none of which an end is there
-abbrev pub no_stream : ℕ
-no_stream = 68
+abbrev pub no_stream_status : ℕ
+no_stream_status = 68
 
 -- the handle is of no store
 abbrev pub no_store : ℕ
@@ -90,9 +90,9 @@ pub record IsNothing (old : Option State) (why status old_word new_word : ℕ) (
   pub state_is : new ≡ old
 
 -- a call on a handle: the machine's step of its store, if it is of one
-abbrev pub Answers : Option State → (State → Reaction) → ℕ → ℕ → ℕ → Option State → Type 0
-Answers (Some old) step status old_word new_word new = IsAnswer (step old) status old_word new_word new
-Answers None step status old_word new_word new = IsNothing None no_store status old_word new_word new
+abbrev pub AnswersCall : Option State → (State → Reaction) → ℕ → ℕ → ℕ → Option State → Type 0
+AnswersCall (Some old) step status old_word new_word new = IsAnswer (step old) status old_word new_word new
+AnswersCall None step status old_word new_word new = IsNothing None no_store status old_word new_word new
 
 -- the same where memory may be wanted
 abbrev pub AnswersOr : Option State → (State → Reaction) → ℕ → ℕ → ℕ → Option State → Type 0

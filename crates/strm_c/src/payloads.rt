@@ -3,7 +3,7 @@
 //! Meaning: `Payloads.antt`. Ours.
 
 ghost use Rattle.std.specs.Prelude.{◌≡◌, ◌<◌, ◌≤◌, Some, length};
-ghost use Rattle.strm_c.specs.Payloads.{scalar_at, scalar_number, fields_at, fields_word, fields_limit, tuple_with, payload_at, payload_word, type_at, type_word};
+ghost use Rattle.strm_c.specs.Payloads.{scalar_of_number, number_of_scalar, fields_at, fields_word, fields_limit, tuple_with, payload_at, payload_word, type_at, type_word};
 
 use strm_codes::codes::TransmitIndex;
 use strm_codes::payloads::{Payload, Shape};
@@ -18,7 +18,7 @@ const FUTURE: u64 = 8_589_934_592;
 // The scalar of a number.
 #[inline(always)]
 fn scalar_at(number: u64) -> Option<Scalar>
-    ensures { result ≡ scalar_at number }
+    ensures { result ≡ scalar_of_number number }
 {
     match number {
         1 => Some(Scalar::Bool),
@@ -37,7 +37,7 @@ fn scalar_at(number: u64) -> Option<Scalar>
 
 // The number of a scalar.
 fn scalar_number(scalar: Scalar) -> u64
-    ensures exact { result ≡ scalar_number scalar }
+    ensures exact { result ≡ number_of_scalar scalar }
     ensures small { result < 16 }
 {
     match scalar {

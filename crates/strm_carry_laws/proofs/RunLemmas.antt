@@ -9,14 +9,14 @@ use Rattle.strm_machine.specs.Reactions.{Reaction, react}
 use Rattle.strm_machine.specs.Moments.{Moment, moment_of, got_in}
 use Rattle.strm_machine.specs.declared.steps.Step.{Step}
 use Rattle.strm_machine.specs.declared.replies.Reply.{Reply}
-use Rattle.strm_laws.specs.Conservation.{last, moments, replies_of, got}
-use Rattle.strm_carry_laws.specs.OneStream.{items_of, dumped_in, dumped, AreSettled}
+use Rattle.strm_laws.specs.Conservation.{state_after_steps, moments, replies_of, got}
+use Rattle.strm_carry_laws.specs.OneStream.{bytes_as_items, dumped_in, dumped, AreSettled}
 use Rattle.strm_carry_laws.specs.Serving.{Runs}
 
 pub runs_none : (st : State) → Runs st st [] [] []
 runs_none st = record { ends = refl; gets = refl; dumps = refl; settles = tt }
 
-pub runs_step : (st : State) (x : Step) (r : Reaction) (taken : List ℕ) → react st x ≡ r → is_settled r.reply ≡ true → got_in 0 (moment_of st x) ≡ items_of taken → Runs st r.state (x ∷ []) taken (dumped_in r.reply)
+pub runs_step : (st : State) (x : Step) (r : Reaction) (taken : List ℕ) → react st x ≡ r → is_settled r.reply ≡ true → got_in 0 (moment_of st x) ≡ bytes_as_items taken → Runs st r.state (x ∷ []) taken (dumped_in r.reply)
 runs_step st x r taken e s g = record {
   ends = ap (λ (q : Reaction). q.state) e;
   gets = append-nil (got_in 0 (moment_of st x)) ∙ g;
@@ -24,13 +24,13 @@ runs_step st x r taken e s g = record {
   settles = (ap (λ (q : Reaction). is_settled q.reply) e ∙ s, tt);
 }
 
-moments-append : (st : State) (xs ys : List Step) → moments st (xs ++ ys) ≡ moments st xs ++ moments (last st xs) ys
+moments-append : (st : State) (xs ys : List Step) → moments st (xs ++ ys) ≡ moments st xs ++ moments (state_after_steps st xs) ys
 moments-append st [] ys = refl
 moments-append st (x ∷ xs) ys = ap (λ (all : List Moment). moment_of st x ∷ all) (moments-append (react st x).state xs ys)
 
-last-append : (st : State) (xs ys : List Step) → last st (xs ++ ys) ≡ last (last st xs) ys
-last-append st [] ys = refl
-last-append st (x ∷ xs) ys = last-append (react st x).state xs ys
+state_after_steps-append : (st : State) (xs ys : List Step) → state_after_steps st (xs ++ ys) ≡ state_after_steps (state_after_steps st xs) ys
+state_after_steps-append st [] ys = refl
+state_after_steps-append st (x ∷ xs) ys = state_after_steps-append (react st x).state xs ys
 
 got-append : (one two : List Moment) → got 0 (one ++ two) ≡ got 0 one ++ got 0 two
 got-append [] two = refl
@@ -47,7 +47,7 @@ runs_both from mid to xs ys t u d e a b =
     let told : replies_of (moments from (xs ++ ys)) ≡ replies_of (moments from xs) ++ replies_of (moments mid ys) =
     ap replies_of all ∙ map-append (λ (m : Moment). m.reply) (moments from xs) (moments mid ys) in
     record {
-      ends = last-append from xs ys ∙ ap (λ (s : State). last s ys) a.ends ∙ b.ends;
+      ends = state_after_steps-append from xs ys ∙ ap (λ (s : State). state_after_steps s ys) a.ends ∙ b.ends;
       gets = ap (got 0) all ∙ got-append (moments from xs) (moments mid ys)
           ∙ rw (a.gets, b.gets) (sym (map-append (λ (x : ℕ). Some (pos x ∷ [])) t u));
       dumps = ap dumped told ∙ flat_map-append dumped_in (replies_of (moments from xs)) (replies_of (moments mid ys)) ∙ rw (a.dumps, b.dumps) refl;

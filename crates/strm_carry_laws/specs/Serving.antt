@@ -6,19 +6,19 @@ use Rattle.strm_memory.specs.Bytes.{IsBytes}
 use Rattle.strm_machine.specs.State.{State, no_guest, stream_at}
 use Rattle.strm_machine.specs.declared.steps.Step.{Step}
 use Rattle.strm_machine.specs.declared.steps.Step.TheVariants as steps
-use Rattle.strm_laws.specs.Conservation.{last, moments, replies_of, got}
-use Rattle.strm_carry_laws.specs.OneStream.{new_store, byte_stream, items_of, dumped, AreSettled}
+use Rattle.strm_laws.specs.Conservation.{state_after_steps, moments, replies_of, got}
+use Rattle.strm_carry_laws.specs.OneStream.{new_store, byte_stream, bytes_as_items, dumped, AreSettled}
 
 -- both guests and the stream are made
-abbrev pub made : State
-made = last new_store (steps.Guest 64 ∷ steps.Guest 64 ∷ steps.Between 0 1 byte_stream ∷ [])
+abbrev pub carry_made : State
+carry_made = state_after_steps new_store (steps.Guest 64 ∷ steps.Guest 64 ∷ steps.Between 0 1 byte_stream ∷ [])
 
 -- both ends are at rest, with these memories, after so many bytes
 abbrev pub rests : List ℕ → List ℕ → ℕ → State
-rests m0 m1 n = record made {
-  guests = (record (slice_index_or made.guests 0 no_guest) { memory = m0 })
-      ∷ (record (slice_index_or made.guests 1 no_guest) { memory = m1 }) ∷ [];
-  streams = (record (stream_at made 0) { received = n }) ∷ [];
+rests m0 m1 n = record carry_made {
+  guests = (record (slice_index_or carry_made.guests 0 no_guest) { memory = m0 })
+      ∷ (record (slice_index_or carry_made.guests 1 no_guest) { memory = m1 }) ∷ [];
+  streams = (record (stream_at carry_made 0) { received = n }) ∷ [];
 }
 
 -- a write that waits, whose next byte of so many left lies at this address, after so many were moved
@@ -34,8 +34,8 @@ serving m0 m1 n a j i met =
 
 -- a run from one state to another, in which these bytes are got, and these are dumped
 pub record Runs (from to : State) (run : List Step) (taken told : List ℕ) : Type 0 where
-  pub ends : last from run ≡ to
-  pub gets : got 0 (moments from run) ≡ items_of taken
+  pub ends : state_after_steps from run ≡ to
+  pub gets : got 0 (moments from run) ≡ bytes_as_items taken
   pub dumps : dumped (replies_of (moments from run)) ≡ told
   pub settles : AreSettled (replies_of (moments from run))
 

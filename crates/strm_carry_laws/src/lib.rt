@@ -5,13 +5,13 @@
 
 ghost use Rattle.std.specs.Prelude.{◌≡◌, ◌≤◌, ◌<◌, ◌∷◌, ◌++◌, ◌+◌, ◌-◌, ◌*◌, ◌^◌, [], ℕ, Bool, true, false, List, length, min, take, drop, map, Some};
 ghost use Rattle.strm_codes.specs.declared.codes.ReturnCode.TheVariants as codes;
-ghost use Rattle.strm_laws.specs.Conservation.{got, moments, last, replies_of};
+ghost use Rattle.strm_laws.specs.Conservation.{got, moments, state_after_steps, replies_of};
 ghost use Rattle.strm_machine.specs.Moments.{moment_of, got_in};
 ghost use Rattle.strm_machine.specs.Reactions.{react};
 ghost use Rattle.strm_machine.specs.declared.replies.Reply.TheVariants as replies;
 ghost use Rattle.strm_machine.specs.declared.steps.Step.TheVariants as steps;
 ghost use Rattle.strm_memory.specs.Bytes.{IsBytes, put_at};
-ghost use Rattle.strm_carry_laws.specs.OneStream.{new_store, byte_stream, reads_of, piece_of, pieces_of, script_of, CanCarry, items_of, dumped, AreSettled};
+ghost use Rattle.strm_carry_laws.specs.OneStream.{new_store, byte_stream, reads_of, piece_of, piece_steps, script_of, CanCarry, bytes_as_items, dumped, AreSettled};
 ghost use Rattle.strm_carry_laws.specs.Serving.{rests, serving, Drains, Brings};
 
 // Bytes are put into the writer's memory.
@@ -59,7 +59,7 @@ fn tells()
 fn gets()
     ensures read { (m0 m1 : List ℕ) (n a i j r : ℕ) (met : Bool) → IsBytes m0 → length m0 ≡ 64 → length m1 ≡ 64 →
         n + 64 < 2 ^ 128 → 0 < j → a + j ≤ 64 → 0 < r → r ≤ 64 →
-        got_in 0 (moment_of (serving m0 m1 n a j i met) (steps.Read 1 byte_stream 1 0 r)) ≡ items_of (take (min r j) (drop a m0)) }
+        got_in 0 (moment_of (serving m0 m1 n a j i met) (steps.Read 1 byte_stream 1 0 r)) ≡ bytes_as_items (take (min r j) (drop a m0)) }
     ensures poke { (m0 m1 p : List ℕ) (n : ℕ) → length m0 ≡ 64 → 0 < length p → length p ≤ 64 →
         got_in 0 (moment_of (rests m0 m1 n) (steps.Poke 0 0 p)) ≡ [] }
     ensures write { (m0 m1 : List ℕ) (n k : ℕ) → length m0 ≡ 64 → 0 < k → k ≤ 64 →
@@ -104,7 +104,7 @@ fn brings()
 #[tactic(none)]
 fn brings_all()
     ensures { (f w r : ℕ) (m0 m1 bytes : List ℕ) (n : ℕ) → length bytes ≤ f → IsBytes m0 → IsBytes bytes → length m0 ≡ 64 → length m1 ≡ 64 →
-        n + length bytes + 128 < 2 ^ 128 → 0 < w → w ≤ 64 → 0 < r → r ≤ 64 → Brings m0 m1 n bytes (pieces_of f w r bytes) }
+        n + length bytes + 128 < 2 ^ 128 → 0 < w → w ≤ 64 → 0 < r → r ≤ 64 → Brings m0 m1 n bytes (piece_steps f w r bytes) }
 {
     brings();
 }
@@ -114,9 +114,9 @@ fn brings_all()
 #[tactic(none)]
 pub fn carries()
     ensures got { (w r : ℕ) (bytes : List ℕ) → CanCarry w r bytes →
-        got 0 (moments new_store (script_of w r bytes)) ≡ items_of bytes }
+        got 0 (moments new_store (script_of w r bytes)) ≡ bytes_as_items bytes }
     ensures received { (w r : ℕ) (bytes : List ℕ) → CanCarry w r bytes →
-        map (λ s. s.received) (last new_store (script_of w r bytes)).streams ≡ length bytes ∷ [] }
+        map (λ s. s.received) (state_after_steps new_store (script_of w r bytes)).streams ≡ length bytes ∷ [] }
     ensures dumped { (w r : ℕ) (bytes : List ℕ) → CanCarry w r bytes →
         dumped (replies_of (moments new_store (script_of w r bytes))) ≡ bytes }
     ensures settled { (w r : ℕ) (bytes : List ℕ) → CanCarry w r bytes →

@@ -14,8 +14,8 @@ use Rattle.strm_lines.proofs.ReadingLemmas.{IsReading, IsReading-within, behind_
 use Rattle.strm_chain.specs.declared.stages.Stage.{Stage}
 use Rattle.strm_chain.specs.declared.stages.Stage.TheVariants as stages
 use Rattle.strm_chain.specs.Faults.{is_twice}
-use Rattle.strm_chain.specs.Asking.{stage_word, HasWord, Asks, IsAsked}
-use Rattle.strm_chain.specs.WordReading.{numbered, numbered_read, stage_read, Spells}
+use Rattle.strm_chain.specs.Asking.{stage_word, HasWord, Asks, IsChainAsked}
+use Rattle.strm_chain.specs.WordReading.{numbered_stage, numbered_read, stage_read, SpellsStages}
 
 -- ONE WORD
 
@@ -48,11 +48,11 @@ numbered_sound word s e = by_add (behind (codes "add:") word) refl e
     by_first None b e = absurd (none-some s e)
     by_first (Some rest) b e = let n = numbered_is (codes "first:") 4294967295 stages.First (omega arith) word rest s b e in rw (← n.made) (n.spelled, n.fits)
 
-    by_without : (o : Option (List ℕ)) → behind (codes "without:") word ≡ o → option_map_or (λ rest. option_map stages.Without (number_within 0 255 rest)) o (numbered (codes "first:") 4294967295 stages.First word None) ≡ Some s → IsSpelled s word
+    by_without : (o : Option (List ℕ)) → behind (codes "without:") word ≡ o → option_map_or (λ rest. option_map stages.Without (number_within 0 255 rest)) o (numbered_stage (codes "first:") 4294967295 stages.First word None) ≡ Some s → IsSpelled s word
     by_without None b e = by_first (behind (codes "first:") word) refl e
     by_without (Some rest) b e = let n = numbered_is (codes "without:") 255 stages.Without (omega arith) word rest s b e in rw (← n.made) (n.spelled, n.fits)
 
-    by_add : (o : Option (List ℕ)) → behind (codes "add:") word ≡ o → option_map_or (λ rest. option_map stages.Add (number_within 0 255 rest)) o (numbered (codes "without:") 255 stages.Without word (numbered (codes "first:") 4294967295 stages.First word None)) ≡ Some s → IsSpelled s word
+    by_add : (o : Option (List ℕ)) → behind (codes "add:") word ≡ o → option_map_or (λ rest. option_map stages.Add (number_within 0 255 rest)) o (numbered_stage (codes "without:") 255 stages.Without word (numbered_stage (codes "first:") 4294967295 stages.First word None)) ≡ Some s → IsSpelled s word
     by_add None b e = by_without (behind (codes "without:") word) refl e
     by_add (Some rest) b e = let n = numbered_is (codes "add:") 255 stages.Add (omega arith) word rest s b e in rw (← n.made) (n.spelled, n.fits)
 
@@ -82,14 +82,14 @@ IsReading-stage = record { sound = stage_sound; complete = stage_complete }
 
 -- WORDS
 
-pub spells_none : {X : Type 0} (f : X → List ℕ) (items : List X) → Spells (map f (take 0 items)) []
+pub spells_none : {X : Type 0} (f : X → List ℕ) (items : List X) → SpellsStages (map f (take 0 items)) []
 spells_none f items = record { words_are = refl; have = All-nil HasWord }
 
 module _ {X : Type 0} (f : X → List ℕ) (items : List X) (k : ℕ) (x : X) (word : List ℕ) (l : k < length items) (at : x ≡ get_or items k x) (is : word ≡ f x) where
   read_at : stage_read word ≡ stage_read (f (get_or items k x))
   read_at = ap stage_read (is ∙ ap f at)
 
-  pub spells_more : (list : List Stage) (s : Stage) → Spells (map f (take k items)) list → Some s ≡ stage_read word → Spells (map f (take (k + 1) items)) (list ++ s ∷ [])
+  pub spells_more : (list : List Stage) (s : Stage) → SpellsStages (map f (take k items)) list → Some s ≡ stage_read word → SpellsStages (map f (take (k + 1) items)) (list ++ s ∷ [])
   spells_more list s h e =
       let r = IsReading-stage.sound (f (get_or items k x)) s (sym (e ∙ read_at)) in
       let spelled : f (get_or items k x) ∷ [] ≡ stage_word s ∷ [] = ap (λ w. w ∷ []) (sym r.0) in
@@ -100,7 +100,7 @@ module _ {X : Type 0} (f : X → List ℕ) (items : List X) (k : ℕ) (x : X) (w
       }
 
   -- where one word is none of a stage, all are not those of stages
-  pub not_spelled : None ≡ stage_read word → (list : List Stage) → ¬ Spells (map f items) list
+  pub not_spelled : None ≡ stage_read word → (list : List Stage) → ¬ SpellsStages (map f items) list
   not_spelled none list h =
       let long : length items ≡ length list = sym (length-map items f) ∙ ap length h.words_are ∙ length-map list stage_word in
       let inside : k < length list = omega (arith, l, long) in
@@ -110,7 +110,7 @@ module _ {X : Type 0} (f : X → List ℕ) (items : List X) (k : ℕ) (x : X) (w
       none-some s (none ∙ read)
 
 -- words are as many as the stages that they spell
-pub spelled_many : {X : Type 0} (f : X → List ℕ) (items : List X) (list : List Stage) → Spells (map f items) list → length items ≡ length list
+pub spelled_many : {X : Type 0} (f : X → List ℕ) (items : List X) (list : List Stage) → SpellsStages (map f items) list → length items ≡ length list
 spelled_many f items list h = sym (length-map items f) ∙ ap length h.words_are ∙ length-map list stage_word
 
 heads : {X : Type 0} (a b : X) (xs ys : List X) → a ∷ xs ≡ b ∷ ys → (a ≡ b) × (xs ≡ ys)
@@ -130,11 +130,11 @@ same_stages (s ∷ list) (t ∷ other) h i e =
     rw (one, rest) refl
 
 -- words spell one list of stages
-pub one_spelling : (words : List (List ℕ)) (list other : List Stage) → Spells words list → Spells words other → list ≡ other
+pub one_spelling : (words : List (List ℕ)) (list other : List Stage) → SpellsStages words list → SpellsStages words other → list ≡ other
 one_spelling words list other h i = same_stages list other h.have i.have (sym h.words_are ∙ i.words_are)
 
 -- so that where they are too many or too many are Twice, no others are fewer
-pub too_many_twice : (words : List (List ℕ)) (list other : List Stage) → Spells words list → 2 < count_by is_twice list → count_by is_twice other ≤ 2 → ¬ Spells words other
+pub too_many_twice : (words : List (List ℕ)) (list other : List Stage) → SpellsStages words list → 2 < count_by is_twice list → count_by is_twice other ≤ 2 → ¬ SpellsStages words other
 too_many_twice words list other h m l i = let same : count_by is_twice list ≡ count_by is_twice other = ap (count_by is_twice) (one_spelling words list other h i) in absurd (omega (arith, m, l, same))
 
 -- A CHAIN
@@ -143,7 +143,7 @@ module _ {X : Type 0} (f : X → List ℕ) (items rest : List X) (first : X) (wo
   words_are : map f items ≡ word ∷ map f rest
   words_are = ap (map f) e ∙ ap (λ w. w ∷ map f rest) (sym is)
 
-  pub asks : (chunk : ℕ) (list : List Stage) → Some chunk ≡ number_within 16 64 word → Spells (map f rest) list → length list ≤ 8 → count_by is_twice list ≤ 2 → Asks (map f items) chunk list
+  pub asks : (chunk : ℕ) (list : List Stage) → Some chunk ≡ number_within 16 64 word → SpellsStages (map f rest) list → length list ≤ 8 → count_by is_twice list ≤ 2 → Asks (map f items) chunk list
   asks chunk list n h few twice =
       let c = (IsReading-within 16 64 (omega arith)).sound word chunk (sym n) in
       record {
@@ -157,16 +157,16 @@ module _ {X : Type 0} (f : X → List ℕ) (items rest : List X) (first : X) (wo
   parts : (chunk : ℕ) (list : List Stage) → Asks (map f items) chunk list → (word ≡ decimal chunk) × (map f rest ≡ map stage_word list)
   parts chunk list a = heads word (decimal chunk) (map f rest) (map stage_word list) (sym words_are ∙ a.words_are)
 
-  pub asks_chunk : None ≡ number_within 16 64 word → ¬ IsAsked (map f items)
+  pub asks_chunk : None ≡ number_within 16 64 word → ¬ IsChainAsked (map f items)
   asks_chunk none a =
       let p = parts a.0 a.1 a.2 in
       let read : number_within 16 64 word ≡ Some a.0 = ap (number_within 16 64) p.0 ∙ (IsReading-within 16 64 (omega arith)).complete a.0 a.2.chunk_is in
       none-some a.0 (none ∙ read)
 
-  pub asks_stages : ((list : List Stage) → length list ≤ 8 → count_by is_twice list ≤ 2 → ¬ Spells (map f rest) list) → ¬ IsAsked (map f items)
+  pub asks_stages : ((list : List Stage) → length list ≤ 8 → count_by is_twice list ≤ 2 → ¬ SpellsStages (map f rest) list) → ¬ IsChainAsked (map f items)
   asks_stages none a = none a.1 a.2.few a.2.few_twice (record { words_are = (parts a.0 a.1 a.2).1; have = a.2.have })
 
-pub asks_some : {X : Type 0} (f : X → List ℕ) (items : List X) → items ≡ [] → ¬ IsAsked (map f items)
+pub asks_some : {X : Type 0} (f : X → List ℕ) (items : List X) → items ≡ [] → ¬ IsChainAsked (map f items)
 asks_some f items e a = let none : [] ≡ decimal a.0 ∷ map stage_word a.1 = ap (map f) (sym e) ∙ a.2.words_are in cc
 
 -- words ask for one chain

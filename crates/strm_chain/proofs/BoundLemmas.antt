@@ -11,10 +11,10 @@ use Rattle.strm_chain.specs.declared.stages.Stage.TheVariants.{Copy}
 use Rattle.strm_chain.specs.declared.workers.Worker.{Worker}
 use Rattle.strm_chain.specs.Stages.{of, twice, sums}
 use Rattle.strm_chain.specs.Faults.{is_twice}
-use Rattle.strm_chain.specs.Playing.{Play}
+use Rattle.strm_chain.specs.Playing.{ChainPlay}
 use Rattle.strm_chain.specs.Flowing.{IsFront, stage_at}
 use Rattle.strm_chain.specs.Keeping.{worker_at, stages_of, input_of, IsJoined}
-use Rattle.strm_chain.specs.Measuring.{most_of, most_in, taken_from}
+use Rattle.strm_chain.specs.Measuring.{most_of, most_in, taken_in_bytes}
 use Rattle.strm_chain.proofs.MomentLemmas.{IsRunOf, count_is}
 use Rattle.strm_chain.proofs.EndLemmas.{length-items, shorter, many_stages, bytes, got_bytes, first_front, behind_front}
 
@@ -85,7 +85,7 @@ most-next ss i c l = ap (λ s. most_of s c) (take_more ss i Copy l) ∙ most-pus
 front_less : (front whole : List ℕ) → IsFront front whole → length front ≤ length whole
 front_less front whole e = omega (arith, ap length e, take_less (length front) whole)
 
-module _ (p : Play) (ws : List Worker) (some : 2 ≤ length ws) (j : IsJoined p ws) where
+module _ (p : ChainPlay) (ws : List Worker) (some : 2 ≤ length ws) (j : IsJoined p ws) where
   abbrev carried : ℕ → List ℕ
   carried i = bytes p ws some j i
 
@@ -111,7 +111,7 @@ module _ (p : Play) (ws : List Worker) (some : 2 ≤ length ws) (j : IsJoined p 
         let long : received i p.state ≡ length (carried i) = sym (count_is p i run) ∙ ap length (got_bytes p ws some j i l) ∙ length-items (carried i) in
         omega (arith, long, carried_few i l, most_front i (stages_of ws) (length (input_of ws)))
 
-    pub taken_few : (i : ℕ) → i + 1 < length ws → taken_from p.state i ≤ most_in ws
+    pub taken_few : (i : ℕ) → i + 1 < length ws → taken_in_bytes p.state i ≤ most_in ws
     taken_few i l = omega (arith, received_few i l)
 
     -- what a guest has handed over was received

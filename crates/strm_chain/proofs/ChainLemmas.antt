@@ -8,7 +8,7 @@ use Rattle.strm_machine.specs.Plays.{play, Ends}
 use Rattle.strm_machine.specs.State.{empty, memory_in}
 use Rattle.strm_machine.specs.Moments.{received}
 use Rattle.strm_machine.specs.declared.limits.Limits.{Limits}
-use Rattle.strm_laws.specs.Conservation.{moments, last}
+use Rattle.strm_laws.specs.Conservation.{moments, state_after_steps}
 use Rattle.strm_laws.specs.Laws.{AreSteps, Conserves}
 use Rattle.strm_machine.specs.declared.steps.Step.{Step}
 use Rattle.strm_machine.specs.declared.replies.Reply.{Reply}
@@ -17,15 +17,15 @@ use Rattle.strm_chain.specs.declared.workers.Worker.{Worker}
 use Rattle.strm_chain.specs.declared.stages.Stage.TheVariants.{Copy}
 use Rattle.strm_chain.specs.declared.workers.ChainTurn.{ChainTurn}
 use Rattle.strm_chain.specs.Stages.{composed}
-use Rattle.strm_chain.specs.Playing.{start, Play, IsPlayed}
+use Rattle.strm_chain.specs.Playing.{chain_start, ChainPlay, IsChainPlayed}
 use Rattle.strm_chain.specs.Flowing.{got_on, Flows}
 use Rattle.strm_chain.specs.Reporting.{is_told}
 use Rattle.strm_chain.specs.Turning.{Turns}
-use Rattle.strm_chain.specs.Running.{guests_made, streams_made, AreTurns, AreSomeTurns, IsRun}
+use Rattle.strm_chain.specs.Running.{guests_made, streams_made, AreTurns, AreSomeTurns, IsChainRun}
 use Rattle.strm_chain.specs.Turned.{Turned}
 use Rattle.strm_chain.specs.Making.{IsReady}
-use Rattle.strm_chain.specs.Measuring.{IsStuck, Lowers}
-use Rattle.strm_chain.specs.Keeping.{ChainState, new_worker, worker_at, sink_of, stages_of, input_of, IsJoined, IsGoing, IsGoingUnless, IsChain, Begins, GoesOn}
+use Rattle.strm_chain.specs.Measuring.{IsStuck, LowersMeasure}
+use Rattle.strm_chain.specs.Keeping.{ChainState, new_worker, worker_at, sink_of, stages_of, input_of, IsJoined, IsGoing, IsGoingUnless, IsChain, BeginsChain, ChainGoesOn}
 use Rattle.strm_chain.proofs.MomentLemmas.{played_run}
 use Rattle.strm_chain.proofs.JoinedLemmas.{OneChanged, either}
 use Rattle.strm_chain.proofs.TurnLemmas.{turn_joined}
@@ -52,12 +52,12 @@ same_stages ws ws' g one e =
     part : (xs : List Worker) → take (length xs - 2) (drop 1 (map stage_of xs)) ≡ map stage_of (take (length xs - 2) (drop 1 xs))
     part xs = ap (take (length xs - 2)) (drop-map stage_of 1 xs) ∙ take-map stage_of (length xs - 2) (drop 1 xs)
 
-module _ {E : Type 0} (p q : Play) (ws ws' : List Worker) (g chunk : ℕ) (r : Result ChainTurn E) (within : (16 ≤ chunk) × (chunk ≤ 64)) (there : g < length ws) (one : OneChanged g ws ws') where
+module _ {E : Type 0} (p q : ChainPlay) (ws ws' : List Worker) (g chunk : ℕ) (r : Result ChainTurn E) (within : (16 ≤ chunk) × (chunk ≤ 64)) (there : g < length ws) (one : OneChanged g ws ws') where
   abbrev IsTurned : Type 0
   IsTurned = IfOk r (λ turn. Turned g chunk (worker_at ws g) p turn (worker_at ws' g) q)
 
   -- the sink knows what it was told
-  told_on : (turn : ChainTurn) → IsPlayed p → IsGoing p ws → Turned g chunk (worker_at ws g) p turn (worker_at ws' g) q → is_told (length ws' - 1) q.steps q.replies ≡ (sink_of ws').closed
+  told_on : (turn : ChainTurn) → IsChainPlayed p → IsGoing p ws → Turned g chunk (worker_at ws g) p turn (worker_at ws' g) q → is_told (length ws' - 1) q.steps q.replies ≡ (sink_of ws').closed
   told_on turn a go y =
       let k = length ws - 1 in
       subst (λ n. is_told (n - 1) q.steps q.replies ≡ (worker_at ws' (n - 1)).closed) (sym one.many)
@@ -69,7 +69,7 @@ module _ {E : Type 0} (p q : Play) (ws ws' : List Worker) (g chunk : ℕ) (r : R
             ∙ sym (ap (λ (w : Worker). w.closed) (one.others k (λ e. ne (sym e))))
       ])
 
-  pub going_ok : IsPlayed p → IsPlayed q → IsGoing p ws → IsTurned → OnOk r (IsGoing q ws')
+  pub going_ok : IsChainPlayed p → IsChainPlayed q → IsGoing p ws → IsTurned → OnOk r (IsGoing q ws')
   going_ok a b go t = by r t
     where
       by : (x : Result ChainTurn E) → IfOk x (λ turn. Turned g chunk (worker_at ws g) p turn (worker_at ws' g) q) → OnOk x (IsGoing q ws')
@@ -105,10 +105,10 @@ module _ {E : Type 0} (p q : Play) (ws ws' : List Worker) (g chunk : ℕ) (r : R
       by (Ok turn) y = turned_turns (length ws - 1) g chunk (worker_at ws g) (worker_at ws' g) p q turn (omega (arith, within.0)) (stands p ws go g there) y
       by (Err e) y = tt
 
-  pub lowers_ok : IsPlayed p → IsPlayed q → IsGoing p ws → 2 ≤ length ws → IsTurned → IfOk r (λ turn. Lowers g turn p.state ws q.state ws')
+  pub lowers_ok : IsChainPlayed p → IsChainPlayed q → IsGoing p ws → 2 ≤ length ws → IsTurned → IfOk r (λ turn. LowersMeasure g turn p.state ws q.state ws')
   lowers_ok a b go some t = by r t
     where
-      by : (x : Result ChainTurn E) → IfOk x (λ turn. Turned g chunk (worker_at ws g) p turn (worker_at ws' g) q) → IfOk x (λ turn. Lowers g turn p.state ws q.state ws')
+      by : (x : Result ChainTurn E) → IfOk x (λ turn. Turned g chunk (worker_at ws g) p turn (worker_at ws' g) q) → IfOk x (λ turn. LowersMeasure g turn p.state ws q.state ws')
       by (Ok turn) y =
           turn_lowers p q ws ws' g chunk turn some there within.1 one
           (record { many = one.many; stages = same_stages ws ws' g one (turned_stage g chunk (worker_at ws g) (worker_at ws' g) p q turn y); input = same_input go.joined turn y })
@@ -123,22 +123,22 @@ pub written_back : (n : ℕ) (new old : List Worker) → length new ≡ length o
 written_back n new old many e =
     take-append-le n new (drop (length new) old) (omega (arith, many, e)) ∙ take_all n new (omega (arith, many, e))
 
-pub going_of : (failed : Bool) (p : Play) (ws : List Worker) → IsGoingUnless failed p ws → failed ≡ false → IsGoing p ws
+pub going_of : (failed : Bool) (p : ChainPlay) (ws : List Worker) → IsGoingUnless failed p ws → failed ≡ false → IsGoing p ws
 going_of true p ws go e = cc
 going_of false p ws go e = go
 
 -- not all of its guests are stuck where it goes on
-pub goes_of : (chain : ChainState) → IsChain chain → IsPlayed chain.play → chain.failed ≡ false → is_told (length chain.workers - 1) chain.play.steps chain.play.replies ≡ false → ((g : ℕ) → g < length chain.workers → IsStuck g (worker_at chain.workers g) chain.play.state) → ⊥
+pub goes_of : (chain : ChainState) → IsChain chain → IsChainPlayed chain.play → chain.failed ≡ false → is_told (length chain.workers - 1) chain.play.steps chain.play.replies ≡ false → ((g : ℕ) → g < length chain.workers → IsStuck g (worker_at chain.workers g) chain.play.state) → ⊥
 goes_of c x played runs untold =
     somebody_goes c.play c.workers played (going_of c.failed c.play c.workers x.going runs) x.some.0 untold
 
-pub alike_of : (a b : ChainState) → GoesOn a b → AreAlike a.workers b.workers
+pub alike_of : (a b : ChainState) → ChainGoesOn a b → AreAlike a.workers b.workers
 alike_of a b x = record { many = x.many; stages = x.stages; input = x.input }
 
-pub goes_nowhere : (a : ChainState) → GoesOn a a
+pub goes_nowhere : (a : ChainState) → ChainGoesOn a a
 goes_nowhere a = record { many = refl; stages = refl; input = refl; chunk = refl }
 
-pub goes_further : (a b c : ChainState) → GoesOn a b → GoesOn b c → GoesOn a c
+pub goes_further : (a b c : ChainState) → ChainGoesOn a b → ChainGoesOn b c → ChainGoesOn a c
 goes_further a b c x y = record {
   many = y.many ∙ x.many;
   stages = y.stages ∙ x.stages;
@@ -147,20 +147,20 @@ goes_further a b c x y = record {
 }
 
 -- the sink of a chain of these stages
-sink_number : (stages : List Stage) (input : List ℕ) (chunk : ℕ) (a b : ChainState) → Begins stages input chunk a → GoesOn a b → length b.workers - 1 ≡ length stages + 1
+sink_number : (stages : List Stage) (input : List ℕ) (chunk : ℕ) (a b : ChainState) → BeginsChain stages input chunk a → ChainGoesOn a b → length b.workers - 1 ≡ length stages + 1
 sink_number stages input chunk a b x y = omega (arith, x.many, y.many)
 
 -- what flowed, of the stages and the input that it began with
-pub flows_begun : (stages : List Stage) (input : List ℕ) (chunk : ℕ) (a b : ChainState) (out : List ℕ) (steps : List Step) → Begins stages input chunk a → GoesOn a b → Flows (stages_of b.workers) (input_of b.workers) out steps → Flows stages input out steps
+pub flows_begun : (stages : List Stage) (input : List ℕ) (chunk : ℕ) (a b : ChainState) (out : List ℕ) (steps : List Step) → BeginsChain stages input chunk a → ChainGoesOn a b → Flows (stages_of b.workers) (input_of b.workers) out steps → Flows stages input out steps
 flows_begun stages input chunk a b out steps x y f =
     subst (λ s. Flows s input out steps) (y.stages ∙ x.stages_are) (subst (λ i. Flows (stages_of b.workers) i out steps) (y.input ∙ x.input_is) f)
 
-pub composed_begun : (stages : List Stage) (input : List ℕ) (chunk : ℕ) (a b : ChainState) (out : List ℕ) → Begins stages input chunk a → GoesOn a b → out ≡ composed (stages_of b.workers) (input_of b.workers) → out ≡ composed stages input
+pub composed_begun : (stages : List Stage) (input : List ℕ) (chunk : ℕ) (a b : ChainState) (out : List ℕ) → BeginsChain stages input chunk a → ChainGoesOn a b → out ≡ composed (stages_of b.workers) (input_of b.workers) → out ≡ composed stages input
 composed_begun stages input chunk a b out x y e =
     e ∙ ap (λ s. composed s (input_of b.workers)) (y.stages ∙ x.stages_are) ∙ ap (composed stages) (y.input ∙ x.input_is)
 
 -- the chain that was made
-pub begins_ready : (stages : List Stage) (input : List ℕ) (chunk : ℕ) (p : Play) (ws : List Worker) → IsReady stages input p ws → IsPlayed p → Begins stages input chunk (record { play = p; workers = ws; chunk = chunk; failed = false })
+pub begins_ready : (stages : List Stage) (input : List ℕ) (chunk : ℕ) (p : ChainPlay) (ws : List Worker) → IsReady stages input p ws → IsChainPlayed p → BeginsChain stages input chunk (record { play = p; workers = ws; chunk = chunk; failed = false })
 begins_ready stages input chunk p ws r played = record {
   many = r.many;
   stages_are = r.stages_are;
@@ -173,8 +173,8 @@ begins_ready stages input chunk p ws r played = record {
 
 -- ## The end
 
-module _ (p : Play) (ws : List Worker) (some : (2 ≤ length ws) × (length ws ≤ 10)) (j : IsJoined p ws) (played : IsPlayed p)
-    (law : (tag : ℕ) (limits : Limits) (run : List Step) (k : ℕ) → AreSteps run → Conserves k (moments (empty tag limits) run) (last (empty tag limits) run))
+module _ (p : ChainPlay) (ws : List Worker) (some : (2 ≤ length ws) × (length ws ≤ 10)) (j : IsJoined p ws) (played : IsChainPlayed p)
+    (law : (tag : ℕ) (limits : Limits) (run : List Step) (k : ℕ) → AreSteps run → Conserves k (moments (empty tag limits) run) (state_after_steps (empty tag limits) run))
     (stream : ℕ) (sink : Worker) (out : List ℕ) (last_one : stream ≡ length ws - 2) (is : sink ≡ sink_of ws)
     (e : out ≡ sink.made ++ take (received stream p.state - length sink.made) (memory_in p.state.guests (stream + 1))) where
   out_is : out ≡ plain_of (got_on p.steps (length ws - 2))
@@ -192,12 +192,12 @@ module _ (p : Play) (ws : List Worker) (some : (2 ≤ length ws) × (length ws �
 -- ## A chain that came to an end
 
 module _ {T E : Type 0} (steps : T → List Step) (replies : T → List Reply) (out : T → List ℕ) (ended : T → Bool)
-    (stages : List Stage) (input : List ℕ) (chunk : ℕ) (a b : ChainState) (r : Result T E) (begins : Begins stages input chunk a) where
+    (stages : List Stage) (input : List ℕ) (chunk : ℕ) (a b : ChainState) (r : Result T E) (begins : BeginsChain stages input chunk a) where
   -- what it has come to is its play
   abbrev pub IsPlayOf : Result T E → Type 0
-  IsPlayOf x = IfOk x (λ e. steps e ≡ b.play.steps) × IfOk x (λ e. replies e ≡ b.play.replies) × IfOk x (λ e. play [] start (steps e) ≡ Ends (replies e) b.play.state)
+  IsPlayOf x = IfOk x (λ e. steps e ≡ b.play.steps) × IfOk x (λ e. replies e ≡ b.play.replies) × IfOk x (λ e. play [] chain_start (steps e) ≡ Ends (replies e) b.play.state)
 
-  run_by : (whos : List ℕ) → AreTurns (length a.workers - 1) a.chunk whos a.play b.play → (x : Result T E) → IsPlayOf x → IfOk x (λ e. IsRun (length stages) chunk whos (steps e) (replies e))
+  run_by : (whos : List ℕ) → AreTurns (length a.workers - 1) a.chunk whos a.play b.play → (x : Result T E) → IsPlayOf x → IfOk x (λ e. IsChainRun (length stages) chunk whos (steps e) (replies e))
   run_by whos t (Ok e) p =
       run_of (length stages) chunk whos a.play b.play (steps e) (replies e) begins.steps_are begins.plays
       (subst (λ n. AreTurns n chunk whos a.play b.play) (omega (arith, begins.many)) (subst (λ n. AreTurns (length a.workers - 1) n whos a.play b.play) begins.chunk_is t))
@@ -205,35 +205,35 @@ module _ {T E : Type 0} (steps : T → List Step) (replies : T → List Reply) (
   run_by whos t (Err e) p = tt
 
   module _ (schedule : List ℕ) where
-    pub run_ok : AreTurns (length a.workers - 1) a.chunk (map (λ s. s % length a.workers) schedule) a.play b.play → IsPlayOf r → IfOk r (λ e. IsRun (length stages) chunk (map (λ s. s % (length stages + 2)) schedule) (steps e) (replies e))
+    pub run_ok : AreTurns (length a.workers - 1) a.chunk (map (λ s. s % length a.workers) schedule) a.play b.play → IsPlayOf r → IfOk r (λ e. IsChainRun (length stages) chunk (map (λ s. s % (length stages + 2)) schedule) (steps e) (replies e))
     run_ok turns p =
         run_by (map (λ s. s % (length stages + 2)) schedule)
         (subst (λ n. AreTurns (length a.workers - 1) a.chunk (map (λ s. s % n) schedule) a.play b.play) begins.many turns) r p
 
   -- by some schedule
-  pub some_run_ok : AreSomeTurns (length a.workers - 1) a.chunk a.play b.play → IsPlayOf r → IfOk r (λ e. (whos : List ℕ) × IsRun (length stages) chunk whos (steps e) (replies e))
+  pub some_run_ok : AreSomeTurns (length a.workers - 1) a.chunk a.play b.play → IsPlayOf r → IfOk r (λ e. (whos : List ℕ) × IsChainRun (length stages) chunk whos (steps e) (replies e))
   some_run_ok turns p = by r (run_by turns.0 turns.1 r p)
     where
-      by : (x : Result T E) → IfOk x (λ e. IsRun (length stages) chunk turns.0 (steps e) (replies e)) → IfOk x (λ e. (whos : List ℕ) × IsRun (length stages) chunk whos (steps e) (replies e))
+      by : (x : Result T E) → IfOk x (λ e. IsChainRun (length stages) chunk turns.0 (steps e) (replies e)) → IfOk x (λ e. (whos : List ℕ) × IsChainRun (length stages) chunk whos (steps e) (replies e))
       by (Ok e) y = (turns.0, y)
       by (Err e) y = tt
 
   -- it tells whether the sink was told
-  pub ended_ok : GoesOn a b → IfOk r (λ e. ended e ≡ is_told (length b.workers - 1) (steps e) (replies e)) → IfOk r (λ e. ended e ≡ is_told (length stages + 1) (steps e) (replies e))
+  pub ended_ok : ChainGoesOn a b → IfOk r (λ e. ended e ≡ is_told (length b.workers - 1) (steps e) (replies e)) → IfOk r (λ e. ended e ≡ is_told (length stages + 1) (steps e) (replies e))
   ended_ok goes = by r
     where
       by : (x : Result T E) → IfOk x (λ e. ended e ≡ is_told (length b.workers - 1) (steps e) (replies e)) → IfOk x (λ e. ended e ≡ is_told (length stages + 1) (steps e) (replies e))
       by (Ok e) f = f ∙ ap (λ n. is_told n (steps e) (replies e)) (sink_number stages input chunk a b begins goes)
       by (Err e) f = tt
 
-  pub flows_ok : GoesOn a b → IfOk r (λ e. Flows (stages_of b.workers) (input_of b.workers) (out e) (steps e)) → IfOk r (λ e. Flows stages input (out e) (steps e))
+  pub flows_ok : ChainGoesOn a b → IfOk r (λ e. Flows (stages_of b.workers) (input_of b.workers) (out e) (steps e)) → IfOk r (λ e. Flows stages input (out e) (steps e))
   flows_ok goes = by r
     where
       by : (x : Result T E) → IfOk x (λ e. Flows (stages_of b.workers) (input_of b.workers) (out e) (steps e)) → IfOk x (λ e. Flows stages input (out e) (steps e))
       by (Ok e) f = flows_begun stages input chunk a b (out e) (steps e) begins goes f
       by (Err e) f = tt
 
-  pub composed_ok : GoesOn a b → IfOk r (λ e. ended e ≡ true → out e ≡ composed (stages_of b.workers) (input_of b.workers)) → IfOk r (λ e. ended e ≡ true → out e ≡ composed stages input)
+  pub composed_ok : ChainGoesOn a b → IfOk r (λ e. ended e ≡ true → out e ≡ composed (stages_of b.workers) (input_of b.workers)) → IfOk r (λ e. ended e ≡ true → out e ≡ composed stages input)
   composed_ok goes = by r
     where
       by : (x : Result T E) → IfOk x (λ e. ended e ≡ true → out e ≡ composed (stages_of b.workers) (input_of b.workers)) → IfOk x (λ e. ended e ≡ true → out e ≡ composed stages input)
@@ -241,7 +241,7 @@ module _ {T E : Type 0} (steps : T → List Step) (replies : T → List Reply) (
       by (Err e) f = tt
 
   -- and where the sink was told
-  module _ (goes : GoesOn a b) (told : is_told (length b.workers - 1) b.play.steps b.play.replies ≡ true) (plays : IsPlayOf r) where
+  module _ (goes : ChainGoesOn a b) (told : is_told (length b.workers - 1) b.play.steps b.play.replies ≡ true) (plays : IsPlayOf r) where
     told_by : (x : Result T E) → IsPlayOf x → IfOk x (λ e. is_told (length b.workers - 1) (steps e) (replies e) ≡ true)
     told_by (Ok e) p = ap (λ xs. is_told (length b.workers - 1) xs (replies e)) p.0 ∙ ap (is_told (length b.workers - 1) b.play.steps) p.1 ∙ told
     told_by (Err e) p = tt

@@ -22,7 +22,7 @@ use Rattle.strm_codes.specs.Sameness.{same_payload}
 use Rattle.strm_codes.proofs.SamenessLemmas.{Decides-same_payload}
 use Rattle.strm_events.specs.Reports.{report_of, operation_report, idle_report, outcome_code}
 use Rattle.strm_handles.specs.Handles.{entry_at}
-use Rattle.strm_handles.specs.Lookups.{◌>>=◌, stream_in, end_rep_in}
+use Rattle.strm_handles.specs.Lookups.{◌>>=◌, stream_end_in, end_rep_in}
 use Rattle.strm_handles.specs.declared.entries.Entry.{Entry}
 use Rattle.strm_handles.specs.declared.entries.Entry.TheVariants as entries
 use Rattle.strm_handles.specs.declared.entries.TransmitEnd.{TransmitEnd}
@@ -37,7 +37,7 @@ use Rattle.strm_machine.specs.Meetings.{begun, carried}
 use Rattle.strm_machine.specs.Turns.{Turn, turn, finds, moves, rendezvous_by}
 use Rattle.strm_machine.specs.Endings.{report_on, pending_of}
 use Rattle.strm_machine.specs.Moments.{is_end}
-use Rattle.strm_machine.specs.Tests.{Name, named, end_named, side_of, stream_named, side_named, is_misaligned, is_busy, owes_value, is_open_of}
+use Rattle.strm_machine.specs.Tests.{Name, named, end_named, side_of, stream_named, side_named, names_misaligned, is_busy, owes_value, is_open_of}
 use Rattle.strm_machine.specs.Refusals.{Reason, first_of, refusal, region_reasons, bytes_reasons, handle_reasons, slot_reasons, end_reasons_of, drop_reasons_of, own_reasons}
 use Rattle.strm_machine.specs.Reactions.{Reaction, goes, written_back, told, performs, reaction}
 use Rattle.strm_machine.specs.declared.streams.Side.{Side}
@@ -90,7 +90,7 @@ bytes_free state g address count there inside =
     skip _ _ _ (not_le-false (length state.guests) g there)
     (skip _ _ _ (and_false (nat_lt 0 count) _ (not_lt-false (length (memory_in state.guests g)) (address + count) inside)) refl)
 
-region_free : (state : State) (g address count : ℕ) → g < length state.guests → address + count ≤ length (memory_in state.guests g) → count ≤ 64 → is_misaligned bytes_type address count ≡ false → first_of (region_reasons state g bytes_type address count) ≡ None
+region_free : (state : State) (g address count : ℕ) → g < length state.guests → address + count ≤ length (memory_in state.guests g) → count ≤ 64 → names_misaligned bytes_type address count ≡ false → first_of (region_reasons state g bytes_type address count) ≡ None
 region_free state g address count there inside few aligned =
     let one : item_size (scalars_of (One U8)) * count ≡ count = omega arith in
     skip _ _ _ (not_le-false (length state.guests) g there)
@@ -103,7 +103,7 @@ typed_is s side end true f e = e
 typed_is s side end false f e = cc
 
 -- a handle of an end of a stream of bytes names that end, asked for with that type
-typed_in : (types : List TransmitIndex) (s : ℕ) (side : Side) (o : Option Entry) → EntryIsNamed types o → get_or types s (index.Stream NoPayload) ≡ bytes_type → is_end s side (end_rep_in o) ≡ true → is_end s side (stream_in (One U8) o >>= (λ e. Ok (e.rep, e.state))) ≡ true
+typed_in : (types : List TransmitIndex) (s : ℕ) (side : Side) (o : Option Entry) → EntryIsNamed types o → get_or types s (index.Stream NoPayload) ≡ bytes_type → is_end s side (end_rep_in o) ≡ true → is_end s side (stream_end_in (One U8) o >>= (λ e. Ok (e.rep, e.state))) ≡ true
 typed_in types s side None h ty e = cc
 typed_in types s side (Some (entries.Stream end)) h ty e =
     let at : end.rep ≡ s = eqb-true end.rep s (both_true (end.rep == s) (same_side (side_of end.state) side) e).0 in
@@ -177,7 +177,7 @@ module _ (state : State) (s : ℕ) (side : Side) (g handle : ℕ) (h : IsSound s
       subst (λ k. first_of (more (stream_at state k) (side_named name)) ≡ None) (sym typed_name.stream)
       (subst (λ d. first_of (more (stream_at state s) d) ≡ None) (sym typed_name.on) e)
 
-  pub operate_free : (address count : ℕ) → address + count ≤ length (memory_in state.guests g) → count ≤ 64 → is_misaligned bytes_type address count ≡ false → Rests (stream_at state s) side → refusal state (OnEnd side this (Operate address count)) ≡ None
+  pub operate_free : (address count : ℕ) → address + count ≤ length (memory_in state.guests g) → count ≤ 64 → names_misaligned bytes_type address count ≡ false → Rests (stream_at state s) side → refusal state (OnEnd side this (Operate address count)) ≡ None
   operate_free address count inside few aligned rests =
       let own : first_of (own_reasons state side this (Operate address count)) ≡ None = own_free (λ stream on. end_reasons_of stream side g bytes_type on)
       (skip (not (same_side side side) || is_busy side (stream_at state s)) _ _ (unbusy side (stream_at state s) rests.idle)

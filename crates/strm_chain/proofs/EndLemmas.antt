@@ -10,7 +10,7 @@ use Rattle.strm_machine.specs.declared.streams.Operation.{Operation}
 use Rattle.strm_machine.specs.declared.streams.Owner.{Owner}
 use Rattle.strm_machine.specs.declared.streams.Owner.TheVariants.{Held}
 use Rattle.strm_machine.specs.declared.steps.Step.{Step}
-use Rattle.strm_laws.specs.Conservation.{moments, last}
+use Rattle.strm_laws.specs.Conservation.{moments, state_after_steps}
 use Rattle.strm_laws.specs.Laws.{AreSteps, Conserves}
 use Rattle.strm_machine.specs.declared.limits.Limits.{Limits}
 use Rattle.strm_chain.specs.declared.stages.Stage.{Stage}
@@ -18,8 +18,8 @@ use Rattle.strm_chain.specs.declared.stages.Stage.TheVariants.{Copy}
 use Rattle.strm_chain.specs.declared.workers.Worker.{Worker}
 use Rattle.strm_chain.specs.declared.workers.Doing.{Doing}
 use Rattle.strm_chain.specs.declared.workers.Doing.TheVariants.{Nothing, Reading, Writing, Ended}
-use Rattle.strm_chain.specs.Stages.{of, composed, begun}
-use Rattle.strm_chain.specs.Playing.{Play}
+use Rattle.strm_chain.specs.Stages.{of, composed, work_begun}
+use Rattle.strm_chain.specs.Playing.{ChainPlay}
 use Rattle.strm_chain.specs.Flowing.{as_items, got_on, IsFront, stage_at, Flows}
 use Rattle.strm_chain.specs.Linking.{Sends, Takes, HoldsIf}
 use Rattle.strm_chain.specs.Keeping.{new_worker, worker_at, sink_of, stages_of, input_of, Items, IsJoined}
@@ -94,7 +94,7 @@ rest_is : (g : ℕ) (memory : List ℕ) (o : Option Operation) (rest : Items) �
 rest_is g memory None rest h = (h, omega arith)
 rest_is g memory (Some o) rest h = (h.lies, omega (arith, h.inside, h.begun.whole))
 
-module _ (p : Play) (ws : List Worker) (some : 2 ≤ length ws) (j : IsJoined p ws) where
+module _ (p : ChainPlay) (ws : List Worker) (some : 2 ≤ length ws) (j : IsJoined p ws) where
   abbrev pub bytes : ℕ → List ℕ
   bytes i = plain_of (got_on p.steps i)
 
@@ -208,7 +208,7 @@ module _ (p : Play) (ws : List Worker) (some : 2 ≤ length ws) (j : IsJoined p 
       let write_idle = h.idle (λ f. let wrong : Writing ≡ Ended = sym f ∙ ended in cc) in
       let memory = memory_in p.state.guests (s + 1) in
       let x = passes_all w.work.stage (s + 1) 0 64 w.sent w.work w.made memory [] (got_on p.steps s) (got_on p.steps (s + 1))
-      (subst (λ o. Takes (s + 1) 0 (begun w.work.stage) w.work w.made memory o (got_on p.steps s)) read_idle r.takes)
+      (subst (λ o. Takes (s + 1) 0 (work_begun w.work.stage) w.work w.made memory o (got_on p.steps s)) read_idle r.takes)
       (subst (λ o. Sends (s + 1) 64 w.sent w.made memory o (got_on p.steps (s + 1))) write_idle h.sends) (h.over ended).1 in
       let before = composed (take s (stages_of ws)) (input_of ws) in
       let taken : x.0 ≡ before = sym (plain-items x.0) ∙ ap plain_of (sym x.1 ∙ made_of s here e) ∙ plain-items before in
@@ -225,5 +225,5 @@ module _ (p : Play) (ws : List Worker) (some : 2 ≤ length ws) (j : IsJoined p 
 -- ## Counts
 
 -- what was received on a stream is as many items as it counts
-pub counts_are : (p : Play) (s : ℕ) → IsRunOf p → ((tag : ℕ) (limits : Limits) (run : List Step) (k : ℕ) → AreSteps run → Conserves k (moments (empty tag limits) run) (last (empty tag limits) run)) → length (got_on p.steps s) ≡ received s p.state
+pub counts_are : (p : ChainPlay) (s : ℕ) → IsRunOf p → ((tag : ℕ) (limits : Limits) (run : List Step) (k : ℕ) → AreSteps run → Conserves k (moments (empty tag limits) run) (state_after_steps (empty tag limits) run)) → length (got_on p.steps s) ≡ received s p.state
 counts_are p s r law = (law 0 _ p.steps s r.are).count ∙ ap (received s) (sym r.last_is)

@@ -26,12 +26,12 @@ use Rattle.strm_chain.specs.declared.workers.Worker.{Worker}
 use Rattle.strm_chain.specs.declared.workers.Doing.TheVariants.{Nothing, Reading, Writing, Ended}
 use Rattle.strm_chain.specs.declared.workers.ChainTurn.{ChainTurn}
 use Rattle.strm_chain.specs.declared.workers.ChainTurn.TheVariants.{Moved}
-use Rattle.strm_chain.specs.Playing.{Play, Adds, IsPlayed, IsDone, bytes_type, operation}
+use Rattle.strm_chain.specs.Playing.{ChainPlay, Adds, IsChainPlayed, IsDone, bytes_type, operation}
 use Rattle.strm_chain.specs.Flowing.{got_on}
 use Rattle.strm_chain.specs.Keeping.{new_worker, worker_at, sink_of, ArePlain, WritesOn, ReadsFrom, IsJoined, IsGuest}
 use Rattle.strm_chain.specs.declared.stages.Stage.TheVariants.{Copy}
-use Rattle.strm_chain.specs.Turning.{IsCount}
-use Rattle.strm_chain.specs.Turned.{EndsRead, WithMore, WithLast, Reads, HearsRead, Pokes, Writes, HearsWrite, Turned, WriteServes, WriteSettles}
+use Rattle.strm_chain.specs.Turning.{IsChunkCount}
+use Rattle.strm_chain.specs.Turned.{EndsRead, WithMore, WithLast, Reads, HearsRead, Pokes, WritesPiece, HearsWrite, Turned, WriteServes, WriteSettles}
 use Rattle.strm_chain.proofs.MomentLemmas.{IsRunOf, played_run, holds_at}
 use Rattle.strm_chain.proofs.DoneLemmas.{and_false, Codes, HoldsEnd, IsReadCode, IsWriteCode, operate_free, operate_done, operate_code, drop_done, event_done, poke_done, dump_done, read_code, write_code, read_report, write_report}
 use Rattle.strm_chain.proofs.StayLemmas.{kind_is, payload_is}
@@ -44,7 +44,7 @@ sixty_four : 64 ≤ 64
 sixty_four = omega arith
 
 -- what a guest with a write end knows of its stream
-pub record WritesHere (g : ℕ) (w : Worker) (p : Play) : Type 0 where
+pub record WritesHere (g : ℕ) (w : Worker) (p : ChainPlay) : Type 0 where
   pub streams : g < length p.state.streams
   pub typed : type_of (stream_at p.state g) ≡ bytes_type
   pub writes : WritesOn g w p.state (got_on p.steps g)
@@ -52,13 +52,13 @@ pub record WritesHere (g : ℕ) (w : Worker) (p : Play) : Type 0 where
   pub read : is_gone (stream_at p.state g).reader.owner ≡ false
 
 -- and one with a read end
-pub record ReadsHere (g : ℕ) (w : Worker) (p : Play) : Type 0 where
+pub record ReadsHere (g : ℕ) (w : Worker) (p : ChainPlay) : Type 0 where
   pub before : g ≡ (g - 1) + 1
   pub streams : g - 1 < length p.state.streams
   pub typed : type_of (stream_at p.state (g - 1)) ≡ bytes_type
   pub reads : ReadsFrom (g - 1) w p.state (got_on p.steps (g - 1))
 
-module _ (g : ℕ) (w : Worker) (p : Play) (x : IsGuest g w p) (f : IsPlayed p) where
+module _ (g : ℕ) (w : Worker) (p : ChainPlay) (x : IsGuest g w p) (f : IsChainPlayed p) where
   abbrev ws : List Worker
   ws = x.workers
 
@@ -161,7 +161,7 @@ module _ (g : ℕ) (w : Worker) (p : Play) (x : IsGuest g w p) (f : IsPlayed p) 
     pub read_event_done : IsDone p.state (steps.Event g handle)
     read_event_done = event_done p.state (g - 1) ARead g handle f.unhosted.sound (read_end handle has) f.running
 
-    module _ (count : ℕ) (rests : w.doing ≡ Nothing) (unclosed : w.closed ≡ false) (counts : IsCount 64 count) where
+    module _ (count : ℕ) (rests : w.doing ≡ Nothing) (unclosed : w.closed ≡ false) (counts : IsChunkCount 64 count) where
       read_free : refusal p.state (OnEnd ARead (end_named_by g bytes_type handle) (Operate 0 count)) ≡ None
       read_free =
           operate_free p.state (g - 1) ARead g handle f.unhosted.sound (read_end handle has) 0 count (omega (arith, size, counts.most)) counts.most
@@ -179,7 +179,7 @@ module _ (g : ℕ) (w : Worker) (p : Play) (x : IsGuest g w p) (f : IsPlayed p) 
       pub read_is_done : IsDone p.state (operation ARead g handle 0 count)
       read_is_done = operate_done p.state (g - 1) ARead g handle f.unhosted.sound (read_end handle has) 0 count IsReadCode f.running read_free read_codes
 
-      pub read_answers : (q : Play) (code : ReturnCode) → Adds p q (operation ARead g handle 0 count) (replies.Code code) → IsReadCode code
+      pub read_answers : (q : ChainPlay) (code : ReturnCode) → Adds p q (operation ARead g handle 0 count) (replies.Code code) → IsReadCode code
       read_answers q code a =
           operate_code p.state (g - 1) ARead g handle f.unhosted.sound (read_end handle has) 0 count IsReadCode f.running read_free read_codes code q.state a.reacts
 
@@ -192,7 +192,7 @@ module _ (g : ℕ) (w : Worker) (p : Play) (x : IsGuest g w p) (f : IsPlayed p) 
         drop_done p.state g AWrite g handle f.unhosted.sound (write_end handle has (apart_doing w Nothing Ended d (λ e. cc))) f.running
         ((writes_here handle has).writes.idle (apart_doing w Nothing Writing d (λ e. cc)))
 
-    module _ (count : ℕ) (rests : w.doing ≡ Nothing) (counts : IsCount 64 count) where
+    module _ (count : ℕ) (rests : w.doing ≡ Nothing) (counts : IsChunkCount 64 count) where
       write_free : refusal p.state (OnEnd AWrite (end_named_by g bytes_type handle) (Operate 64 count)) ≡ None
       write_free =
           operate_free p.state g AWrite g handle f.unhosted.sound (write_end handle has (apart_doing w Nothing Ended rests (λ e. cc))) 64 count (omega (arith, size, counts.most)) counts.most
@@ -211,13 +211,13 @@ module _ (g : ℕ) (w : Worker) (p : Play) (x : IsGuest g w p) (f : IsPlayed p) 
       write_is_done =
           operate_done p.state g AWrite g handle f.unhosted.sound (write_end handle has (apart_doing w Nothing Ended rests (λ e. cc))) 64 count IsWriteCode f.running write_free write_codes
 
-      pub write_answers : (q : Play) (code : ReturnCode) → Adds p q (operation AWrite g handle 64 count) (replies.Code code) → IsWriteCode code
+      pub write_answers : (q : ChainPlay) (code : ReturnCode) → Adds p q (operation AWrite g handle 64 count) (replies.Code code) → IsWriteCode code
       write_answers q code a =
           operate_code p.state g AWrite g handle f.unhosted.sound (write_end handle has (apart_doing w Nothing Ended rests (λ e. cc))) 64 count IsWriteCode f.running write_free write_codes code q.state a.reacts
 
   -- ## What it hears
 
-  module _ (q : Play) (handle : ℕ) (after : IsPlayed q) where
+  module _ (q : ChainPlay) (handle : ℕ) (after : IsChainPlayed q) where
     pub hears_of_read : (code : ReturnCode) → w.read ≡ Some handle → Adds p q (steps.Event g handle) (replies.Event (Some code)) → EndsRead code
     hears_of_read code has a =
         let b = before_it p ws g handle j x.there (read_is handle has) in
@@ -233,11 +233,11 @@ module _ (g : ℕ) (w : Worker) (p : Play) (x : IsGuest g w p) (f : IsPlayed p) 
 
   -- ## Behind a read that is over: its bytes may be dumped
 
-  pub record MayDump (q : Play) (code : ReturnCode) : Type 0 where
+  pub record MayDump (q : ChainPlay) (code : ReturnCode) : Type 0 where
     pub few : count_of code ≤ 64
     pub done : IsDone q.state (steps.Dump g 0 (count_of code))
 
-  module _ (q : Play) (code : ReturnCode) (after : IsPlayed q) where
+  module _ (q : ChainPlay) (code : ReturnCode) (after : IsChainPlayed q) where
     may_dump : (chunk : ℕ) (most : chunk ≤ 64) → ReadIsOver p ws g chunk j x.there run most q (g - 1) code → MayDump q code
     may_dump chunk most over =
         let frame = over.passes.frame in
@@ -259,7 +259,7 @@ module _ (g : ℕ) (w : Worker) (p : Play) (x : IsGuest g w p) (f : IsPlayed p) 
 
   -- ## Behind a poke: the guest is as it was
 
-  pub guest_poked : (chunk : ℕ) (bytes : List ℕ) (mid : Play) → chunk ≤ 64 → IsPlayed mid → IsSome w.write → Pokes g chunk w bytes p mid → IsGuest g w mid
+  pub guest_poked : (chunk : ℕ) (bytes : List ℕ) (mid : ChainPlay) → chunk ≤ 64 → IsChainPlayed mid → IsSome w.write → Pokes g chunk w bytes p mid → IsGuest g w mid
   guest_poked chunk bytes mid most after some y =
       let z : Pokes g chunk (worker_at ws g) bytes p mid = subst (λ v. Pokes g chunk v bytes p mid) (sym x.is) y in
       record {
@@ -279,7 +279,7 @@ module _ (g : ℕ) (w : Worker) (p : Play) (x : IsGuest g w p) (f : IsPlayed p) 
 
   -- ## What a write that is over has handed over
 
-  module _ (q : Play) (after : IsPlayed q) (count : ℕ) where
+  module _ (q : ChainPlay) (after : IsChainPlayed q) (count : ℕ) where
     over_within : (chunk : ℕ) → chunk ≤ 64 → (what : ChainTurn) (v : Worker) → w.write ≡ v.write → v.sent ≡ w.sent + count → v.made ≡ w.made → IsSome w.write → Turned g chunk w p what v q → w.sent + count ≤ length w.made
     over_within chunk most what v same sent made some t =
         let changed = set ws g v in
@@ -298,7 +298,7 @@ module _ (g : ℕ) (w : Worker) (p : Play) (x : IsGuest g w p) (f : IsPlayed p) 
             by None e s = cc
             by (Some handle) e s = omega (arith, many, behind_it p ws g handle j x.there (write_is handle e))
 
-    pub served_within : (chunk : ℕ) → chunk ≤ 64 → (y : Writes g chunk w p q (codes.Completed count)) → w.sent + count ≤ length w.made
+    pub served_within : (chunk : ℕ) → chunk ≤ 64 → (y : WritesPiece g chunk w p q (codes.Completed count)) → w.sent + count ≤ length w.made
     served_within chunk most y =
         let v : Worker = record w { sent = w.sent + count; doing = Nothing } in
         over_within chunk most Moved v refl refl refl (subst IsSome (sym y.has) refl)

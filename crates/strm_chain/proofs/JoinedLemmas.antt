@@ -19,7 +19,7 @@ use Rattle.strm_machine.proofs.StreamSteps.{StreamsStay, reaction_streams}
 use Rattle.strm_machine.proofs.TableLemmas.{owner_in}
 use Rattle.strm_chain.specs.declared.workers.Worker.{Worker}
 use Rattle.strm_chain.specs.declared.workers.Doing.TheVariants.{Reading as Reads}
-use Rattle.strm_chain.specs.Playing.{Play, Adds, bytes_type}
+use Rattle.strm_chain.specs.Playing.{ChainPlay, Adds, bytes_type}
 use Rattle.strm_chain.specs.Flowing.{got_on}
 use Rattle.strm_chain.specs.Keeping.{worker_at, ArePlain, WritesOn, ReadsFrom, IsSink, IsJoined}
 use Rattle.strm_chain.proofs.MomentLemmas.{moment_at, IsSeen}
@@ -36,13 +36,13 @@ pub record Frame (count : ℕ) (state : State) : Type 0 where
   pub room : (g : ℕ) → g < count → length (memory_in state.guests g) ≡ 8192
   pub typed : (s : ℕ) → s + 1 < count → type_of (stream_at state s) ≡ bytes_type
 
-pub frame_of : (p : Play) (ws : List Worker) → IsJoined p ws → Frame (length ws) p.state
+pub frame_of : (p : ChainPlay) (ws : List Worker) → IsJoined p ws → Frame (length ws) p.state
 frame_of p ws j = record { guests = j.guests; streams = j.streams; room = j.room; typed = λ s l. (j.joins s l).typed }
 
 same_type : (old new : Stream) → new.kind ≡ old.kind → new.payload ≡ old.payload → type_of new ≡ type_of old
 same_type old new k p = ap (λ x. type_with x new.payload) k ∙ ap (type_with old.kind) p
 
-pub frame_stays : (count : ℕ) (p q : Play) (step : Step) (reply : Reply) → Adds p q step reply → IsSeen (moment_at p q step reply) p.steps q.steps → length q.state.streams ≡ length p.state.streams → Frame count p.state → Frame count q.state
+pub frame_stays : (count : ℕ) (p q : ChainPlay) (step : Step) (reply : Reply) → Adds p q step reply → IsSeen (moment_at p q step reply) p.steps q.steps → length q.state.streams ≡ length p.state.streams → Frame count p.state → Frame count q.state
 frame_stays count p q step reply a seen many f =
     let stay : StreamsStay p.state.streams q.state.streams = subst (λ (r : Reaction). StreamsStay p.state.streams r.state.streams) a.reacts (reaction_streams p.state (act_of step) seen.sound) in
     record {
@@ -57,7 +57,7 @@ frame_stays count p q step reply a seen many f =
 -- ## What a step leaves of the links
 
 -- the links that a step from p to q keeps, of streams of which this is said
-pub record Passes (count : ℕ) (p q : Play) (writers readers : ℕ → Type 0) : Type 0 where
+pub record Passes (count : ℕ) (p q : ChainPlay) (writers readers : ℕ → Type 0) : Type 0 where
   pub frame : Frame count q.state
   pub writes : (s : ℕ) (w : Worker) → s + 1 < count → writers s → WritesOn s w p.state (got_on p.steps s) → WritesOn s w q.state (got_on q.steps s)
   pub reads : (s : ℕ) (w : Worker) → s + 1 < count → readers s → ReadsFrom s w p.state (got_on p.steps s) → ReadsFrom s w q.state (got_on q.steps s)
@@ -70,12 +70,12 @@ abbrev pub But : ℕ → ℕ → Type 0
 But other s = s ≢ other
 
 -- a step that changes no state brings nothing
-pub got_same : (p q : Play) (step : Step) (reply : Reply) (s : ℕ) → IsSeen (moment_at p q step reply) p.steps q.steps → q.state ≡ p.state → got_on q.steps s ≡ got_on p.steps s
+pub got_same : (p q : ChainPlay) (step : Step) (reply : Reply) (s : ℕ) → IsSeen (moment_at p q step reply) p.steps q.steps → q.state ≡ p.state → got_on q.steps s ≡ got_on p.steps s
 got_same p q step reply s seen same =
     seen.got s ∙ ap (λ x. got_on p.steps s ++ x) (got_none s (moment_at p q step reply) (ap (λ (x : State). x.streams) same)) ∙ append-nil (got_on p.steps s)
 
 -- so all links stay
-pub same_passes : (count : ℕ) (p q : Play) (step : Step) (reply : Reply) → IsSeen (moment_at p q step reply) p.steps q.steps → q.state ≡ p.state → Frame count p.state → Passes count p q Each Each
+pub same_passes : (count : ℕ) (p q : ChainPlay) (step : Step) (reply : Reply) → IsSeen (moment_at p q step reply) p.steps q.steps → q.state ≡ p.state → Frame count p.state → Passes count p q Each Each
 same_passes count p q step reply seen same f =
     let got : (s : ℕ) → got_on q.steps s ≡ got_on p.steps s = λ s. got_same p q step reply s seen same in
     record {
@@ -84,7 +84,7 @@ same_passes count p q step reply seen same f =
       reads = λ s w l _ h. subst (ReadsFrom s w q.state) (sym (got s)) (subst (λ x. ReadsFrom s w x (got_on p.steps s)) (sym same) h);
     }
 
-module _ (p q : Play) (ws : List Worker) (step : Step) (reply : Reply) (a : Adds p q step reply) (j : IsJoined p ws)
+module _ (p q : ChainPlay) (ws : List Worker) (step : Step) (reply : Reply) (a : Adds p q step reply) (j : IsJoined p ws)
     (seen : IsSeen (moment_at p q step reply) p.steps q.steps) where
   abbrev m : Moment
   m = moment_at p q step reply
@@ -157,7 +157,7 @@ module _ (p q : Play) (ws : List Worker) (step : Step) (reply : Reply) (a : Adds
         }
 
 -- of fewer streams
-pub fewer : (count : ℕ) (p q : Play) (W R V S : ℕ → Type 0) → Passes count p q W R → ((s : ℕ) → V s → W s) → ((s : ℕ) → S s → R s) → Passes count p q V S
+pub fewer : (count : ℕ) (p q : ChainPlay) (W R V S : ℕ → Type 0) → Passes count p q W R → ((s : ℕ) → V s → W s) → ((s : ℕ) → S s → R s) → Passes count p q V S
 fewer count p q W R V S x f h = record {
   frame = x.frame;
   writes = λ s w l v. x.writes s w l (f s v);
@@ -165,7 +165,7 @@ fewer count p q W R V S x f h = record {
 }
 
 -- one step after the other
-pub both_pass : (count : ℕ) (p q r : Play) (W R : ℕ → Type 0) → Passes count p q W R → Passes count q r W R → Passes count p r W R
+pub both_pass : (count : ℕ) (p q r : ChainPlay) (W R : ℕ → Type 0) → Passes count p q W R → Passes count q r W R → Passes count p r W R
 both_pass count p q r W R x y = record {
   frame = y.frame;
   writes = λ s w l v h. y.writes s w l v (x.writes s w l v h);
@@ -173,7 +173,7 @@ both_pass count p q r W R x y = record {
 }
 
 -- no step
-pub none_pass : (count : ℕ) (p : Play) → Frame count p.state → Passes count p p Each Each
+pub none_pass : (count : ℕ) (p : ChainPlay) → Frame count p.state → Passes count p p Each Each
 none_pass count p f = record { frame = f; writes = λ s w l _ h. h; reads = λ s w l _ h. h }
 
 -- ## A chain with one guest changed
@@ -203,7 +203,7 @@ either P g ws ws' k one same changed =
 pub same_part : (w w' : Worker) → w' ≡ w → SamePart w w'
 same_part w w' e = subst (SamePart w) (sym e) (record { read = refl; write = refl; stage = refl; source = λ _. (refl, refl); unreading = λ _ ne. ne; sink = λ x. x })
 
-module _ (p q : Play) (ws ws' : List Worker) (g : ℕ) (j : IsJoined p ws) (one : OneChanged g ws ws') (part : SamePart (worker_at ws g) (worker_at ws' g)) where
+module _ (p q : ChainPlay) (ws ws' : List Worker) (g : ℕ) (j : IsJoined p ws) (one : OneChanged g ws ws') (part : SamePart (worker_at ws g) (worker_at ws' g)) where
   pub joined_again : Passes (length ws) p q (But g) (λ s. s + 1 ≢ g) → (g + 1 < length ws → WritesOn g (worker_at ws' g) q.state (got_on q.steps g)) → ((s : ℕ) → s + 1 < length ws → s + 1 ≡ g → ReadsFrom s (worker_at ws' g) q.state (got_on q.steps s)) → IsJoined q ws'
   joined_again passes writes reads = record {
     guests = omega (arith, one.many, passes.frame.guests);
@@ -232,7 +232,7 @@ module _ (p q : Play) (ws ws' : List Worker) (g : ℕ) (j : IsJoined p ws) (one 
   }
 
 -- and where its guest is as it was too
-pub joined_same : (p q : Play) (ws ws' : List Worker) (g : ℕ) → IsJoined p ws → OneChanged g ws ws' → worker_at ws' g ≡ worker_at ws g → Passes (length ws) p q Each Each → IsJoined q ws'
+pub joined_same : (p q : ChainPlay) (ws ws' : List Worker) (g : ℕ) → IsJoined p ws → OneChanged g ws ws' → worker_at ws' g ≡ worker_at ws g → Passes (length ws) p q Each Each → IsJoined q ws'
 joined_same p q ws ws' g j one e x =
     joined_again p q ws ws' g j one (same_part (worker_at ws g) (worker_at ws' g) e)
     (fewer (length ws) p q Each Each (But g) (λ s. s + 1 ≢ g) x (λ s _. tt) (λ s _. tt))

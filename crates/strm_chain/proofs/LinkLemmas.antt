@@ -7,10 +7,10 @@ use Rattle.strm_machine.specs.declared.streams.Operation.{Operation}
 use Rattle.strm_codes.specs.declared.scalars.Scalar.TheVariants.{U8}
 use Rattle.strm_memory.specs.Items.{decode_from}
 use Rattle.strm_chain.specs.declared.stages.Work.{Work}
-use Rattle.strm_chain.specs.Stages.{done, left}
-use Rattle.strm_chain.proofs.StageLemmas.{left-append, done-append}
+use Rattle.strm_chain.specs.Stages.{work_done, work_left}
+use Rattle.strm_chain.proofs.StageLemmas.{work_left-append, work_done-append}
 use Rattle.strm_chain.specs.Flowing.{as_items}
-use Rattle.strm_chain.specs.Linking.{Offers, Sends, Holds, Takes, Arrived}
+use Rattle.strm_chain.specs.Linking.{OffersWrite, Sends, HoldsRead, Takes, Arrived}
 
 -- ## Bytes of a memory as items
 
@@ -43,7 +43,7 @@ as_items-append a b = map-append (λ x. Some (pos x ∷ [])) a b
 -- ## A write hands items over
 
 -- the next items of a write are the next bytes that its guest has put out
-pub offers_next : (g at sent n : ℕ) (made memory : List ℕ) (o : Operation) → Offers g at sent made memory o → n ≤ o.left → decoded (U8 ∷ []) (drop o.address memory) n ≡ as_items (take n (drop (sent + o.moved) made))
+pub offers_next : (g at sent n : ℕ) (made memory : List ℕ) (o : Operation) → OffersWrite g at sent made memory o → n ≤ o.left → decoded (U8 ∷ []) (drop o.address memory) n ≡ as_items (take n (drop (sent + o.moved) made))
 offers_next g at sent n made memory o h l =
     let m = o.moved in
     let long : n ≤ length (drop o.address memory) = rw (h.begun.place, length-drop (at + m) memory) (omega (arith, l, h.inside, h.begun.whole)) in
@@ -128,11 +128,11 @@ module _ (g at sent count k : ℕ) (made memory : List ℕ) (received got : List
 
 -- what a read has moved lies where it reads to, and the items that it moves next lie behind it
 module _ (g at n : ℕ) (memory after : List ℕ) (o p : Operation) (rest got : List (Option (List ℤ)))
-    (h : Holds g at memory o rest) where
-  pub holds_on : p.guest ≡ o.guest → p.address ≡ o.address + 1 * n → p.moved ≡ o.moved + n → p.left + n ≡ o.left → bytes_at after at o.moved ≡ bytes_at memory at o.moved → length after ≡ length memory → got ≡ decoded (U8 ∷ []) (drop o.address after) n → Holds g at after p (rest ++ got)
-  holds_on guest address moved left stays size is =
+    (h : HoldsRead g at memory o rest) where
+  pub holds_on : p.guest ≡ o.guest → p.address ≡ o.address + 1 * n → p.moved ≡ o.moved + n → p.left + n ≡ o.left → bytes_at after at o.moved ≡ bytes_at memory at o.moved → length after ≡ length memory → got ≡ decoded (U8 ∷ []) (drop o.address after) n → HoldsRead g at after p (rest ++ got)
+  holds_on guest address moved work_left stays size is =
       let m = o.moved in
-      let inside : o.address + n ≤ length after = omega (arith, size, left, h.inside, h.begun.place, h.begun.whole) in
+      let inside : o.address + n ≤ length after = omega (arith, size, work_left, h.inside, h.begun.place, h.begun.whole) in
       let next : got ≡ as_items (take n (drop m (drop at after))) =
       is ∙ decoded-bytes (drop o.address after) n (rw (length-drop o.address after) (omega (arith, inside)))
       ∙ ap (λ a. as_items (take n (drop a after))) h.begun.place ∙ ap (λ xs. as_items (take n xs)) (sym (drop-drop m at after)) in
@@ -141,7 +141,7 @@ module _ (g at n : ℕ) (memory after : List ℕ) (o p : Operation) (rest got : 
         begun = record {
           guest = guest ∙ h.begun.guest;
           place = omega (arith, address, moved, h.begun.place);
-          whole = omega (arith, moved, left, h.begun.whole);
+          whole = omega (arith, moved, work_left, h.begun.whole);
         };
         inside = omega (arith, size, h.inside);
         few = h.few;
@@ -154,13 +154,13 @@ module _ (g at n : ℕ) (memory after : List ℕ) (o p : Operation) (rest got : 
       }
 
 -- a read is begun, and has moved n items
-pub holds_begun : (g at count n : ℕ) (after : List ℕ) (p : Operation) (got : List (Option (List ℤ))) → p.guest ≡ g → p.address ≡ at + 1 * n → p.moved ≡ n → n + p.left ≡ count → at + count ≤ length after → count ≤ 64 → got ≡ decoded (U8 ∷ []) (drop at after) n → Holds g at after p got
-holds_begun g at count n after p got guest address moved left inside few is = record {
+pub holds_begun : (g at count n : ℕ) (after : List ℕ) (p : Operation) (got : List (Option (List ℤ))) → p.guest ≡ g → p.address ≡ at + 1 * n → p.moved ≡ n → n + p.left ≡ count → at + count ≤ length after → count ≤ 64 → got ≡ decoded (U8 ∷ []) (drop at after) n → HoldsRead g at after p got
+holds_begun g at count n after p got guest address moved work_left inside few is = record {
   count = count;
-  begun = record { guest = guest; place = omega (arith, address, moved); whole = omega (arith, moved, left) };
+  begun = record { guest = guest; place = omega (arith, address, moved); whole = omega (arith, moved, work_left) };
   inside = inside;
   few = few;
-  lies = is ∙ decoded-bytes (drop at after) n (rw (length-drop at after) (omega (arith, left, inside))) ∙ ap (λ k. as_items (bytes_at after at k)) (sym moved);
+  lies = is ∙ decoded-bytes (drop at after) n (rw (length-drop at after) (omega (arith, work_left, inside))) ∙ ap (λ k. as_items (bytes_at after at k)) (sym moved);
 }
 
 -- the read ends with its report: what it has moved lies where it reads to
@@ -183,7 +183,7 @@ arrived_served g at k first work made memory after received got t inside is = re
 }
 
 -- what has arrived is dumped, and the stage takes it
-pub takes_arrived : (g at k : ℕ) (first work : Work) (made memory after : List ℕ) (received : List (Option (List ℤ))) → Arrived at k first work made memory received → Takes g at first (left work (bytes_at memory at k)) (made ++ done work (bytes_at memory at k)) after None received
+pub takes_arrived : (g at k : ℕ) (first work : Work) (made memory after : List ℕ) (received : List (Option (List ℤ))) → Arrived at k first work made memory received → Takes g at first (work_left work (bytes_at memory at k)) (made ++ work_done work (bytes_at memory at k)) after None received
 takes_arrived g at k first work made memory after received t =
     let new = bytes_at memory at k in
     record {
@@ -191,6 +191,6 @@ takes_arrived g at k first work made memory after received t =
       rest = [];
       split = t.split ∙ sym (as_items-append t.taken new) ∙ sym (append-nil (as_items (t.taken ++ new)));
       holds = refl;
-      makes = ap (λ m. m ++ done work new) t.makes ∙ ap (λ w. done first t.taken ++ done w new) t.goes_on ∙ sym (done-append first t.taken new);
-      goes_on = ap (λ w. left w new) t.goes_on ∙ sym (left-append first t.taken new);
+      makes = ap (λ m. m ++ work_done work new) t.makes ∙ ap (λ w. work_done first t.taken ++ work_done w new) t.goes_on ∙ sym (work_done-append first t.taken new);
+      goes_on = ap (λ w. work_left w new) t.goes_on ∙ sym (work_left-append first t.taken new);
     }

@@ -22,14 +22,14 @@ use Rattle.strm_chain.specs.declared.stages.Stage.{Stage}
 use Rattle.strm_chain.specs.declared.stages.Stage.TheVariants.{Copy}
 use Rattle.strm_chain.specs.declared.workers.Worker.{Worker}
 use Rattle.strm_chain.specs.declared.workers.Doing.TheVariants.{Nothing, Reading, Writing, Ended}
-use Rattle.strm_chain.specs.Stages.{begun}
-use Rattle.strm_chain.specs.Playing.{Play, no_play, Adds, bytes_type}
+use Rattle.strm_chain.specs.Stages.{work_begun}
+use Rattle.strm_chain.specs.Playing.{ChainPlay, no_play, Adds, bytes_type}
 use Rattle.strm_chain.specs.Flowing.{got_on}
 use Rattle.strm_chain.specs.Reporting.{last_report, tells_end, is_told}
 use Rattle.strm_chain.specs.Running.{guests_made, streams_made}
 use Rattle.strm_chain.specs.Keeping.{new_worker, worker_at, sink_of, Items, IsJoined}
 use Rattle.strm_chain.specs.Making.{AreMade, IsNew, MakesPair, HasWrite, HasRead, source_of, AreJoined, IsReady}
-use Rattle.strm_chain.proofs.StageLemmas.{done-none, left-none}
+use Rattle.strm_chain.proofs.StageLemmas.{work_done-none, work_left-none}
 use Rattle.strm_chain.proofs.NamingLemmas.{IsPerformed, performed}
 use Rattle.strm_chain.proofs.LimitLemmas.{little_guest, little_pair}
 use Rattle.strm_chain.proofs.ToldLemmas.{even_adds, last-adds}
@@ -64,7 +64,7 @@ none_made = record {
   quiet = λ g. refl;
 }
 
-pub guest_made : (p q : Play) (n k : ℕ) → Adds p q (steps.Guest 8192) (replies.Number n) → AreMade k 0 p → AreMade (k + 1) 0 q
+pub guest_made : (p q : ChainPlay) (n k : ℕ) → Adds p q (steps.Guest 8192) (replies.Number n) → AreMade k 0 p → AreMade (k + 1) 0 q
 guest_made p q n k a m =
     let x : Guest = record { memory = replicate 8192 0; base = None; handles = no_handles; sets = no_sets } in
     let is = guest_is p.state q.state 8192 n (performed p.state (act_of (steps.Guest 8192)) (replies.Number n) q.state a.reacts refl) in
@@ -107,7 +107,7 @@ pair_is state next writer reader pair p =
       memory = λ k. sym (ap (λ (s : State). memory_in s.guests k) is) ∙ with_handles-memory held writer _ k ∙ with_handles-memory state.guests reader _ k;
     }
 
-pub pair_made : (p q : Play) (s there : ℕ) (pair : Pair) → s ≤ 8 → s + 1 < there → AreMade there s p → Adds p q (steps.Between s (s + 1) bytes_type) (replies.Pair pair) → MakesPair s p pair q
+pub pair_made : (p q : ChainPlay) (s there : ℕ) (pair : Pair) → s ≤ 8 → s + 1 < there → AreMade there s p → Adds p q (steps.Between s (s + 1) bytes_type) (replies.Pair pair) → MakesPair s p pair q
 pair_made p q s there pair few more before a =
     let step = steps.Between s (s + 1) bytes_type in
     let does = performed p.state (act_of step) (replies.Pair pair) q.state a.reacts refl in
@@ -144,11 +144,11 @@ behind_push : (ws : List Worker) (w : Worker) → 0 < length ws → drop 1 (ws +
 behind_push [] w l = absurd (omega (arith, l))
 behind_push (x ∷ ws) w l = refl
 
-new_on : (p q : Play) (s write read : ℕ) → stream_at q.state s ≡ stream_at p.state s → IsNew p s write read → IsNew q s write read
+new_on : (p q : ChainPlay) (s write read : ℕ) → stream_at q.state s ≡ stream_at p.state s → IsNew p s write read → IsNew q s write read
 new_on p q s write read e n = e ∙ n
 
 -- the source
-pub joined_first : (input : List ℕ) (stages : List Stage) (q : Play) (write read : ℕ) → IsNew q 0 write read → AreJoined input 0 read stages q (source_of input write ∷ [])
+pub joined_first : (input : List ℕ) (stages : List Stage) (q : ChainPlay) (write read : ℕ) → IsNew q 0 write read → AreJoined input 0 read stages q (source_of input write ∷ [])
 joined_first input stages q write read new = record {
   many = refl;
   stages_are = refl;
@@ -160,7 +160,7 @@ joined_first input stages q write read new = record {
 }
 
 -- a guest of a stage
-module _ (input : List ℕ) (i read : ℕ) (stages : List Stage) (stage : Stage) (p q : Play) (ws : List Worker)
+module _ (input : List ℕ) (i read : ℕ) (stages : List Stage) (stage : Stage) (p q : ChainPlay) (ws : List Worker)
     (w : Worker) (pair : Pair) (j : AreJoined input i read stages p ws) where
   pub joined_more : MakesPair (i + 1) p pair q → length p.state.streams ≡ i + 1 → i < length stages → stage ≡ get_or stages i Copy → w ≡ record (new_worker stage) { read = Some read; write = Some pair.write } → AreJoined input (i + 1) pair.read stages q (ws ++ w ∷ [])
   joined_more m count l at is =
@@ -194,7 +194,7 @@ module _ (input : List ℕ) (i read : ℕ) (stages : List Stage) (stage : Stage)
       }
 
 -- the sink
-module _ (input : List ℕ) (read : ℕ) (stages : List Stage) (p : Play) (ws : List Worker) (w : Worker) where
+module _ (input : List ℕ) (read : ℕ) (stages : List Stage) (p : ChainPlay) (ws : List Worker) (w : Worker) where
   pub joined_last : AreJoined input (length stages) read stages p ws → AreMade (length stages + 2) (length stages + 1) p → w ≡ record (new_worker Copy) { read = Some read } → IsReady stages input p (ws ++ w ∷ [])
   joined_last j m is =
       let all = ws ++ w ∷ [] in
@@ -233,7 +233,7 @@ empty_got : (got : Items) → length got ≡ 0 → got ≡ []
 empty_got [] e = refl
 empty_got (x ∷ got) e = absurd (omega (arith, e))
 
-pub ready_joined : (stages : List Stage) (input : List ℕ) (p : Play) (ws : List Worker) → IsReady stages input p ws → ((s : ℕ) → length (got_on p.steps s) ≡ received s p.state) → IsJoined p ws
+pub ready_joined : (stages : List Stage) (input : List ℕ) (p : ChainPlay) (ws : List Worker) → IsReady stages input p ws → ((s : ℕ) → length (got_on p.steps s) ≡ received s p.state) → IsJoined p ws
 ready_joined stages input p ws r counts = record {
   guests = omega (arith, r.made.guests_are);
   streams = omega (arith, r.made.streams_are, r.many);
@@ -269,8 +269,8 @@ ready_joined stages input p ws r counts = record {
             rest = [];
             split = refl;
             holds = refl;
-            makes = made ∙ sym (done-none (begun v.work.stage));
-            goes_on = ap (λ (x : Worker). x.work) b.fresh ∙ sym (left-none (begun v.work.stage));
+            makes = made ∙ sym (work_done-none (work_begun v.work.stage));
+            goes_on = ap (λ (x : Worker). x.work) b.fresh ∙ sym (work_left-none (work_begun v.work.stage));
           });
           idle = λ _. read_none;
           busy = λ e. absurd (let wrong : Nothing ≡ Reading = sym (ap (λ (x : Worker). x.doing) b.fresh) ∙ e in cc);
@@ -292,17 +292,17 @@ ready_joined stages input p ws r counts = record {
 }
 
 -- and its sink was told nothing
-pub ready_untold : (stages : List Stage) (input : List ℕ) (p : Play) (ws : List Worker) → IsReady stages input p ws → is_told (length ws - 1) p.steps p.replies ≡ (sink_of ws).closed
+pub ready_untold : (stages : List Stage) (input : List ℕ) (p : ChainPlay) (ws : List Worker) → IsReady stages input p ws → is_told (length ws - 1) p.steps p.replies ≡ (sink_of ws).closed
 ready_untold stages input p ws r =
     ap tells_end (r.made.quiet (length ws - 1)) ∙ sym (ap (λ (x : Worker). x.closed) r.sink.1)
 
 -- ## The calls of the making
 
-pub source_added : (input : List ℕ) (stages : List Stage) (guests : ℕ) (p q : Play) (pair : Pair) (ws : List Worker) → AreMade guests 0 p → MakesPair 0 p pair q → ws ≡ source_of input pair.write ∷ [] → AreJoined input 0 pair.read stages q ws × AreMade guests 1 q
+pub source_added : (input : List ℕ) (stages : List Stage) (guests : ℕ) (p q : ChainPlay) (pair : Pair) (ws : List Worker) → AreMade guests 0 p → MakesPair 0 p pair q → ws ≡ source_of input pair.write ∷ [] → AreJoined input 0 pair.read stages q ws × AreMade guests 1 q
 source_added input stages guests p q pair ws m x e =
     (subst (AreJoined input 0 pair.read stages q) (sym e) (joined_first input stages q pair.write pair.read (x.new m.streams_are)), x.made guests m)
 
-module _ (input : List ℕ) (stages : List Stage) (guests i s read : ℕ) (stage : Stage) (p q : Play) (pair : Pair)
+module _ (input : List ℕ) (stages : List Stage) (guests i s read : ℕ) (stage : Stage) (p q : ChainPlay) (pair : Pair)
     (ws new : List Worker) (l : i < length stages) (at : stage ≡ get_or stages i Copy) where
   pub stage_added : AreJoined input i read stages p ws → AreMade guests (i + 1) p → s ≡ length ws → MakesPair s p pair q → new ≡ ws ++ record (new_worker stage) { read = Some read; write = Some pair.write } ∷ [] → AreJoined input (i + 1) pair.read stages q new × AreMade guests (i + 2) q
   stage_added j m e x is =
@@ -313,10 +313,10 @@ module _ (input : List ℕ) (stages : List Stage) (guests i s read : ℕ) (stage
       )
 
 -- what the player answers
-pub guest_ok : {E : Type 0} (r : Result ℕ E) (p q : Play) → IfOk r (λ number. Adds p q (steps.Guest 8192) (replies.Number number)) → (n : ℕ) → AreMade n 0 p → OnOk r (AreMade (n + 1) 0 q)
+pub guest_ok : {E : Type 0} (r : Result ℕ E) (p q : ChainPlay) → IfOk r (λ number. Adds p q (steps.Guest 8192) (replies.Number number)) → (n : ℕ) → AreMade n 0 p → OnOk r (AreMade (n + 1) 0 q)
 guest_ok (Ok number) p q a n m = guest_made p q number n a m
 guest_ok (Err e) p q a n m = tt
 
-pub pair_ok : {E : Type 0} (r : Result Pair E) (p q : Play) (s there : ℕ) → s ≤ 8 → s + 1 < there → AreMade there s p → IfOk r (λ pair. Adds p q (steps.Between s (s + 1) bytes_type) (replies.Pair pair)) → IfOk r (λ pair. MakesPair s p pair q)
+pub pair_ok : {E : Type 0} (r : Result Pair E) (p q : ChainPlay) (s there : ℕ) → s ≤ 8 → s + 1 < there → AreMade there s p → IfOk r (λ pair. Adds p q (steps.Between s (s + 1) bytes_type) (replies.Pair pair)) → IfOk r (λ pair. MakesPair s p pair q)
 pair_ok (Ok pair) p q s there few more m a = pair_made p q s there pair few more m a
 pair_ok (Err e) p q s there few more m a = tt

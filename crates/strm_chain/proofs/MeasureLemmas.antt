@@ -20,10 +20,10 @@ use Rattle.strm_chain.specs.declared.workers.Doing.{Doing}
 use Rattle.strm_chain.specs.declared.workers.Doing.TheVariants.{Nothing, Reading, Writing, Ended}
 use Rattle.strm_chain.specs.declared.workers.ChainTurn.{ChainTurn}
 use Rattle.strm_chain.specs.declared.workers.ChainTurn.TheVariants.{Moved, Idle}
-use Rattle.strm_chain.specs.Playing.{Play, Adds}
+use Rattle.strm_chain.specs.Playing.{ChainPlay, Adds}
 use Rattle.strm_chain.specs.Turned.{IsAt, after_read, EndsRead, WithMore, WithLast, TakesIn, HandsOver, Turned, Rests, Waits, ReadOpens, ReadServes, ReadSettles, WriteOpens, WriteServes, WriteSettles, Ends}
 use Rattle.strm_chain.specs.Keeping.{worker_at, IsJoined}
-use Rattle.strm_chain.specs.Measuring.{taken_from, rank, unclosed, to_do_of, to_do_to, IsStuck, AtEnd, InRead, InWrite}
+use Rattle.strm_chain.specs.Measuring.{taken_in_bytes, rank, unclosed, to_do_of, to_do_to, IsStuck, AtEnd, InRead, InWrite}
 use Rattle.strm_chain.proofs.MomentLemmas.{IsRunOf, moment_at, run_before, are_before, seen}
 use Rattle.strm_chain.proofs.NamingLemmas.{performed}
 use Rattle.strm_chain.proofs.AfterLemmas.{told_some, event_none}
@@ -35,25 +35,25 @@ use Rattle.strm_chain.proofs.TurnLemmas.{write_some, hears_write}
 -- ## What is taken from a stream
 
 -- nothing that was taken is given back
-taken_grows : (s : ℕ) (m : Moment) → Change ARead (scene s ARead m) → taken_from m.before s ≤ taken_from m.after s
+taken_grows : (s : ℕ) (m : Moment) → Change ARead (scene s ARead m) → taken_in_bytes m.before s ≤ taken_in_bytes m.after s
 taken_grows s m (ByRest x) = omega (arith, x.same, ap moved_of x.was, ap moved_of x.is)
 taken_grows s m (ByGoing o p n x) = omega (arith, x.more, x.moved, ap moved_of x.was, ap moved_of x.is)
 taken_grows s m (BySettling o code x) = omega (arith, x.same, ap moved_of x.was, ap moved_of x.is)
 taken_grows s m (ByOpening g address asked p n x) = omega (arith, x.more, x.moved, ap moved_of x.was, ap moved_of x.is)
 taken_grows s m (ByServing g address asked code x) = omega (arith, x.more, ap moved_of x.was, ap moved_of x.is)
 
-adds_take : (p q : Play) (step : Step) (reply : Reply) → IsRunOf p → AreSteps q.steps → Adds p q step reply → (k : ℕ) → taken_from p.state k ≤ taken_from q.state k
+adds_take : (p q : ChainPlay) (step : Step) (reply : Reply) → IsRunOf p → AreSteps q.steps → Adds p q step reply → (k : ℕ) → taken_in_bytes p.state k ≤ taken_in_bytes q.state k
 adds_take p q step reply run are a k = taken_grows k (moment_at p q step reply) ((seen p q step reply run are a).change k ARead)
 
-two_take : (p mid q : Play) (step other : Step) (reply answer : Reply) → IsRunOf p → AreSteps q.steps → Adds p mid step reply → Adds mid q other answer → (k : ℕ) → taken_from p.state k ≤ taken_from q.state k
+two_take : (p mid q : ChainPlay) (step other : Step) (reply answer : Reply) → IsRunOf p → AreSteps q.steps → Adds p mid step reply → Adds mid q other answer → (k : ℕ) → taken_in_bytes p.state k ≤ taken_in_bytes q.state k
 two_take p mid q step other reply answer run are a b k =
     let before = are_before mid q other answer b are in
-    let first : taken_from p.state k ≤ taken_from mid.state k = adds_take p mid step reply run before a k in
-    let second : taken_from mid.state k ≤ taken_from q.state k = adds_take mid q other answer (run_before p mid step reply a run before) are b k in
+    let first : taken_in_bytes p.state k ≤ taken_in_bytes mid.state k = adds_take p mid step reply run before a k in
+    let second : taken_in_bytes mid.state k ≤ taken_in_bytes q.state k = adds_take mid q other answer (run_before p mid step reply a run before) are b k in
     omega (arith, first, second)
 
-pub turned_take : (g chunk : ℕ) (w w' : Worker) (p q : Play) (turn : ChainTurn) → IsRunOf p → AreSteps q.steps → Turned g chunk w p turn w' q → (k : ℕ) → taken_from p.state k ≤ taken_from q.state k
-turned_take g chunk w w' p q turn run are (Rests t e is same) k = omega (arith, ap (λ (x : Play). taken_from x.state k) same)
+pub turned_take : (g chunk : ℕ) (w w' : Worker) (p q : ChainPlay) (turn : ChainTurn) → IsRunOf p → AreSteps q.steps → Turned g chunk w p turn w' q → (k : ℕ) → taken_in_bytes p.state k ≤ taken_in_bytes q.state k
+turned_take g chunk w w' p q turn run are (Rests t e is same) k = omega (arith, ap (λ (x : ChainPlay). taken_in_bytes x.state k) same)
 turned_take g chunk w w' p q turn run are (Waits t is x) k = adds_take p q _ _ run are x.hears k
 turned_take g chunk w w' p q turn run are (ReadOpens t x is) k = adds_take p q _ _ run are x.adds k
 turned_take g chunk w w' p q turn run are (ReadServes mid code t x y) k = two_take p mid q _ _ _ _ run are x.adds y.dumps k
@@ -90,10 +90,10 @@ rank_after (Some h) dropped = omega arith
 
 -- ## The guest of the turn
 
-module _ (p : Play) (ws : List Worker) (g chunk : ℕ) (j : IsJoined p ws) (l : g < length ws) (run : IsRunOf p) (most : chunk ≤ 64)
-    (q : Play) (w' : Worker) (turn : ChainTurn) (are : AreSteps q.steps) (bound : ℕ)
-    (takes_within : taken_from q.state (g - 1) ≤ bound) (sends_within : g + 1 < length ws → w'.sent ≤ bound)
-    (takes : taken_from p.state (g - 1) ≤ taken_from q.state (g - 1)) where
+module _ (p : ChainPlay) (ws : List Worker) (g chunk : ℕ) (j : IsJoined p ws) (l : g < length ws) (run : IsRunOf p) (most : chunk ≤ 64)
+    (q : ChainPlay) (w' : Worker) (turn : ChainTurn) (are : AreSteps q.steps) (bound : ℕ)
+    (takes_within : taken_in_bytes q.state (g - 1) ≤ bound) (sends_within : g + 1 < length ws → w'.sent ≤ bound)
+    (takes : taken_in_bytes p.state (g - 1) ≤ taken_in_bytes q.state (g - 1)) where
   abbrev w : Worker
   w = worker_at ws g
 
@@ -102,10 +102,10 @@ module _ (p : Play) (ws : List Worker) (g chunk : ℕ) (j : IsJoined p ws) (l : 
 
   -- what is at an end of a worker that was changed
   abbrev t : ℕ
-  t = taken_from p.state (g - 1)
+  t = taken_in_bytes p.state (g - 1)
 
   abbrev t' : ℕ
-  t' = taken_from q.state (g - 1)
+  t' = taken_in_bytes q.state (g - 1)
 
   changed : (d : Doing) → w' ≡ record w { doing = d } → rank d < rank w.doing → Falls_here
   changed d is r =
@@ -120,8 +120,8 @@ module _ (p : Play) (ws : List Worker) (g chunk : ℕ) (j : IsJoined p ws) (l : 
       (omega (arith, ap (λ (v : Worker). rank v.doing) h.is, r))
 
   -- a read is over, of some items or the last ones
-  module _ (mid : Play) (code : ReturnCode) (x : TakesIn g w code mid w' q) (goes : w.closed ≡ false) (r : 1 ≤ rank w.doing)
-      (some : (n : ℕ) → code ≡ codes.Completed n → 1 ≤ n) (more : taken_from p.state (g - 1) + count_of code ≤ taken_from q.state (g - 1)) where
+  module _ (mid : ChainPlay) (code : ReturnCode) (x : TakesIn g w code mid w' q) (goes : w.closed ≡ false) (r : 1 ≤ rank w.doing)
+      (some : (n : ℕ) → code ≡ codes.Completed n → 1 ≤ n) (more : taken_in_bytes p.state (g - 1) + count_of code ≤ taken_in_bytes q.state (g - 1)) where
     sent_is : w'.sent ≡ w.sent
     sent_is = ap (λ (v : Worker). v.sent) x.is
 
@@ -156,13 +156,13 @@ module _ (p : Play) (ws : List Worker) (g chunk : ℕ) (j : IsJoined p ws) (l : 
       let before = are_before mid q _ _ y.dumps are in
       let b = before_it p ws g x.handle j l x.has in
       let over : ReadIsOver p ws g chunk j l run most mid (g - 1) code = read_serves p ws g chunk j l run most mid (g - 1) before b code (unblocked code y.ends) x in
-      let dump : taken_from mid.state (g - 1) ≤ taken_from q.state (g - 1) = adds_take mid q _ _ (run_before p mid _ _ x.adds run before) are y.dumps (g - 1) in
+      let dump : taken_in_bytes mid.state (g - 1) ≤ taken_in_bytes q.state (g - 1) = adds_take mid q _ _ (run_before p mid _ _ x.adds run before) are y.dumps (g - 1) in
       taken_in mid code y x.unclosed (omega (arith, rank_of Nothing 2 x.rests refl)) over.some (omega (arith, over.taken, dump)) y.ends
   own_falls m (ReadSettles mid code t x y) =
       let before = are_before mid q _ _ y.dumps are in
       let b = before_it p ws g x.handle j l x.has in
       let over : ReadIsOver p ws g chunk j l run most mid (g - 1) code = read_settles p ws g chunk j l run most mid (g - 1) before b code (unblocked code y.ends) x in
-      let dump : taken_from mid.state (g - 1) ≤ taken_from q.state (g - 1) = adds_take mid q _ _ (run_before p mid _ _ x.adds run before) are y.dumps (g - 1) in
+      let dump : taken_in_bytes mid.state (g - 1) ≤ taken_in_bytes q.state (g - 1) = adds_take mid q _ _ (run_before p mid _ _ x.adds run before) are y.dumps (g - 1) in
       taken_in mid code y (reading_open x.handle x.waits x.has) (omega (arith, rank_of Reading 1 x.waits refl)) over.some (omega (arith, over.taken, dump)) y.ends
   own_falls m (WriteOpens t x is) = changed Writing is (omega (arith, rank_of Nothing 2 x.pokes.rests refl))
   own_falls m (WriteServes code t x h) =
@@ -175,7 +175,7 @@ module _ (p : Play) (ws : List Worker) (g chunk : ℕ) (j : IsJoined p ws) (l : 
 
   -- a turn that was idle changed no state, and its guest is stuck
   pub idle_same : turn ≡ Idle → Turned g chunk w p turn w' q → (q.state ≡ p.state) × (w' ≡ w) × IsStuck g w p.state
-  idle_same m (Rests t e is same) = (ap (λ (x : Play). x.state) same, is, AtEnd e)
+  idle_same m (Rests t e is same) = (ap (λ (x : ChainPlay). x.state) same, is, AtEnd e)
   idle_same m (Waits t is x) =
       (event_none p.state q.state g x.handle (performed p.state (act_of (steps.Event g x.handle)) (replies.Event None) q.state x.hears.reacts refl), is, stuck x.has)
     where

@@ -8,7 +8,7 @@ use Rattle.strm_codes.specs.declared.scalars.Scalar.TheVariants.{U8}
 use Rattle.strm_memory.specs.Bytes.{bytes_at}
 use Rattle.strm_machine.specs.State.{memory_in, stream_at}
 use Rattle.strm_machine.specs.Sides.{end_of}
-use Rattle.strm_machine.specs.Moments.{Moment, Call, got_in, items_in, decoded, count_reported}
+use Rattle.strm_machine.specs.Moments.{Moment, Call, got_in, items_in_memory, decoded, count_reported}
 use Rattle.strm_machine.specs.declared.streams.Side.{Side}
 use Rattle.strm_machine.specs.declared.streams.Side.TheVariants.{Writing, Reading}
 use Rattle.strm_machine.specs.declared.streams.Operation.{Operation}
@@ -89,7 +89,7 @@ module _ (s g at sent : ℕ) (made after : List ℕ) (m : Moment) (got : List (O
     (payload : (stream_at m.before s).payload ≡ One U8)
     (size : length after ≡ length (memory_in m.before.guests g))
     (same : (c : ℕ) → at + c ≤ length (memory_in m.before.guests g) → bytes_at after at c ≡ bytes_at (memory_in m.before.guests g) at c) where
-  brought : (n : ℕ) → got_in s m ≡ items_in (stream_at m.before s).payload m.before.guests g at n → got_in s m ≡ decoded (U8 ∷ []) (drop at (memory_in m.before.guests g)) n
+  brought : (n : ℕ) → got_in s m ≡ items_in_memory (stream_at m.before s).payload m.before.guests g at n → got_in s m ≡ decoded (U8 ∷ []) (drop at (memory_in m.before.guests g)) n
   brought n e = e ∙ ap (λ ss. decoded (scalars_of ss) (drop at (memory_in m.before.guests g)) n) payload
 
   -- a write that waits
@@ -112,7 +112,7 @@ module _ (s g at sent : ℕ) (made after : List ℕ) (m : Moment) (got : List (O
         let memory = memory_in m.before.guests g in
         rw x.is
         (sends_in g at (sent + k) made memory after (got ++ got_in s m) None
-        (sends_served g at sent count k made memory got (got_in s m) h lies within inside (omega (arith, x.within, e)) (brought k (x.brings refl ∙ ap (λ n. items_in (stream_at m.before s).payload m.before.guests g at n) (sym e)))) size same)
+        (sends_served g at sent count k made memory got (got_in s m) h lies within inside (omega (arith, x.within, e)) (brought k (x.brings refl ∙ ap (λ n. items_in_memory (stream_at m.before s).payload m.before.guests g at n) (sym e)))) size same)
 
   -- a write that waited is told
   module _ (k : ℕ) (o : Operation) (code : ReturnCode) where
@@ -147,8 +147,8 @@ module _ (s g at : ℕ) (first work : Work) (made : List ℕ) (m : Moment) (got 
       let pay = (stream_at m.before s).payload in
       let there : target s m ≡ record { guest = end.guest; address = at } = rw (named, act) refl in
       let count_is : rise s m ≡ n = omega (arith, more) in
-      ap (λ p. items_in pay m.after.guests p.guest p.address (rise s m)) there
-      ∙ ap (λ k. items_in pay m.after.guests end.guest at k) count_is
+      ap (λ p. items_in_memory pay m.after.guests p.guest p.address (rise s m)) there
+      ∙ ap (λ k. items_in_memory pay m.after.guests end.guest at k) count_is
       ∙ ap (λ ss. decoded (scalars_of ss) (drop at (memory_in m.after.guests end.guest)) n) payload
       ∙ ap (λ k. decoded (U8 ∷ []) (drop at (memory_in m.after.guests k)) n) guest
 

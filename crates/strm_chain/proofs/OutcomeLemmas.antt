@@ -15,10 +15,10 @@ use Rattle.strm_chain.specs.declared.workers.Worker.{Worker}
 use Rattle.strm_chain.specs.declared.workers.Doing.TheVariants.{Nothing, Ended}
 use Rattle.strm_chain.specs.declared.workers.ChainTurn.{ChainTurn}
 use Rattle.strm_chain.specs.declared.workers.ChainTurn.TheVariants.{Moved}
-use Rattle.strm_chain.specs.Playing.{Play, Adds, bytes_type}
-use Rattle.strm_chain.specs.Turning.{IsCount, IsStepOf, is_event, is_call, HasCall, Answers, NoStep, NoReport, Report, Call, Turns}
-use Rattle.strm_chain.specs.Turned.{Writes, Turned, Rests, Waits, ReadOpens, ReadServes, ReadSettles, WriteOpens, WriteServes, WriteSettles, Ends}
-use Rattle.strm_chain.proofs.StageLemmas.{left-stage}
+use Rattle.strm_chain.specs.Playing.{ChainPlay, Adds, bytes_type}
+use Rattle.strm_chain.specs.Turning.{IsChunkCount, IsStepOf, is_event, is_call, HasCall, Answers, NoStep, NoReport, Report, Call, Turns}
+use Rattle.strm_chain.specs.Turned.{WritesPiece, Turned, Rests, Waits, ReadOpens, ReadServes, ReadSettles, WriteOpens, WriteServes, WriteSettles, Ends}
+use Rattle.strm_chain.proofs.StageLemmas.{work_left-stage}
 use Rattle.strm_chain.proofs.PlayingLemmas.{play-goes}
 use Rattle.strm_chain.proofs.StandingLemmas.{Stands}
 use Rattle.strm_chain.proofs.TurnedLemmas.{apart_doing, no_handle}
@@ -27,7 +27,7 @@ use Rattle.strm_chain.proofs.TurnedLemmas.{apart_doing, no_handle}
 
 -- the turn's one step, or its two
 module _ (sink g chunk : ℕ) (turn : ChainTurn) where
-  turns_one : (p q : Play) (step : Step) (reply : Reply) → Adds p q step reply → is_settled reply ≡ true → IsStepOf g chunk step → count_by is_event (step ∷ []) ≤ 1 → Answers sink g p (step ∷ []) (reply ∷ []) turn → Turns sink chunk g turn p q
+  turns_one : (p q : ChainPlay) (step : Step) (reply : Reply) → Adds p q step reply → is_settled reply ≡ true → IsStepOf g chunk step → count_by is_event (step ∷ []) ≤ 1 → Answers sink g p (step ∷ []) (reply ∷ []) turn → Turns sink chunk g turn p q
   turns_one p q step reply a settled own few answers = record {
     made = step ∷ [];
     told = reply ∷ [];
@@ -39,7 +39,7 @@ module _ (sink g chunk : ℕ) (turn : ChainTurn) where
     answers = answers;
   }
 
-  module _ (p q r : Play) (step other : Step) (reply answer : Reply) where
+  module _ (p q r : ChainPlay) (step other : Step) (reply answer : Reply) where
     turns_two : Adds p q step reply → Adds q r other answer → is_settled reply ≡ true → is_settled answer ≡ true → IsStepOf g chunk step → IsStepOf g chunk other → count_by is_event (step ∷ other ∷ []) ≤ 1 → Answers sink g p (step ∷ other ∷ []) (reply ∷ answer ∷ []) turn → Turns sink chunk g turn p r
     turns_two a b settled too own other_own few answers = record {
       made = step ∷ other ∷ [];
@@ -79,15 +79,15 @@ call_second first step told reply is = record {
   is = is;
 }
 
-module _ (sink g chunk : ℕ) (w w' : Worker) (p q : Play) (turn : ChainTurn) (some : 1 ≤ chunk) (at : Stands sink g w p) where
+module _ (sink g chunk : ℕ) (w w' : Worker) (p q : ChainPlay) (turn : ChainTurn) (some : 1 ≤ chunk) (at : Stands sink g w p) where
   -- what a guest that has no operation does is a call
   calls : (made : List Step) (told : List Reply) → turn ≡ Moved → w.doing ≡ Nothing → HasCall made told → Answers sink g p made told turn
   calls made told t rests x = Call t (at.going (apart_doing w Nothing Ended rests (λ e. cc))) (at.free rests) x
 
-  asked : IsCount chunk chunk
+  asked : IsChunkCount chunk chunk
   asked = record { some = some; most = omega arith }
 
-  writes : (code : ReturnCode) → turn ≡ Moved → Writes g chunk w p q code → Turns sink chunk g turn p q
+  writes : (code : ReturnCode) → turn ≡ Moved → WritesPiece g chunk w p q code → Turns sink chunk g turn p q
   writes code t x =
       let poke = steps.Poke g 64 x.bytes in
       let step = steps.Write g bytes_type x.handle 64 (length x.bytes) in
@@ -98,9 +98,9 @@ module _ (sink g chunk : ℕ) (w w' : Worker) (p q : Play) (turn : ChainTurn) (s
   turned_turns (Rests t e is same) = record {
     made = [];
     told = [];
-    steps_are = ap (λ (x : Play). x.steps) same ∙ sym (append-nil p.steps);
-    replies_are = ap (λ (x : Play). x.replies) same ∙ sym (append-nil p.replies);
-    plays = ap (λ (x : Play). EndsSo [] x.state) (sym same);
+    steps_are = ap (λ (x : ChainPlay). x.steps) same ∙ sym (append-nil p.steps);
+    replies_are = ap (λ (x : ChainPlay). x.replies) same ∙ sym (append-nil p.replies);
+    plays = ap (λ (x : ChainPlay). EndsSo [] x.state) (sym same);
     own = All-nil (IsStepOf g chunk);
     few = omega arith;
     answers = NoStep t (at.ended e) refl;
@@ -135,19 +135,19 @@ module _ (sink g chunk : ℕ) (w w' : Worker) (p q : Play) (turn : ChainTurn) (s
 
 -- ## Its guest
 
-pub turned_stage : (g chunk : ℕ) (w w' : Worker) (p q : Play) (turn : ChainTurn) → Turned g chunk w p turn w' q → w'.work.stage ≡ w.work.stage
+pub turned_stage : (g chunk : ℕ) (w w' : Worker) (p q : ChainPlay) (turn : ChainTurn) → Turned g chunk w p turn w' q → w'.work.stage ≡ w.work.stage
 turned_stage g chunk w w' p q turn (Rests t e is same) = ap (λ (v : Worker). v.work.stage) is
 turned_stage g chunk w w' p q turn (Waits t is x) = ap (λ (v : Worker). v.work.stage) is
 turned_stage g chunk w w' p q turn (ReadOpens t x is) = ap (λ (v : Worker). v.work.stage) is
-turned_stage g chunk w w' p q turn (ReadServes mid code t x y) = ap (λ (v : Worker). v.work.stage) y.is ∙ left-stage w.work y.bytes
-turned_stage g chunk w w' p q turn (ReadSettles mid code t x y) = ap (λ (v : Worker). v.work.stage) y.is ∙ left-stage w.work y.bytes
+turned_stage g chunk w w' p q turn (ReadServes mid code t x y) = ap (λ (v : Worker). v.work.stage) y.is ∙ work_left-stage w.work y.bytes
+turned_stage g chunk w w' p q turn (ReadSettles mid code t x y) = ap (λ (v : Worker). v.work.stage) y.is ∙ work_left-stage w.work y.bytes
 turned_stage g chunk w w' p q turn (WriteOpens t x is) = ap (λ (v : Worker). v.work.stage) is
 turned_stage g chunk w w' p q turn (WriteServes code t x h) = ap (λ (v : Worker). v.work.stage) h.is
 turned_stage g chunk w w' p q turn (WriteSettles code t x h) = ap (λ (v : Worker). v.work.stage) h.is
 turned_stage g chunk w w' p q turn (Ends t x) = ap (λ (v : Worker). v.work.stage) x.is
 
 -- one that reads nothing puts out nothing more
-pub turned_source : (g chunk : ℕ) (w w' : Worker) (p q : Play) (turn : ChainTurn) → w.read ≡ None → Turned g chunk w p turn w' q → w'.made ≡ w.made
+pub turned_source : (g chunk : ℕ) (w w' : Worker) (p q : ChainPlay) (turn : ChainTurn) → w.read ≡ None → Turned g chunk w p turn w' q → w'.made ≡ w.made
 turned_source g chunk w w' p q turn none (Rests t e is same) = ap (λ (v : Worker). v.made) is
 turned_source g chunk w w' p q turn none (Waits t is x) = ap (λ (v : Worker). v.made) is
 turned_source g chunk w w' p q turn none (ReadOpens t x is) = ap (λ (v : Worker). v.made) is

@@ -9,7 +9,7 @@ use Rattle.strm_memory.specs.Bytes.{bytes_at}
 use Rattle.strm_machine.specs.State.{memory_in, stream_at}
 use Rattle.strm_machine.specs.Tests.{items_asked}
 use Rattle.strm_machine.specs.Soundness.{type_of}
-use Rattle.strm_machine.specs.Moments.{Moment, Place, is_named, got_in, moved_of, received, target, report_in, accepted_in, as_report, count_reported, k_of}
+use Rattle.strm_machine.specs.Moments.{Moment, MemoryPlace, is_named, got_in, moved_of, received, target, report_in, accepted_in, as_report, count_reported, k_of}
 use Rattle.strm_machine.specs.declared.streams.Side.TheVariants.{Writing, Reading}
 use Rattle.strm_machine.specs.declared.streams.Operation.{Operation}
 use Rattle.strm_machine.specs.declared.acts.Act.TheVariants.{OnEnd, Event}
@@ -20,7 +20,7 @@ use Rattle.strm_machine.proofs.Changes.{scene, Change, ByRest, ByGoing, BySettli
 use Rattle.strm_chain.specs.Playing.{bytes_type}
 use Rattle.strm_chain.specs.declared.stages.Work.{Work}
 use Rattle.strm_chain.specs.Linking.{Sends, Takes, Arrived}
-use Rattle.strm_chain.specs.Measuring.{taken_from}
+use Rattle.strm_chain.specs.Measuring.{taken_in_bytes}
 use Rattle.strm_chain.specs.Flowing.{as_items}
 use Rattle.strm_chain.specs.Keeping.{Items}
 use Rattle.strm_chain.proofs.RegionLemmas.{ReceivesLow, Nothing, Low}
@@ -58,7 +58,7 @@ module _ (m : Moment) (s : ℕ) (first work : Work) (made : List ℕ) (got : Ite
     pub low : ReceivesLow m s
     pub none : after ≡ None
     pub few : count_of code ≤ 64
-    pub taken : taken_from m.before s + count_of code ≤ taken_from m.after s
+    pub taken : taken_in_bytes m.before s + count_of code ≤ taken_in_bytes m.after s
 
   module _ (end : NamedEnd) (count : ℕ) (act : m.act ≡ OnEnd Reading end (Operate 0 count)) (guest : end.guest ≡ s + 1) (asks : end.ty ≡ bytes_type) (few : count ≤ 64) where
     called : (code : ReturnCode) → m.reply ≡ replies.Code code → TakesCall (scene s Reading m) (s + 1) 0 count
@@ -71,7 +71,7 @@ module _ (m : Moment) (s : ℕ) (first work : Work) (made : List ℕ) (got : Ite
     here = rw (named, act) refl
 
     low_at : (n : ℕ) → received s m.after ≡ received s m.before + n → n ≤ count → ReceivesLow m s
-    low_at n more l = Low (payload_is m.before s ty) (ap (λ (p : Place). p.guest) here ∙ guest) (omega (arith, ap (λ (p : Place). p.address) here, more, l, few))
+    low_at n more l = Low (payload_is m.before s ty) (ap (λ (p : MemoryPlace). p.guest) here ∙ guest) (omega (arith, ap (λ (p : MemoryPlace). p.address) here, more, l, few))
 
     -- a read that waits
     pub own_read_waits : m.reply ≡ replies.Code codes.Blocked → Takes (s + 1) 0 first work made (memory_in m.before.guests (s + 1)) None got → Takes (s + 1) 0 first work made (memory_in m.after.guests (s + 1)) after (got ++ got_in s m) × ReceivesLow m s × IsSome after

@@ -16,8 +16,8 @@ use Rattle.strm_transmit.specs.Hosted.{lone}
 use Rattle.strm_transmit.specs.Meets.{is_done}
 use Rattle.strm_transmit.specs.Guests.{nobody, Unhosted, is_of_guests}
 use Rattle.strm_transmit.proofs.GuestLemmas.{reaction-unhosted, empty-unhosted, touches-none}
-use Rattle.strm_laws.specs.Laws.{HasBytes}
-use Rattle.strm_chain.specs.Playing.{start, Follows}
+use Rattle.strm_laws.specs.Laws.{StepHasBytes}
+use Rattle.strm_chain.specs.Playing.{chain_start, Follows}
 
 after-goes : (told : List Reply) (reply : Reply) (state : State) (next : List Reply → State → Played) → is_settled reply ≡ true → after_step told reply state next ≡ next (told ++ reply ∷ []) state
 after-goes told (replies.BadItem s) state next h = cc
@@ -35,14 +35,14 @@ stays_running : (state : State) (step : Step) → state.trapped ≡ false → is
 stays_running state step t =
     react-by (λ r. is_settled r.reply ≡ true → r.state.trapped ≡ false) state step (λ s h e. cc) (λ r g e. g.trapped ∙ t) t
 
-pub follows_start : Fits start nobody → Follows [] [] start
+pub follows_start : Fits chain_start nobody → Follows [] [] chain_start
 follows_start fits = record {
   led = λ more. refl;
   running = refl;
   unhosted = empty-unhosted 0 _;
   fits = fits;
   few = omega arith;
-  bytes = All-nil HasBytes;
+  bytes = All-nil StepHasBytes;
 }
 
 -- a step of guests touches no host end
@@ -56,21 +56,21 @@ done_settled replies.StoreTrapped d = cc
 done_settled _ d = refl
 
 module _ (steps : List Step) (replies : List Reply) (state : State) (step : Step) (reply : Reply) (next : State) where
-  pub follows_more : Follows steps replies state → HasBytes step → length steps < 4294967295 → react state step ≡ goes reply next → is_settled reply ≡ true → Fits next nobody → Follows (steps ++ step ∷ []) (replies ++ reply ∷ []) next
+  pub follows_more : Follows steps replies state → StepHasBytes step → length steps < 4294967295 → react state step ≡ goes reply next → is_settled reply ≡ true → Fits next nobody → Follows (steps ++ step ∷ []) (replies ++ reply ∷ []) next
   follows_more f bytes room e settled fits =
       let after : (react state step).state ≡ next = ap (λ (r : Reaction). r.state) e in
       let told : (react state step).reply ≡ reply = ap (λ (r : Reaction). r.reply) e in
       record {
         led = λ more.
-            ap (play [] start) (append_assoc steps (step ∷ []) more) ∙ f.led (step ∷ more)
+            ap (play [] chain_start) (append_assoc steps (step ∷ []) more) ∙ f.led (step ∷ more)
             ∙ play-goes replies state next step more reply settled e;
         running = subst (λ (s : State). s.trapped ≡ false) after (stays_running state step f.running (ap is_settled told ∙ settled));
         unhosted = subst Unhosted after (reaction-unhosted state (act_of step) f.unhosted);
         fits = fits;
         few = omega (arith, room, length_push steps step);
-        bytes = All-push HasBytes steps step f.bytes bytes;
+        bytes = All-push StepHasBytes steps step f.bytes bytes;
       }
 
 -- the replies are those of the machine's play
-pub follows_plays : (steps : List Step) (replies : List Reply) (state : State) → Follows steps replies state → play [] start steps ≡ Ends replies state
-follows_plays steps replies state f = ap (play [] start) (sym (append-nil steps)) ∙ f.led []
+pub follows_plays : (steps : List Step) (replies : List Reply) (state : State) → Follows steps replies state → play [] chain_start steps ≡ Ends replies state
+follows_plays steps replies state f = ap (play [] chain_start) (sym (append-nil steps)) ∙ f.led []

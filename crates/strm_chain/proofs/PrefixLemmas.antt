@@ -7,7 +7,7 @@ use Rattle.strm_machine.specs.Moments.{moved_of}
 use Rattle.strm_machine.specs.declared.streams.Operation.{Operation}
 use Rattle.strm_chain.specs.declared.stages.Stage.{Stage}
 use Rattle.strm_chain.specs.declared.stages.Work.{Work}
-use Rattle.strm_chain.specs.Stages.{of, begun, done, left}
+use Rattle.strm_chain.specs.Stages.{of, work_begun, work_done, work_left}
 use Rattle.strm_chain.specs.Flowing.{as_items}
 use Rattle.strm_chain.specs.Linking.{Sends, HoldsIf, Takes}
 use Rattle.strm_chain.proofs.StageLemmas.{of_is_done, of-append}
@@ -25,7 +25,7 @@ pub record Passes (stage : Stage) (received got : List (Option (List ℤ))) : Ty
   pub before : received ≡ as_items bytes
   pub behind : got ≡ as_items (take count (of stage bytes))
 
-pub passes : (stage : Stage) (g at from sent : ℕ) (work : Work) (made memory : List ℕ) (read write : Option Operation) (received got : List (Option (List ℤ))) → Takes g at (begun stage) work made memory read received → Sends g from sent made memory write got → Passes stage received got
+pub passes : (stage : Stage) (g at from sent : ℕ) (work : Work) (made memory : List ℕ) (read write : Option Operation) (received got : List (Option (List ℤ))) → Takes g at (work_begun stage) work made memory read received → Sends g from sent made memory write got → Passes stage received got
 passes stage g at from sent work made memory read write received got t h =
     let rest = rest_bytes g at memory read t.rest t.holds in
     let k = sent + moved_of write in
@@ -36,14 +36,14 @@ passes stage g at from sent work made memory read write received got t h =
       before = t.split ∙ ap (λ r. as_items t.taken ++ r) rest.1 ∙ sym (as_items-append t.taken rest.0);
       behind = h.front
           ∙ ap (λ m. as_items (take k m)) made_is
-          ∙ ap as_items (sym (take-append-le k (of stage t.taken) (done (left (begun stage) t.taken) rest.0) (subst (λ m. k ≤ length m) made_is h.within)))
+          ∙ ap as_items (sym (take-append-le k (of stage t.taken) (work_done (work_left (work_begun stage) t.taken) rest.0) (subst (λ m. k ≤ length m) made_is h.within)))
           ∙ ap (λ m. as_items (take k m)) (sym (of-append stage t.taken rest.0));
     }
 
 -- where a stage has taken all and handed all over, what is received behind it is what it makes of the whole
 module _ (stage : Stage) (g at from sent : ℕ) (work : Work) (made memory bytes : List ℕ)
     (received got : List (Option (List ℤ))) where
-  pub passes_all : Takes g at (begun stage) work made memory None received → Sends g from sent made memory None got → sent ≡ length made → (taken : List ℕ) × (received ≡ as_items taken) × (got ≡ as_items (of stage taken))
+  pub passes_all : Takes g at (work_begun stage) work made memory None received → Sends g from sent made memory None got → sent ≡ length made → (taken : List ℕ) × (received ≡ as_items taken) × (got ≡ as_items (of stage taken))
   passes_all t h e = (
     t.taken,
     t.split ∙ ap (λ r. as_items t.taken ++ r) t.holds ∙ append-nil (as_items t.taken),

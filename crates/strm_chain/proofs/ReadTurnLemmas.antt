@@ -19,11 +19,11 @@ use Rattle.strm_machine.proofs.NamedEndLemmas.{end_itself}
 use Rattle.strm_laws.specs.Laws.{AreSteps}
 use Rattle.strm_chain.specs.declared.workers.Worker.{Worker}
 use Rattle.strm_chain.specs.declared.workers.Doing.TheVariants.{Nothing, Reading, Writing, Ended}
-use Rattle.strm_chain.specs.Stages.{begun}
-use Rattle.strm_chain.specs.Playing.{Play, Adds, bytes_type}
+use Rattle.strm_chain.specs.Stages.{work_begun}
+use Rattle.strm_chain.specs.Playing.{ChainPlay, Adds, bytes_type}
 use Rattle.strm_chain.specs.Flowing.{got_on}
 use Rattle.strm_chain.specs.Linking.{Takes, Arrived}
-use Rattle.strm_chain.specs.Measuring.{taken_from}
+use Rattle.strm_chain.specs.Measuring.{taken_in_bytes}
 use Rattle.strm_chain.specs.Keeping.{worker_at, sink_of, WritesOn, ReadsFrom, IsJoined}
 use Rattle.strm_chain.specs.Turned.{Reads, HearsRead, TakesIn}
 use Rattle.strm_chain.proofs.RegionLemmas.{nothing_put}
@@ -42,14 +42,14 @@ pub record BeforeIt (ws : List Worker) (g s : ℕ) : Type 0 where
   pub is : g ≡ s + 1
   pub there : s + 1 < length ws
 
-pub before_it : (p : Play) (ws : List Worker) (g handle : ℕ) → IsJoined p ws → g < length ws → (worker_at ws g).read ≡ Some handle → BeforeIt ws g (g - 1)
+pub before_it : (p : ChainPlay) (ws : List Worker) (g handle : ℕ) → IsJoined p ws → g < length ws → (worker_at ws g).read ≡ Some handle → BeforeIt ws g (g - 1)
 before_it p ws g handle j l has =
     let some : g ≢ 0 = λ e. no_handle (worker_at ws 0).read handle j.source.0 (ap (λ n. (worker_at ws n).read) (sym e) ∙ has) in
     let more : 0 < g = elim (cases_lt 0 g) [ inl x ↦ x | inr x ↦ absurd (some (omega (arith, x))) ] in
     record { is = omega (arith, more); there = omega (arith, more, l) }
 
 -- a guest with a write end is not the last one
-pub behind_it : (p : Play) (ws : List Worker) (g handle : ℕ) → IsJoined p ws → g < length ws → (worker_at ws g).write ≡ Some handle → g + 1 < length ws
+pub behind_it : (p : ChainPlay) (ws : List Worker) (g handle : ℕ) → IsJoined p ws → g < length ws → (worker_at ws g).write ≡ Some handle → g + 1 < length ws
 behind_it p ws g handle j l has =
     elim (cases_eq g (length ws - 1)) [
       | inl e ↦ absurd (no_handle (sink_of ws).write handle j.sink.write (ap (λ n. (worker_at ws n).write) (sym e) ∙ has))
@@ -57,7 +57,7 @@ behind_it p ws g handle j l has =
     ]
 
 -- what a turn of a guest that reads needs to know of the chain
-module _ (p : Play) (ws : List Worker) (g chunk : ℕ) (j : IsJoined p ws) (l : g < length ws) (run : IsRunOf p) (most : chunk ≤ 64) where
+module _ (p : ChainPlay) (ws : List Worker) (g chunk : ℕ) (j : IsJoined p ws) (l : g < length ws) (run : IsRunOf p) (most : chunk ≤ 64) where
   abbrev w : Worker
   w = worker_at ws g
 
@@ -72,13 +72,13 @@ module _ (p : Play) (ws : List Worker) (g chunk : ℕ) (j : IsJoined p ws) (l : 
   -- ## Reads
 
   -- a read or event of the guest that is over: all other links stay, and its bytes wait to be dumped
-  pub record ReadIsOver (mid : Play) (s : ℕ) (code : ReturnCode) : Type 0 where
+  pub record ReadIsOver (mid : ChainPlay) (s : ℕ) (code : ReturnCode) : Type 0 where
     pub passes : Passes (length ws) p mid Each (But s)
     pub arrives : Arrives s w code mid.state (got_on mid.steps s)
-    pub taken : taken_from p.state s + count_of code ≤ taken_from mid.state s
+    pub taken : taken_in_bytes p.state s + count_of code ≤ taken_in_bytes mid.state s
     pub some : (n : ℕ) → code ≡ codes.Completed n → 1 ≤ n
 
-  module _ (mid : Play) (s : ℕ) (are : AreSteps mid.steps) (b : BeforeIt ws g s) where
+  module _ (mid : ChainPlay) (s : ℕ) (are : AreSteps mid.steps) (b : BeforeIt ws g s) where
     abbrev call : ℕ → Step
     call handle = steps.Read g bytes_type handle 0 chunk
 
@@ -103,15 +103,15 @@ module _ (p : Play) (ws : List Worker) (g chunk : ℕ) (j : IsJoined p ws) (l : 
         let there : s < length p.state.streams = omega (arith, b.there, j.streams) in
         let after = operate_after p.state mid.state s ARead (end_at x.handle) 0 chunk codes.Blocked does names.stream there (record { plain = r.plain; kind = kind_is p.state s ty; some = x.some }) in
         let idle : (stream_at p.state s).reader.operation ≡ None = r.idle (apart_doing w Nothing Reading x.rests (λ e. cc)) in
-        let own = own_read_waits m s (begun w.work.stage) w.work w.made (got_on p.steps s) ty named (look.change s ARead) (room_after step reply look)
+        let own = own_read_waits m s (work_begun w.work.stage) w.work w.made (got_on p.steps s) ty named (look.change s ARead) (room_after step reply look)
         (end_at x.handle) chunk refl b.is refl most refl
-        (subst (λ o. Takes (s + 1) 0 (begun w.work.stage) w.work w.made (memory_in p.state.guests (s + 1)) o (got_on p.steps s)) idle r.takes) in (
+        (subst (λ o. Takes (s + 1) 0 (work_begun w.work.stage) w.work w.made (memory_in p.state.guests (s + 1)) o (got_on p.steps s)) idle r.takes) in (
           reader_passes p mid ws step reply x.adds j look s after.steady (λ q. nothing_put q (put_by (act_of step) reply) refl) names.only own.1,
           record {
             handle = r.handle;
             has = r.has;
             owner = after.steady.owner s ARead ∙ r.owner;
-            takes = subst (Takes (s + 1) 0 (begun w.work.stage) w.work w.made (memory_in mid.state.guests (s + 1)) (stream_at mid.state s).reader.operation) (sym (look.got s)) own.0;
+            takes = subst (Takes (s + 1) 0 (work_begun w.work.stage) w.work w.made (memory_in mid.state.guests (s + 1)) (stream_at mid.state s).reader.operation) (sym (look.got s)) own.0;
             idle = λ n. absurd (n refl);
             busy = λ e. own.2;
             unclosed = λ e. x.unclosed;
@@ -136,16 +136,16 @@ module _ (p : Play) (ws : List Worker) (g chunk : ℕ) (j : IsJoined p ws) (l : 
         let there : s < length p.state.streams = omega (arith, b.there, j.streams) in
         let after = operate_after p.state mid.state s ARead (end_at x.handle) 0 chunk code does names.stream there (record { plain = r.plain; kind = kind_is p.state s ty; some = x.some }) in
         let idle : (stream_at p.state s).reader.operation ≡ None = r.idle (apart_doing w Nothing Reading x.rests (λ e. cc)) in
-        let own = own_read_serves m s (begun w.work.stage) w.work w.made (got_on p.steps s) ty named (look.change s ARead) (room_after step reply look)
+        let own = own_read_serves m s (work_begun w.work.stage) w.work w.made (got_on p.steps s) ty named (look.change s ARead) (room_after step reply look)
         (end_at x.handle) chunk refl b.is refl most code ne refl
-        (subst (λ o. Takes (s + 1) 0 (begun w.work.stage) w.work w.made (memory_in p.state.guests (s + 1)) o (got_on p.steps s)) idle r.takes) in
+        (subst (λ o. Takes (s + 1) 0 (work_begun w.work.stage) w.work w.made (memory_in p.state.guests (s + 1)) o (got_on p.steps s)) idle r.takes) in
         record {
           passes = reader_passes p mid ws step reply x.adds j look s after.steady (λ q. nothing_put q (put_by (act_of step) reply) refl) names.only own.low;
           arrives = record {
             handle = r.handle;
             has = r.has;
             owner = after.steady.owner s ARead ∙ r.owner;
-            arrived = subst (Arrived 0 (count_of code) (begun w.work.stage) w.work w.made (memory_in mid.state.guests (s + 1))) (sym (look.got s)) own.arrived;
+            arrived = subst (Arrived 0 (count_of code) (work_begun w.work.stage) w.work w.made (memory_in mid.state.guests (s + 1))) (sym (look.got s)) own.arrived;
             none = own.none;
             few = own.few;
             plain = after.steady.plain s r.plain;
@@ -170,7 +170,7 @@ module _ (p : Play) (ws : List Worker) (g chunk : ℕ) (j : IsJoined p ws) (l : 
         let named : is_named s ARead m ≡ true = names.only s ARead ∙ end_itself s ARead in
         let there : s < length p.state.streams = omega (arith, b.there, j.streams) in
         let after = event_after p.state mid.state g x.handle s ARead (Some code) does names.stream names.on there in
-        let own = own_read_settles m s (begun w.work.stage) w.work w.made (got_on p.steps s) ty named (look.change s ARead) (room_after step reply look)
+        let own = own_read_settles m s (work_begun w.work.stage) w.work w.made (got_on p.steps s) ty named (look.change s ARead) (room_after step reply look)
         g x.handle code ne refl refl (ap (λ xs. memory_in xs (s + 1)) after.guests) (moved_within p s run) r.takes in
         record {
           passes = reader_passes p mid ws step reply x.adds j look s after.steady (λ q. nothing_put q (put_by (act_of step) reply) refl) names.only own.low;
@@ -178,7 +178,7 @@ module _ (p : Play) (ws : List Worker) (g chunk : ℕ) (j : IsJoined p ws) (l : 
             handle = r.handle;
             has = r.has;
             owner = after.steady.owner s ARead ∙ r.owner;
-            arrived = subst (Arrived 0 (count_of code) (begun w.work.stage) w.work w.made (memory_in mid.state.guests (s + 1))) (sym (look.got s)) own.arrived;
+            arrived = subst (Arrived 0 (count_of code) (work_begun w.work.stage) w.work w.made (memory_in mid.state.guests (s + 1))) (sym (look.got s)) own.arrived;
             none = own.none;
             few = own.few;
             plain = after.steady.plain s r.plain;
@@ -190,7 +190,7 @@ module _ (p : Play) (ws : List Worker) (g chunk : ℕ) (j : IsJoined p ws) (l : 
         }
 
   -- what a guest hears of its read
-  module _ (q : Play) (s handle : ℕ) (code : Option ReturnCode) (are : AreSteps q.steps) (b : BeforeIt ws g s) (has : w.read ≡ Some handle) where
+  module _ (q : ChainPlay) (s handle : ℕ) (code : Option ReturnCode) (are : AreSteps q.steps) (b : BeforeIt ws g s) (has : w.read ≡ Some handle) where
     pub hears_read : Adds p q (steps.Event g handle) (replies.Event code) → Told p.state q.state s ARead code
     hears_read a =
         let step = steps.Event g handle in
@@ -201,7 +201,7 @@ module _ (p : Play) (ws : List Worker) (g chunk : ℕ) (j : IsJoined p ws) (l : 
         event_after p.state q.state g handle s ARead code does names.stream names.on (omega (arith, b.there, j.streams))
 
   -- the turn of a guest whose read is over
-  module _ (mid q : Play) (ws' : List Worker) (code : ReturnCode) (handle : ℕ) where
+  module _ (mid q : ChainPlay) (ws' : List Worker) (code : ReturnCode) (handle : ℕ) where
     pub read_turn : AreSteps q.steps → AreSteps mid.steps → IsRunOf mid → OneChanged g ws ws' → w.read ≡ Some handle → w.doing ≢ Ended → w.doing ≢ Writing → TakesIn g w code mid (worker_at ws' g) q → BeforeIt ws g (g - 1) → ReadIsOver mid (g - 1) code → IsJoined q ws'
     read_turn are are_mid run_mid one has a c x b over =
         let s = g - 1 in
@@ -217,7 +217,7 @@ module _ (p : Play) (ws : List Worker) (g chunk : ℕ) (j : IsJoined p ws) (l : 
         subst (λ n. ReadsFrom n w' q.state (got_on q.steps n)) (sym same) (dump_reads mid q (length ws) s g w w' code b.is run_mid are frame x over.arrives))
 
   -- the turn of a guest whose read waits
-  pub wait_turn : (q : Play) (ws' : List Worker) → AreSteps q.steps → OneChanged g ws ws' → (x : Reads g chunk w p q codes.Blocked) → worker_at ws' g ≡ record w { doing = Reading } → IsJoined q ws'
+  pub wait_turn : (q : ChainPlay) (ws' : List Worker) → AreSteps q.steps → OneChanged g ws ws' → (x : Reads g chunk w p q codes.Blocked) → worker_at ws' g ≡ record w { doing = Reading } → IsJoined q ws'
   wait_turn q ws' are one x is =
       let s = g - 1 in
       let b = before_it p ws g x.handle j l x.has in

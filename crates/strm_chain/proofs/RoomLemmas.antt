@@ -16,30 +16,30 @@ use Rattle.strm_chain.specs.declared.workers.ChainTurn.{ChainTurn}
 use Rattle.strm_chain.specs.declared.chains.ChainError.{ChainError}
 use Rattle.strm_chain.specs.declared.chains.ChainError.TheVariants.{TooManyStages, TooManyTwice, TooLong}
 use Rattle.strm_chain.specs.Faults.{is_twice, fault_of}
-use Rattle.strm_chain.specs.Playing.{Play, Adds, HasRoom, bytes_type}
+use Rattle.strm_chain.specs.Playing.{ChainPlay, Adds, HasRoomForSteps, bytes_type}
 use Rattle.strm_chain.specs.Turned.{Turned, Rests, Waits, ReadOpens, ReadServes, ReadSettles, WriteOpens, WriteServes, WriteSettles, Ends}
 use Rattle.strm_chain.specs.Running.{guests_made, streams_made}
-use Rattle.strm_chain.specs.Keeping.{ChainState, Begins, worker_at, input_of}
+use Rattle.strm_chain.specs.Keeping.{ChainState, BeginsChain, worker_at, input_of}
 use Rattle.strm_chain.specs.Making.{AreMade}
 use Rattle.strm_chain.specs.Measuring.{most_of, most_in, rank, unclosed, to_do_of, to_do_to, to_do}
 
 -- ## A turn
 
-one_longer : (p q : Play) (step : Step) (reply : Reply) → Adds p q step reply → length q.steps ≡ length p.steps + 1
+one_longer : (p q : ChainPlay) (step : Step) (reply : Reply) → Adds p q step reply → length q.steps ≡ length p.steps + 1
 one_longer p q step reply a = ap length a.steps_are ∙ length_push p.steps step
 
 -- behind a step there is room for one less
-pub room_behind : (p q : Play) (step : Step) (reply : Reply) → Adds p q step reply → HasRoom 2 p → HasRoom 1 q
+pub room_behind : (p q : ChainPlay) (step : Step) (reply : Reply) → Adds p q step reply → HasRoomForSteps 2 p → HasRoomForSteps 1 q
 room_behind p q step reply a room = omega (arith, room, one_longer p q step reply a)
 
-by_one : (p q : Play) (step : Step) (reply : Reply) → Adds p q step reply → length q.steps ≤ length p.steps + 2
+by_one : (p q : ChainPlay) (step : Step) (reply : Reply) → Adds p q step reply → length q.steps ≤ length p.steps + 2
 by_one p q step reply a = omega (arith, one_longer p q step reply a)
 
-by_two : (p mid q : Play) (step other : Step) (reply answer : Reply) → Adds p mid step reply → Adds mid q other answer → length q.steps ≤ length p.steps + 2
+by_two : (p mid q : ChainPlay) (step other : Step) (reply answer : Reply) → Adds p mid step reply → Adds mid q other answer → length q.steps ≤ length p.steps + 2
 by_two p mid q step other reply answer a b = omega (arith, one_longer p mid step reply a, one_longer mid q other answer b)
 
-turned_short : (g chunk : ℕ) (w w' : Worker) (p q : Play) (turn : ChainTurn) → Turned g chunk w p turn w' q → length q.steps ≤ length p.steps + 2
-turned_short g chunk w w' p q turn (Rests t e is same) = omega (arith, ap (λ (x : Play). length x.steps) same)
+turned_short : (g chunk : ℕ) (w w' : Worker) (p q : ChainPlay) (turn : ChainTurn) → Turned g chunk w p turn w' q → length q.steps ≤ length p.steps + 2
+turned_short g chunk w w' p q turn (Rests t e is same) = omega (arith, ap (λ (x : ChainPlay). length x.steps) same)
 turned_short g chunk w w' p q turn (Waits t is x) = by_one p q _ _ x.hears
 turned_short g chunk w w' p q turn (ReadOpens t x is) = by_one p q _ _ x.adds
 turned_short g chunk w w' p q turn (ReadServes mid code t x y) = by_two p mid q _ _ _ _ x.adds y.dumps
@@ -49,7 +49,7 @@ turned_short g chunk w w' p q turn (WriteServes code t x h) = by_two p x.mid q _
 turned_short g chunk w w' p q turn (WriteSettles code t x h) = by_one p q _ _ x.adds
 turned_short g chunk w w' p q turn (Ends t x) = by_one p q _ _ x.adds
 
-module _ {E : Type 0} (p q : Play) (w w' : Worker) (g chunk : ℕ) where
+module _ {E : Type 0} (p q : ChainPlay) (w w' : Worker) (g chunk : ℕ) where
   pub short_ok : (r : Result ChainTurn E) → IfOk r (λ turn. Turned g chunk w p turn w' q) → OnOk r (length q.steps ≤ length p.steps + 2)
   short_ok (Ok turn) t = turned_short g chunk w w' p q turn t
   short_ok (Err e) t = tt
@@ -67,7 +67,7 @@ many_made guests streams =
     ∙ ap (λ n. n + length (streams_made streams)) (length-replicate guests (steps.Guest 8192))
     ∙ ap (λ n. guests + n) (many_streams streams)
 
-pub made_room : (guests streams more : ℕ) (p : Play) → AreMade guests streams p → guests + streams + more ≤ 4294967295 → HasRoom more p
+pub made_room : (guests streams more : ℕ) (p : ChainPlay) → AreMade guests streams p → guests + streams + more ≤ 4294967295 → HasRoomForSteps more p
 made_room guests streams more p made l = omega (arith, l, ap length made.steps_are ∙ many_made guests streams)
 
 -- ## What two stages that double make of so many bytes
@@ -154,7 +154,7 @@ ten_few : (most : ℕ) (state : State) (ws : List Worker) (n : ℕ) → n ≤ 10
 ten_few most state ws n l = omega (arith, all_few most state ws n, mul-le-mul_right (4 * most + 4) l)
 
 -- the steps that made a chain, and those of its rounds to the end
-pub begins_few : (stages : List Stage) (input : List ℕ) (chunk : ℕ) (a : ChainState) → Begins stages input chunk a → fault_of stages (length input) ≡ None → length a.play.steps + 20 * to_do a.play.state a.workers ≤ 800 * most_of stages (length input) + 819
+pub begins_few : (stages : List Stage) (input : List ℕ) (chunk : ℕ) (a : ChainState) → BeginsChain stages input chunk a → fault_of stages (length input) ≡ None → length a.play.steps + 20 * to_do a.play.state a.workers ≤ 800 * most_of stages (length input) + 819
 begins_few stages input chunk a x none =
     let few : length stages ≤ 8 = few_stages stages (length input) none in
     let made : length a.play.steps ≡ (length stages + 2) + (length stages + 1) = ap length x.steps_are ∙ many_made (length stages + 2) (length stages + 1) in

@@ -6,11 +6,11 @@ use Rattle.strm_machine.specs.State.{State}
 use Rattle.strm_chain.specs.declared.workers.Worker.{Worker}
 use Rattle.strm_chain.specs.declared.workers.ChainTurn.{ChainTurn}
 use Rattle.strm_chain.specs.declared.workers.ChainTurn.TheVariants.{Moved, Idle}
-use Rattle.strm_chain.specs.Playing.{Play, IsPlayed}
+use Rattle.strm_chain.specs.Playing.{ChainPlay, IsChainPlayed}
 use Rattle.strm_chain.specs.Reporting.{is_told}
 use Rattle.strm_chain.specs.Turned.{Turned}
 use Rattle.strm_chain.specs.Keeping.{worker_at, stages_of, input_of, IsJoined, IsGoing}
-use Rattle.strm_chain.specs.Measuring.{most_of, most_in, taken_from, rank, unclosed, to_do_of, to_do_to, to_do, IsStuck, Lowers, Less, Same}
+use Rattle.strm_chain.specs.Measuring.{most_of, most_in, taken_in_bytes, rank, unclosed, to_do_of, to_do_to, to_do, IsStuck, LowersMeasure, Less, Same}
 use Rattle.strm_chain.proofs.MomentLemmas.{IsRunOf, played_run}
 use Rattle.strm_chain.proofs.JoinedLemmas.{OneChanged}
 use Rattle.strm_chain.proofs.BoundLemmas.{taken_few, sent_few}
@@ -42,7 +42,7 @@ moved_or : (turn : ChainTurn) → (turn ≡ Moved) ⊎ (turn ≡ Idle)
 moved_or Moved = inl refl
 moved_or Idle = inr refl
 
-module _ (p q : Play) (ws ws' : List Worker) (g chunk : ℕ) (turn : ChainTurn) (some : 2 ≤ length ws) (l : g < length ws) (most : chunk ≤ 64)
+module _ (p q : ChainPlay) (ws ws' : List Worker) (g chunk : ℕ) (turn : ChainTurn) (some : 2 ≤ length ws) (l : g < length ws) (most : chunk ≤ 64)
     (one : OneChanged g ws ws') (alike : AreAlike ws ws') (j : IsJoined p ws) (k : IsJoined q ws') (run : IsRunOf p) (after : IsRunOf q) where
   abbrev bound : ℕ
   bound = most_in ws
@@ -50,7 +50,7 @@ module _ (p q : Play) (ws ws' : List Worker) (g chunk : ℕ) (turn : ChainTurn) 
   some_after : 2 ≤ length ws'
   some_after = omega (arith, some, one.many)
 
-  takes_within : taken_from q.state (g - 1) ≤ bound
+  takes_within : taken_in_bytes q.state (g - 1) ≤ bound
   takes_within = omega (arith, taken_few q ws' some_after k after (g - 1) (omega (arith, l, some, one.many)), most-same ws ws' alike)
 
   sends_within : g + 1 < length ws → (worker_at ws' g).sent ≤ bound
@@ -68,7 +68,7 @@ module _ (p q : Play) (ws ws' : List Worker) (g chunk : ℕ) (turn : ChainTurn) 
         ap (λ (w : Worker). rank w.doing) e,
       )
 
-  pub turn_lowers : Turned g chunk (worker_at ws g) p turn (worker_at ws' g) q → Lowers g turn p.state ws q.state ws'
+  pub turn_lowers : Turned g chunk (worker_at ws g) p turn (worker_at ws' g) q → LowersMeasure g turn p.state ws q.state ws'
   turn_lowers t =
       let takes = turned_take g chunk (worker_at ws g) (worker_at ws' g) p q turn run after.are t (g - 1) in
       elim (moved_or turn) [
@@ -97,7 +97,7 @@ pub round_none : (old : State) (ws : List Worker) → SoFar 0 old ws old ws
 round_none old ws = Stood refl (λ k. refl) (λ k l. absurd (omega (arith, l)))
 
 module _ (who : ℕ) (turn : ChainTurn) (old mid new : State) (ws ws1 ws2 : List Worker) (a : AreAlike ws ws1) (b : AreAlike ws1 ws2) where
-  pub round_more : SoFar who old ws mid ws1 → Lowers who turn mid ws1 new ws2 → SoFar (who + 1) old ws new ws2
+  pub round_more : SoFar who old ws mid ws1 → LowersMeasure who turn mid ws1 new ws2 → SoFar (who + 1) old ws new ws2
   round_more (Fell f) (Less t g) = Fell (omega (arith, f, g))
   round_more (Fell f) (Same t e same stuck) = Fell (omega (arith, f, to_do-same mid new ws1 ws2 b e same))
   round_more (Stood d was rest) (Less t g) = Fell (omega (arith, g, to_do-same old mid ws ws1 a d was))
@@ -109,7 +109,7 @@ module _ (who : ℕ) (turn : ChainTurn) (old mid new : State) (ws ws1 ws2 : List
       ])
 
 -- not all guests of a chain that goes on are stuck
-pub somebody_goes : (p : Play) (ws : List Worker) → IsPlayed p → IsGoing p ws → 2 ≤ length ws → is_told (length ws - 1) p.steps p.replies ≡ false → ((g : ℕ) → g < length ws → IsStuck g (worker_at ws g) p.state) → ⊥
+pub somebody_goes : (p : ChainPlay) (ws : List Worker) → IsChainPlayed p → IsGoing p ws → 2 ≤ length ws → is_told (length ws - 1) p.steps p.replies ≡ false → ((g : ℕ) → g < length ws → IsStuck g (worker_at ws g) p.state) → ⊥
 somebody_goes p ws played go some untold all =
     not_all_stuck p ws go.joined (played_run p played) all some (sym go.told ∙ untold)
 

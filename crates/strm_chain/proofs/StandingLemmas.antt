@@ -12,8 +12,8 @@ use Rattle.strm_machine.specs.declared.streams.Stream.{Stream}
 use Rattle.strm_laws.specs.Laws.{waiting}
 use Rattle.strm_chain.specs.declared.workers.Worker.{Worker}
 use Rattle.strm_chain.specs.declared.workers.Doing.TheVariants.{Nothing, Reading, Writing, Ended}
-use Rattle.strm_chain.specs.Playing.{Play}
-use Rattle.strm_chain.specs.Turning.{HasOperation, has_ended}
+use Rattle.strm_chain.specs.Playing.{ChainPlay}
+use Rattle.strm_chain.specs.Turning.{HasOperation, guest_has_ended}
 use Rattle.strm_chain.specs.Turned.{IsAt}
 use Rattle.strm_chain.specs.Keeping.{worker_at, sink_of, IsJoined, IsGoing}
 use Rattle.strm_chain.proofs.StayLemmas.{no_operation}
@@ -22,13 +22,13 @@ use Rattle.strm_chain.proofs.ReadTurnLemmas.{before_it, behind_it}
 use Rattle.strm_chain.proofs.EndLemmas.{ended_or, held_stays}
 
 -- what a guest is at, and where it stands
-pub record Stands (sink g : ℕ) (w : Worker) (p : Play) : Type 0 where
-  pub ended : w.doing ≡ Ended → has_ended sink g p ≡ true
-  pub going : w.doing ≢ Ended → has_ended sink g p ≡ false
+pub record Stands (sink g : ℕ) (w : Worker) (p : ChainPlay) : Type 0 where
+  pub ended : w.doing ≡ Ended → guest_has_ended sink g p ≡ true
+  pub going : w.doing ≢ Ended → guest_has_ended sink g p ≡ false
   pub busy : (handle : ℕ) → IsAt w handle → HasOperation g handle p.state
   pub free : w.doing ≡ Nothing → (handle : ℕ) → ¬ HasOperation g handle p.state
 
-module _ (p : Play) (ws : List Worker) (go : IsGoing p ws) (g : ℕ) (l : g < length ws) where
+module _ (p : ChainPlay) (ws : List Worker) (go : IsGoing p ws) (g : ℕ) (l : g < length ws) where
   abbrev j : IsJoined p ws
   j = go.joined
 
@@ -38,22 +38,22 @@ module _ (p : Play) (ws : List Worker) (go : IsGoing p ws) (g : ℕ) (l : g < le
   abbrev sink : ℕ
   sink = length ws - 1
 
-  at_sink : g ≡ sink → has_ended sink g p ≡ (sink_of ws).closed
+  at_sink : g ≡ sink → guest_has_ended sink g p ≡ (sink_of ws).closed
   at_sink e = rw (eq-eqb g sink e) go.told
 
-  before_sink : g ≢ sink → has_ended sink g p ≡ is_gone (stream_at p.state g).writer.owner
+  before_sink : g ≢ sink → guest_has_ended sink g p ≡ is_gone (stream_at p.state g).writer.owner
   before_sink ne = rw (ne_eqb g sink ne) refl
 
   more_there : g ≢ sink → g + 1 < length ws
   more_there ne = elim (cases_lt (g + 1) (length ws)) [ inl x ↦ x | inr x ↦ absurd (ne (omega (arith, x, l))) ]
 
-  stands_ended : w.doing ≡ Ended → has_ended sink g p ≡ true
+  stands_ended : w.doing ≡ Ended → guest_has_ended sink g p ≡ true
   stands_ended d = elim (cases_eq g sink) [
     | inl e ↦ at_sink e ∙ j.sink.ends (ap (λ n. (worker_at ws n).doing) (sym e) ∙ d)
     | inr ne ↦ before_sink ne ∙ (j.joins g (more_there ne)).writes.gone d
   ]
 
-  stands_going : w.doing ≢ Ended → has_ended sink g p ≡ false
+  stands_going : w.doing ≢ Ended → guest_has_ended sink g p ≡ false
   stands_going d = elim (cases_eq g sink) [
     | inl e ↦ at_sink e ∙ elim (cases_Bool (sink_of ws).closed) [
       | inl c ↦ absurd (d (ap (λ n. (worker_at ws n).doing) e ∙ j.sink.ended c))

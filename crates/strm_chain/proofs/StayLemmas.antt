@@ -11,7 +11,7 @@ use Rattle.strm_codes.specs.declared.scalars.Scalar.TheVariants.{U8}
 use Rattle.strm_machine.specs.State.{State, Guest, memory_in, stream_at, no_stream, is_gone}
 use Rattle.strm_machine.specs.Sides.{end_of}
 use Rattle.strm_machine.specs.Soundness.{type_with, type_of}
-use Rattle.strm_machine.specs.Moments.{Moment, is_named, got_in, items_in, decoded, rise, received, target}
+use Rattle.strm_machine.specs.Moments.{Moment, is_named, got_in, items_in_memory, decoded, rise, received, target}
 use Rattle.strm_machine.specs.Untouched.{LiesApart, put_by, StaysAside}
 use Rattle.strm_machine.specs.declared.streams.Side.{Side}
 use Rattle.strm_machine.specs.declared.streams.Side.TheVariants.{Writing, Reading}
@@ -20,10 +20,10 @@ use Rattle.strm_machine.specs.declared.streams.Stream.{Stream}
 use Rattle.strm_machine.proofs.Changes.{Scene, scene, Change}
 use Rattle.strm_chain.specs.declared.workers.Worker.{Worker}
 use Rattle.strm_chain.specs.Linking.{Sends, Takes}
-use Rattle.strm_chain.specs.Playing.{Play, bytes_type}
+use Rattle.strm_chain.specs.Playing.{ChainPlay, bytes_type}
 use Rattle.strm_chain.specs.Flowing.{got_on}
 use Rattle.strm_chain.specs.Keeping.{worker_at, Items, ArePlain, WritesOn, ReadsFrom, IsJoined}
-use Rattle.strm_chain.specs.Stages.{begun}
+use Rattle.strm_chain.specs.Stages.{work_begun}
 use Rattle.strm_chain.proofs.UnnamedLemmas.{Still, Resting, Going, still}
 use Rattle.strm_chain.proofs.RegionLemmas.{ReceivesLow, Nothing}
 use Rattle.strm_chain.proofs.KeepLemmas.{low_unnamed, writer_keeps, reader_keeps}
@@ -62,9 +62,9 @@ busy_stays side v (Resting r) some = absurd (no_operation _ r.was some)
 busy_stays side v (Going o p n x) some = subst IsSome (sym x.is) refl
 
 -- no item is received where no stream changes
-nothing_got : (pay : Payload) (guests : List Guest) (g address n : ℕ) → n ≡ 0 → items_in pay guests g address n ≡ []
+nothing_got : (pay : Payload) (guests : List Guest) (g address n : ℕ) → n ≡ 0 → items_in_memory pay guests g address n ≡ []
 unfolding decoded
-nothing_got pay guests g address n e = ap (items_in pay guests g address) e
+nothing_got pay guests g address n e = ap (items_in_memory pay guests g address) e
 
 pub got_none : (s : ℕ) (m : Moment) → m.after.streams ≡ m.before.streams → got_in s m ≡ []
 got_none s m e =
@@ -80,13 +80,13 @@ low_unmade m t l (Going o p n x) =
     absurd (some_none _ o x.was (ap (λ (y : Stream). y.reader.operation) (get_or_past m.before.streams t no_stream l)))
 
 -- in a chain, each stream whose read end is not named receives below byte 64 of the next guest
-pub low_unless : (p : Play) (ws : List Worker) (m : Moment) (t : ℕ) → m.before ≡ p.state → IsJoined p ws → Change Reading (scene t Reading m) → is_named t Reading m ≡ false → ReceivesLow m t
+pub low_unless : (p : ChainPlay) (ws : List Worker) (m : Moment) (t : ℕ) → m.before ≡ p.state → IsJoined p ws → Change Reading (scene t Reading m) → is_named t Reading m ≡ false → ReceivesLow m t
 low_unless p ws m t e j change unnamed =
     elim (cases_lt t (length m.before.streams)) [
       | inl l ↦ (let at = j.joins t (omega (arith, j.streams, ap (λ (x : State). length x.streams) e, l)) in
-          low_unnamed t (begun (worker_at ws (t + 1)).work.stage) (worker_at ws (t + 1)).work (worker_at ws (t + 1)).made m (got_on p.steps t)
+          low_unnamed t (work_begun (worker_at ws (t + 1)).work.stage) (worker_at ws (t + 1)).work (worker_at ws (t + 1)).made m (got_on p.steps t)
           (ap (λ x. (stream_at x t).payload) e ∙ payload_is p.state t at.typed) unnamed (still t Reading m unnamed change)
-          (subst (λ x. Takes (t + 1) 0 (begun (worker_at ws (t + 1)).work.stage) (worker_at ws (t + 1)).work (worker_at ws (t + 1)).made (memory_in x.guests (t + 1)) (stream_at x t).reader.operation (got_on p.steps t)) (sym e) at.reads.takes))
+          (subst (λ x. Takes (t + 1) 0 (work_begun (worker_at ws (t + 1)).work.stage) (worker_at ws (t + 1)).work (worker_at ws (t + 1)).made (memory_in x.guests (t + 1)) (stream_at x t).reader.operation (got_on p.steps t)) (sym e) at.reads.takes))
       | inr l ↦ low_unmade m t l (still t Reading m unnamed change)
     ]
 
@@ -150,8 +150,8 @@ module _ (m : Moment) (s : ℕ) (w : Worker) (got new : Items) (ty : type_of (st
     handle = h.handle;
     has = h.has;
     owner = owner ∙ h.owner;
-    takes = subst (Takes (s + 1) 0 (begun w.work.stage) w.work w.made (memory_in m.after.guests (s + 1)) (stream_at m.after s).reader.operation) (sym e)
-        (reader_keeps m s (begun w.work.stage) w.work w.made got (payload_is m.before s ty) unnamed change aside there put low h.takes);
+    takes = subst (Takes (s + 1) 0 (work_begun w.work.stage) w.work w.made (memory_in m.after.guests (s + 1)) (stream_at m.after s).reader.operation) (sym e)
+        (reader_keeps m s (work_begun w.work.stage) w.work w.made got (payload_is m.before s ty) unnamed change aside there put low h.takes);
     idle = λ n. idle_stays Reading (scene s Reading m) (still s Reading m unnamed change) (h.idle n);
     busy = λ e. busy_stays Reading (scene s Reading m) (still s Reading m unnamed change) (h.busy e);
     unclosed = h.unclosed;

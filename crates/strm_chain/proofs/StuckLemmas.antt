@@ -16,7 +16,7 @@ use Rattle.strm_machine.specs.declared.streams.Stream.{Stream}
 use Rattle.strm_laws.proofs.LawfulRuns.{apart}
 use Rattle.strm_chain.specs.declared.workers.Worker.{Worker}
 use Rattle.strm_chain.specs.declared.workers.Doing.TheVariants.{Reading}
-use Rattle.strm_chain.specs.Playing.{start, Play}
+use Rattle.strm_chain.specs.Playing.{chain_start, ChainPlay}
 use Rattle.strm_chain.specs.Keeping.{IsPlain, ArePlain, worker_at, sink_of, IsJoined}
 use Rattle.strm_chain.specs.Measuring.{IsStuck, AtEnd, InRead, InWrite}
 use Rattle.strm_chain.proofs.MomentLemmas.{IsRunOf}
@@ -45,10 +45,10 @@ unmet side stream k p some e =
     unmet_by gone (end_of side stream).told stream.passed o (plain_on side stream p) some
     (ap (λ kind. report_of kind (option_map pending_of o) gone (end_of side stream).told stream.passed) (sym k) ∙ e)
 
-module _ (p : Play) (ws : List Worker) (j : IsJoined p ws) (run : IsRunOf p) (all : (g : ℕ) → g < length ws → IsStuck g (worker_at ws g) p.state) where
+module _ (p : ChainPlay) (ws : List Worker) (j : IsJoined p ws) (run : IsRunOf p) (all : (g : ℕ) → g < length ws → IsStuck g (worker_at ws g) p.state) where
   not_both : (k : ℕ) → is_opened (stream_at p.state k).writer.operation ≡ true → is_opened (stream_at p.state k).reader.operation ≡ true → ⊥
   not_both k a b =
-      let never : both_open (stream_at p.state k) ≡ false = ap (λ (s : State). both_open (stream_at s k)) run.last_is ∙ apart start.tag start.limits p.steps k run.are in
+      let never : both_open (stream_at p.state k) ≡ false = ap (λ (s : State). both_open (stream_at s k)) run.last_is ∙ apart chain_start.tag chain_start.limits p.steps k run.are in
       let both : both_open (stream_at p.state k) ≡ true = ap (λ x. x && is_opened (stream_at p.state k).reader.operation) a ∙ b in
       let wrong : false ≡ true = sym never ∙ both in cc
 

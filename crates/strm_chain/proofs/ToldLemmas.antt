@@ -16,7 +16,7 @@ use Rattle.strm_laws.specs.Conservation.{moments, replies_of}
 use Rattle.strm_laws.proofs.Replies.{play-ends}
 use Rattle.strm_chain.specs.declared.workers.Worker.{Worker}
 use Rattle.strm_chain.specs.declared.workers.ChainTurn.{ChainTurn}
-use Rattle.strm_chain.specs.Playing.{start, Play, IsPlayed, Adds}
+use Rattle.strm_chain.specs.Playing.{chain_start, ChainPlay, IsChainPlayed, Adds}
 use Rattle.strm_chain.specs.Reporting.{report_if, report_to, last_report, tells_end, is_told}
 use Rattle.strm_chain.specs.Turned.{Turned, Rests, Waits, ReadOpens, ReadServes, ReadSettles, WriteOpens, WriteServes, WriteSettles, Ends}
 use Rattle.strm_chain.proofs.PlayingLemmas.{follows_plays}
@@ -35,41 +35,41 @@ last_report-push g earlier (s ∷ steps) (r ∷ told) step reply e =
     last_report-push g (option_or (report_to g s r) earlier) steps told step reply (omega (arith, e))
 
 -- as many replies as steps
-abbrev pub AreEven : Play → Type 0
+abbrev pub AreEven : ChainPlay → Type 0
 AreEven play = length play.steps ≡ length play.replies
 
 many_replies : (state : State) (steps : List Step) → length (replies_of (moments state steps)) ≡ length steps
 many_replies state [] = refl
 many_replies state (step ∷ more) = ap suc (many_replies (react state step).state more)
 
-pub even_of : (p : Play) → IsPlayed p → AreEven p
+pub even_of : (p : ChainPlay) → IsChainPlayed p → AreEven p
 even_of p f =
-    sym (many_replies start p.steps)
-    ∙ ap length (sym (play-ends [] start p.steps p.replies p.state (follows_plays p.steps p.replies p.state f)).1)
+    sym (many_replies chain_start p.steps)
+    ∙ ap length (sym (play-ends [] chain_start p.steps p.replies p.state (follows_plays p.steps p.replies p.state f)).1)
 
-pub even_adds : (p q : Play) (step : Step) (reply : Reply) → Adds p q step reply → AreEven p → AreEven q
+pub even_adds : (p q : ChainPlay) (step : Step) (reply : Reply) → Adds p q step reply → AreEven p → AreEven q
 even_adds p q step reply a e =
     ap length a.steps_are ∙ length_push p.steps step ∙ ap (λ n. n + 1) e
     ∙ sym (ap length a.replies_are ∙ length_push p.replies reply)
 
 -- what guest g was told last
-abbrev last_of : ℕ → Play → Option ReturnCode
+abbrev last_of : ℕ → ChainPlay → Option ReturnCode
 last_of g p = last_report g None p.steps p.replies
 
-pub last-adds : (g : ℕ) (p q : Play) (step : Step) (reply : Reply) → Adds p q step reply → AreEven p → last_report g None q.steps q.replies ≡ option_or (report_to g step reply) (last_report g None p.steps p.replies)
+pub last-adds : (g : ℕ) (p q : ChainPlay) (step : Step) (reply : Reply) → Adds p q step reply → AreEven p → last_report g None q.steps q.replies ≡ option_or (report_to g step reply) (last_report g None p.steps p.replies)
 last-adds g p q step reply a e =
     ap (λ xs. last_report g None xs q.replies) a.steps_are
     ∙ ap (last_report g None (p.steps ++ step ∷ [])) a.replies_are
     ∙ last_report-push g None p.steps p.replies step reply e
 
 -- whether guest g was told that there is no more
-abbrev told_to : ℕ → Play → Bool
+abbrev told_to : ℕ → ChainPlay → Bool
 told_to g p = is_told g p.steps p.replies
 
-unheard : (g : ℕ) (p q : Play) (step : Step) (reply : Reply) → Adds p q step reply → AreEven p → report_to g step reply ≡ None → told_to g q ≡ told_to g p
+unheard : (g : ℕ) (p q : ChainPlay) (step : Step) (reply : Reply) → Adds p q step reply → AreEven p → report_to g step reply ≡ None → told_to g q ≡ told_to g p
 unheard g p q step reply a e r = ap tells_end (last-adds g p q step reply a e ∙ ap (λ o. option_or o (last_of g p)) r)
 
-heard : (g : ℕ) (p q : Play) (step : Step) (reply : Reply) (code : ReturnCode) → Adds p q step reply → AreEven p → report_to g step reply ≡ Some code → told_to g q ≡ is_dropped code
+heard : (g : ℕ) (p q : ChainPlay) (step : Step) (reply : Reply) (code : ReturnCode) → Adds p q step reply → AreEven p → report_to g step reply ≡ Some code → told_to g q ≡ is_dropped code
 heard g p q step reply code a e r = ap tells_end (last-adds g p q step reply a e ∙ ap (λ o. option_or o (last_of g p)) r)
 
 other_guest : (k g : ℕ) (reply : Reply) → g ≢ k → report_if k g reply ≡ None
@@ -81,7 +81,7 @@ own_guest g reply = rw (eq-eqb g g refl) refl
 -- ## Turn by turn
 
 -- the turn of another guest tells this one nothing
-module _ (k g chunk : ℕ) (w w' : Worker) (p q : Play) (turn : ChainTurn) (e : AreEven p) (ne : g ≢ k) where
+module _ (k g chunk : ℕ) (w w' : Worker) (p q : ChainPlay) (turn : ChainTurn) (e : AreEven p) (ne : g ≢ k) where
   pub turned_other : Turned g chunk w p turn w' q → told_to k q ≡ told_to k p
   turned_other (Rests t d is same) = ap (told_to k) same
   turned_other (Waits t is x) = unheard k p q _ _ x.hears e (other_guest k g (replies.Event None) ne)
@@ -97,7 +97,7 @@ module _ (k g chunk : ℕ) (w w' : Worker) (p q : Play) (turn : ChainTurn) (e : 
 abbrev closed_in : Worker → Bool
 closed_in w = w.closed
 
-module _ (g chunk : ℕ) (w w' : Worker) (p q : Play) (turn : ChainTurn) (e : AreEven p) (none : w.write ≡ None) (knows : told_to g p ≡ w.closed) where
+module _ (g chunk : ℕ) (w w' : Worker) (p q : ChainPlay) (turn : ChainTurn) (e : AreEven p) (none : w.write ≡ None) (knows : told_to g p ≡ w.closed) where
   pub turned_own : Turned g chunk w p turn w' q → told_to g q ≡ w'.closed
   turned_own (Rests t d is same) = ap (told_to g) same ∙ knows ∙ ap closed_in (sym is)
   turned_own (Waits t is x) = unheard g p q _ _ x.hears e (own_guest g (replies.Event None)) ∙ knows ∙ ap closed_in (sym is)

@@ -22,11 +22,11 @@ use Rattle.strm_chain.specs.declared.workers.Worker.{Worker}
 use Rattle.strm_chain.specs.declared.workers.Doing.{Doing}
 use Rattle.strm_chain.specs.declared.workers.Doing.TheVariants.{Nothing, Reading, Writing, Ended}
 use Rattle.strm_chain.specs.declared.workers.ChainTurn.{ChainTurn}
-use Rattle.strm_chain.specs.Playing.{Play, Adds, bytes_type}
+use Rattle.strm_chain.specs.Playing.{ChainPlay, Adds, bytes_type}
 use Rattle.strm_chain.specs.Flowing.{got_on}
 use Rattle.strm_chain.specs.Linking.{Sends}
 use Rattle.strm_chain.specs.Keeping.{worker_at, WritesOn, ReadsFrom, IsJoined}
-use Rattle.strm_chain.specs.Turned.{HearsNone, Pokes, Writes, HearsWrite, HandsOver, Drops, Turned, Rests, Waits, ReadOpens, ReadServes, ReadSettles, WriteOpens, WriteServes, WriteSettles, Ends}
+use Rattle.strm_chain.specs.Turned.{HearsNone, Pokes, WritesPiece, HearsWrite, HandsOver, Drops, Turned, Rests, Waits, ReadOpens, ReadServes, ReadSettles, WriteOpens, WriteServes, WriteSettles, Ends}
 use Rattle.strm_chain.proofs.RegionLemmas.{nothing_put, write_region_stays}
 use Rattle.strm_chain.proofs.KeepLemmas.{poke_leaves}
 use Rattle.strm_chain.proofs.MomentLemmas.{IsRunOf, IsSeen, moment_at, run_before, are_before, seen}
@@ -42,7 +42,7 @@ not_blocked : (code : ReturnCode) (n : ℕ) → code ≡ codes.Completed n → c
 not_blocked code n e f = let wrong : codes.Blocked ≡ codes.Completed n = sym f ∙ e in cc
 
 -- what a turn of a guest that writes needs to know of the chain
-module _ (p : Play) (ws : List Worker) (g chunk : ℕ) (j : IsJoined p ws) (l : g < length ws) (run : IsRunOf p) (most : chunk ≤ 64) where
+module _ (p : ChainPlay) (ws : List Worker) (g chunk : ℕ) (j : IsJoined p ws) (l : g < length ws) (run : IsRunOf p) (most : chunk ≤ 64) where
   abbrev w : Worker
   w = worker_at ws g
 
@@ -54,14 +54,14 @@ module _ (p : Play) (ws : List Worker) (g chunk : ℕ) (j : IsJoined p ws) (l : 
   -- ## Writes
 
   -- the bytes that are to be written lie where they are written from
-  pub record IsPoked (bytes : List ℕ) (mid : Play) : Type 0 where
+  pub record IsPoked (bytes : List ℕ) (mid : ChainPlay) : Type 0 where
     pub joined : IsJoined mid ws
     run_mid : IsRunOf mid
     lies : bytes_at (memory_in mid.state.guests g) 64 (length bytes) ≡ take (length bytes) (drop w.sent w.made)
     within : w.sent + length bytes ≤ length w.made
     few : length bytes ≤ 64
 
-  pub poked : (bytes : List ℕ) (mid : Play) → AreSteps mid.steps → g + 1 < length ws → Pokes g chunk w bytes p mid → IsPoked bytes mid
+  pub poked : (bytes : List ℕ) (mid : ChainPlay) → AreSteps mid.steps → g + 1 < length ws → Pokes g chunk w bytes p mid → IsPoked bytes mid
   poked bytes mid are more x =
       let step = steps.Poke g 64 bytes in
       let look = seen p mid step replies.Done run are x.adds in
@@ -79,7 +79,7 @@ module _ (p : Play) (ws : List Worker) (g chunk : ℕ) (j : IsJoined p ws) (l : 
       }
 
   -- a step that names the write end of the guest, and puts nothing into a memory
-  module _ (mid q : Play) (jm : IsJoined mid ws) (step : Step) (reply : Reply) (a : Adds mid q step reply) (look : IsSeen (moment_at mid q step reply) mid.steps q.steps)
+  module _ (mid q : ChainPlay) (jm : IsJoined mid ws) (step : Step) (reply : Reply) (a : Adds mid q step reply) (look : IsSeen (moment_at mid q step reply) mid.steps q.steps)
       (put : (r : Region) → LiesApart r (put_by (act_of step) reply)) (only : NamesOnly (moment_at mid q step reply) g AWrite) where
     size_after : length (memory_in q.state.guests g) ≡ length (memory_in mid.state.guests g)
     size_after = look.aside.size g (omega (arith, l, jm.guests))
@@ -90,7 +90,7 @@ module _ (p : Play) (ws : List Worker) (g chunk : ℕ) (j : IsJoined p ws) (l : 
         (λ t. low_unless mid ws (moment_at mid q step reply) t refl jm (look.change t ARead) (unnamed_reader (moment_at mid q step reply) g t only))
 
   -- the guest goes on from a step on its write end, with so many bytes sent and doing this
-  module _ (q : Play) (ws' : List Worker) (sent : ℕ) (d : Doing) (one : OneChanged g ws ws')
+  module _ (q : ChainPlay) (ws' : List Worker) (sent : ℕ) (d : Doing) (one : OneChanged g ws ws')
       (more : g + 1 < length ws) where
     abbrev changed : Worker
     changed = record w { doing = d; sent = sent }
@@ -120,7 +120,7 @@ module _ (p : Play) (ws : List Worker) (g chunk : ℕ) (j : IsJoined p ws) (l : 
         (passes.reads s w there tt (subst (λ n. ReadsFrom s (worker_at ws n) p.state (got_on p.steps s)) e (j.joins s there).reads))))
 
   -- a write is called
-  module _ (q : Play) (code : ReturnCode) (are : AreSteps q.steps) (x : Writes g chunk w p q code) where
+  module _ (q : ChainPlay) (code : ReturnCode) (are : AreSteps q.steps) (x : WritesPiece g chunk w p q code) where
     abbrev write_step : Step
     write_step = steps.Write g bytes_type x.handle 64 (length x.bytes)
 
@@ -235,7 +235,7 @@ module _ (p : Play) (ws : List Worker) (g chunk : ℕ) (j : IsJoined p ws) (l : 
         })
 
   -- what a guest hears of its write
-  module _ (q : Play) (handle : ℕ) (code : Option ReturnCode) (are : AreSteps q.steps) (waits : w.doing ≡ Writing) (has : w.write ≡ Some handle) where
+  module _ (q : ChainPlay) (handle : ℕ) (code : Option ReturnCode) (are : AreSteps q.steps) (waits : w.doing ≡ Writing) (has : w.write ≡ Some handle) where
     pub hears_write : Adds p q (steps.Event g handle) (replies.Event code) → Told p.state q.state g AWrite code
     hears_write a =
         let step = steps.Event g handle in
@@ -247,7 +247,7 @@ module _ (p : Play) (ws : List Worker) (g chunk : ℕ) (j : IsJoined p ws) (l : 
         event_after p.state q.state g handle g AWrite code does names.stream names.on (omega (arith, more, j.streams))
 
   -- a write that waited is over
-  write_turn_settles : (q : Play) (ws' : List Worker) (code : ReturnCode) → AreSteps q.steps → OneChanged g ws ws' → (x : HearsWrite g w p q code) → HandsOver w code (worker_at ws' g) → IsJoined q ws'
+  write_turn_settles : (q : ChainPlay) (ws' : List Worker) (code : ReturnCode) → AreSteps q.steps → OneChanged g ws ws' → (x : HearsWrite g w p q code) → HandsOver w code (worker_at ws' g) → IsJoined q ws'
   write_turn_settles q ws' code are one x h =
       let more = behind_it p ws g x.handle j l x.has in
       let step = steps.Event g x.handle in
@@ -277,7 +277,7 @@ module _ (p : Play) (ws : List Worker) (g chunk : ℕ) (j : IsJoined p ws) (l : 
       })
 
   -- the guest drops its write end
-  drop_turn : (q : Play) (ws' : List Worker) → AreSteps q.steps → OneChanged g ws ws' → Drops g w p (worker_at ws' g) q → IsJoined q ws'
+  drop_turn : (q : ChainPlay) (ws' : List Worker) → AreSteps q.steps → OneChanged g ws ws' → Drops g w p (worker_at ws' g) q → IsJoined q ws'
   drop_turn q ws' are one x =
       let more = behind_it p ws g x.handle j l x.has in
       let step = steps.DropWrite g bytes_type x.handle in
@@ -307,7 +307,7 @@ module _ (p : Play) (ws : List Worker) (g chunk : ℕ) (j : IsJoined p ws) (l : 
   -- ## Any turn
 
   -- the guest hears nothing of its operation
-  idle_turn : (q : Play) (ws' : List Worker) → AreSteps q.steps → OneChanged g ws ws' → HearsNone g w p q → worker_at ws' g ≡ w → IsJoined q ws'
+  idle_turn : (q : ChainPlay) (ws' : List Worker) → AreSteps q.steps → OneChanged g ws ws' → HearsNone g w p q → worker_at ws' g ≡ w → IsJoined q ws'
   idle_turn q ws' are one x is =
       let step = steps.Event g x.handle in
       let reply = replies.Event None in
@@ -315,7 +315,7 @@ module _ (p : Play) (ws : List Worker) (g chunk : ℕ) (j : IsJoined p ws) (l : 
       let same = event_none p.state q.state g x.handle (performed p.state (act_of step) reply q.state x.hears.reacts refl) in
       joined_same p q ws ws' g j one is (same_passes (length ws) p q step reply look same (frame_of p ws j))
 
-  pub turn_joined : (q : Play) (ws' : List Worker) (turn : ChainTurn) → AreSteps q.steps → OneChanged g ws ws' → Turned g chunk w p turn (worker_at ws' g) q → IsJoined q ws'
+  pub turn_joined : (q : ChainPlay) (ws' : List Worker) (turn : ChainTurn) → AreSteps q.steps → OneChanged g ws ws' → Turned g chunk w p turn (worker_at ws' g) q → IsJoined q ws'
   turn_joined q ws' turn are one (Rests t e is same) =
       joined_same p q ws ws' g j one is (subst (λ x. Passes (length ws) p x Each Each) (sym same) (none_pass (length ws) p (frame_of p ws j)))
   turn_joined q ws' turn are one (Waits t is x) = idle_turn q ws' are one x is

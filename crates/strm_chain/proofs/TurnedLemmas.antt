@@ -18,13 +18,13 @@ use Rattle.strm_laws.specs.Laws.{AreSteps}
 use Rattle.strm_chain.specs.declared.workers.Worker.{Worker}
 use Rattle.strm_chain.specs.declared.workers.Doing.{Doing}
 use Rattle.strm_chain.specs.declared.workers.Doing.TheVariants.{Nothing, Reading, Writing, Ended}
-use Rattle.strm_chain.specs.Stages.{begun, left, done}
-use Rattle.strm_chain.specs.Playing.{Play}
+use Rattle.strm_chain.specs.Stages.{work_begun, work_left, work_done}
+use Rattle.strm_chain.specs.Playing.{ChainPlay}
 use Rattle.strm_chain.specs.Flowing.{as_items, got_on}
 use Rattle.strm_chain.specs.Linking.{Sends, Takes, Arrived, OffersIf}
 use Rattle.strm_chain.specs.Keeping.{Items, ArePlain, WritesOn, ReadsFrom}
 use Rattle.strm_chain.specs.Turned.{after_read, EndsRead, WithMore, WithLast, TakesIn}
-use Rattle.strm_chain.proofs.StageLemmas.{left-stage}
+use Rattle.strm_chain.proofs.StageLemmas.{work_left-stage}
 use Rattle.strm_chain.proofs.LinkLemmas.{takes_arrived}
 use Rattle.strm_chain.proofs.MomentLemmas.{IsRunOf, IsSeen, moment_at, seen}
 use Rattle.strm_chain.proofs.NamingLemmas.{performed}
@@ -93,7 +93,7 @@ pub record Arrives (s : ℕ) (w : Worker) (code : ReturnCode) (state : State) (g
   pub handle : ℕ
   pub has : w.read ≡ Some handle
   pub owner : (stream_at state s).reader.owner ≡ Held (s + 1) handle
-  pub arrived : Arrived 0 (count_of code) (begun w.work.stage) w.work w.made (memory_in state.guests (s + 1)) got
+  pub arrived : Arrived 0 (count_of code) (work_begun w.work.stage) w.work w.made (memory_in state.guests (s + 1)) got
   pub none : (stream_at state s).reader.operation ≡ None
   pub few : count_of code ≤ 64
   pub gone : is_dropped code ≡ true → is_gone (stream_at state s).writer.owner ≡ true
@@ -116,7 +116,7 @@ after_unwriting None false e = cc
 after_unwriting (Some h) dropped e = cc
 
 -- the dump of its bytes, which its stage takes
-module _ (p q : Play) (count s g : ℕ) (w w' : Worker) (code : ReturnCode) (e : g ≡ s + 1) (run : IsRunOf p) (are : AreSteps q.steps) (frame : Frame count p.state)
+module _ (p q : ChainPlay) (count s g : ℕ) (w w' : Worker) (code : ReturnCode) (e : g ≡ s + 1) (run : IsRunOf p) (are : AreSteps q.steps) (frame : Frame count p.state)
     (x : TakesIn g w code p w' q) where
   abbrev dump_step : Step
   dump_step = steps.Dump g 0 (count_of code)
@@ -136,20 +136,20 @@ module _ (p q : Play) (count s g : ℕ) (w w' : Worker) (code : ReturnCode) (e :
       let bytes_are : x.bytes ≡ bytes_at memory 0 (count_of code) =
       dumped.1 ∙ ap (λ n. take (min (count_of code) 64) (drop 0 (memory_in p.state.guests n))) e ∙ ap (λ n. take n (drop 0 memory)) (omega (arith, h.few)) in
       let v : Worker = record w {
-        work = left w.work x.bytes;
-        made = w.made ++ done w.work x.bytes;
+        work = work_left w.work x.bytes;
+        made = w.made ++ work_done w.work x.bytes;
         doing = after_read w.write (is_dropped code);
         closed = is_dropped code;
       } in
-      let taken : Takes (s + 1) 0 (begun w.work.stage) (left w.work x.bytes) (w.made ++ done w.work x.bytes) memory None (got_on p.steps s) =
-      subst (λ b. Takes (s + 1) 0 (begun w.work.stage) (left w.work b) (w.made ++ done w.work b) memory None (got_on p.steps s)) (sym bytes_are)
-      (takes_arrived (s + 1) 0 (count_of code) (begun w.work.stage) w.work w.made memory memory (got_on p.steps s) h.arrived) in
+      let taken : Takes (s + 1) 0 (work_begun w.work.stage) (work_left w.work x.bytes) (w.made ++ work_done w.work x.bytes) memory None (got_on p.steps s) =
+      subst (λ b. Takes (s + 1) 0 (work_begun w.work.stage) (work_left w.work b) (w.made ++ work_done w.work b) memory None (got_on p.steps s)) (sym bytes_are)
+      (takes_arrived (s + 1) 0 (count_of code) (work_begun w.work.stage) w.work w.made memory memory (got_on p.steps s) h.arrived) in
       let there : ReadsFrom s v p.state (got_on p.steps s) = record {
         handle = h.handle;
         has = h.has;
         owner = h.owner;
-        takes = subst (λ stage. Takes (s + 1) 0 (begun stage) (left w.work x.bytes) (w.made ++ done w.work x.bytes) memory (stream_at p.state s).reader.operation (got_on p.steps s)) (sym (left-stage w.work x.bytes))
-            (subst (λ o. Takes (s + 1) 0 (begun w.work.stage) (left w.work x.bytes) (w.made ++ done w.work x.bytes) memory o (got_on p.steps s)) (sym h.none) taken);
+        takes = subst (λ stage. Takes (s + 1) 0 (work_begun stage) (work_left w.work x.bytes) (w.made ++ work_done w.work x.bytes) memory (stream_at p.state s).reader.operation (got_on p.steps s)) (sym (work_left-stage w.work x.bytes))
+            (subst (λ o. Takes (s + 1) 0 (work_begun w.work.stage) (work_left w.work x.bytes) (w.made ++ work_done w.work x.bytes) memory o (got_on p.steps s)) (sym h.none) taken);
         idle = λ n. h.none;
         busy = λ f. absurd (after_unread w.write (is_dropped code) f);
         unclosed = λ f. absurd (after_unread w.write (is_dropped code) f);
@@ -162,11 +162,11 @@ module _ (p q : Play) (count s g : ℕ) (w w' : Worker) (code : ReturnCode) (e :
       (subst (λ st. ReadsFrom s v st (got_on p.steps s)) (sym dumped.0) there))
 
 -- its write end is as before, with more to write
-pub writes_taken : (g : ℕ) (w w' : Worker) (code : ReturnCode) (p q : Play) (state : State) (got : Items) → TakesIn g w code p w' q → w.doing ≢ Ended → w.doing ≢ Writing → WritesOn g w state got → WritesOn g w' state got
+pub writes_taken : (g : ℕ) (w w' : Worker) (code : ReturnCode) (p q : ChainPlay) (state : State) (got : Items) → TakesIn g w code p w' q → w.doing ≢ Ended → w.doing ≢ Writing → WritesOn g w state got → WritesOn g w' state got
 writes_taken g w w' code p q state got x a b h =
     let v : Worker = record w {
-      work = left w.work x.bytes;
-      made = w.made ++ done w.work x.bytes;
+      work = work_left w.work x.bytes;
+      made = w.made ++ work_done w.work x.bytes;
       doing = after_read w.write (is_dropped code);
       closed = is_dropped code;
     } in
@@ -175,7 +175,7 @@ writes_taken g w w' code p q state got x a b h =
       handle = h.handle;
       has = h.has;
       owner = λ n. h.owner a;
-      sends = sends_longer g 64 w.sent w.made (done w.work x.bytes) (memory_in state.guests g) (stream_at state g).writer.operation got h.sends (h.idle b);
+      sends = sends_longer g 64 w.sent w.made (work_done w.work x.bytes) (memory_in state.guests g) (stream_at state g).writer.operation got h.sends (h.idle b);
       idle = λ n. h.idle b;
       busy = λ f. absurd (let wrong : Nothing ≡ Writing = sym resting ∙ f in cc);
       gone = λ f. absurd (let wrong : Nothing ≡ Ended = sym resting ∙ f in cc);
@@ -194,13 +194,13 @@ sink_over None true e d = refl
 sink_over None false e d = cc
 sink_over (Some h) dropped e d = absurd (let wrong = e in cc)
 
-pub part_taken : (g handle : ℕ) (w w' : Worker) (code : ReturnCode) (p q : Play) → TakesIn g w code p w' q → w.read ≡ Some handle → SamePart w w'
+pub part_taken : (g handle : ℕ) (w w' : Worker) (code : ReturnCode) (p q : ChainPlay) → TakesIn g w code p w' q → w.read ≡ Some handle → SamePart w w'
 part_taken g handle w w' code p q x has =
     subst (SamePart w) (sym x.is) (record {
       read = refl;
       write = refl;
-      stage = left-stage w.work x.bytes;
+      stage = work_left-stage w.work x.bytes;
       source = λ none. absurd (no_handle w.read handle none has);
       unreading = λ none. absurd (no_handle w.read handle none has);
-      sink = λ k. record { write = k.write; copies = left-stage w.work x.bytes ∙ k.copies; ends = sink_ends w.write (is_dropped code); ended = sink_over w.write (is_dropped code) k.write; unwriting = after_unwriting w.write (is_dropped code) };
+      sink = λ k. record { write = k.write; copies = work_left-stage w.work x.bytes ∙ k.copies; ends = sink_ends w.write (is_dropped code); ended = sink_over w.write (is_dropped code) k.write; unwriting = after_unwriting w.write (is_dropped code) };
     })

@@ -7,14 +7,14 @@ use Rattle.strm_codes.specs.declared.payloads.Payload.TheVariants.{One}
 use Rattle.strm_codes.specs.declared.scalars.Scalar.TheVariants.{U8}
 use Rattle.strm_memory.specs.Bytes.{bytes_at}
 use Rattle.strm_machine.specs.State.{memory_in, stream_at}
-use Rattle.strm_machine.specs.Moments.{Moment, is_named, report_in, accepted_in, got_in, items_in, decoded, received, rise, target, place_of}
+use Rattle.strm_machine.specs.Moments.{Moment, is_named, report_in, accepted_in, got_in, items_in_memory, decoded, received, rise, target, place_of}
 use Rattle.strm_machine.specs.declared.streams.Side.{Side}
 use Rattle.strm_machine.specs.declared.streams.Side.TheVariants.{Writing, Reading}
 use Rattle.strm_machine.specs.declared.streams.Operation.{Operation}
 use Rattle.strm_machine.proofs.Changes.{Scene, scene, Change, ByRest, ByGoing, BySettling, ByOpening, ByServing, Rests, GoesOn}
 use Rattle.strm_chain.specs.declared.stages.Work.{Work}
 use Rattle.strm_chain.specs.Flowing.{as_items}
-use Rattle.strm_chain.specs.Linking.{Offers, Sends, Holds, HoldsIf, Takes}
+use Rattle.strm_chain.specs.Linking.{OffersWrite, Sends, HoldsRead, HoldsIf, Takes}
 use Rattle.strm_chain.proofs.LinkLemmas.{sends_on, holds_on}
 
 -- ## What an end that is not named may do
@@ -39,7 +39,7 @@ still s side m e (ByServing g address asked code x) = absurd (let wrong = sym x.
 -- ## The writing side
 
 -- a write that waits, whose bytes stay where they lie
-offers_stay : (g at sent : ℕ) (made memory after : List ℕ) (o : Operation) → Offers g at sent made memory o → length after ≡ length memory → ((c : ℕ) → at + c ≤ length memory → bytes_at after at c ≡ bytes_at memory at c) → Offers g at sent made after o
+offers_stay : (g at sent : ℕ) (made memory after : List ℕ) (o : Operation) → OffersWrite g at sent made memory o → length after ≡ length memory → ((c : ℕ) → at + c ≤ length memory → bytes_at after at c ≡ bytes_at memory at c) → OffersWrite g at sent made after o
 offers_stay g at sent made memory after o h size same = record {
   count = h.count;
   begun = h.begun;
@@ -107,8 +107,8 @@ module _ (s g n : ℕ) (m : Moment) (o : Operation) where
       let pay = (stream_at m.before s).payload in
       let there = target-unnamed s m e ∙ ap place_of was in
       let count : rise s m ≡ n = omega (arith, more) in
-      ap (λ p. items_in pay m.after.guests p.guest p.address (rise s m)) there
-      ∙ ap (λ k. items_in pay m.after.guests o.guest o.address k) count
+      ap (λ p. items_in_memory pay m.after.guests p.guest p.address (rise s m)) there
+      ∙ ap (λ k. items_in_memory pay m.after.guests o.guest o.address k) count
       ∙ ap (λ ss. decoded (scalars_of ss) (drop o.address (memory_in m.after.guests o.guest)) n) payload
       ∙ ap (λ k. decoded (U8 ∷ []) (drop o.address (memory_in m.after.guests k)) n) guest
 
@@ -132,7 +132,7 @@ module _ (s g at : ℕ) (first work : Work) (made : List ℕ) (m : Moment) (got 
   unnamed_takes (Going o p n x) t size stays =
       let memory = memory_in m.before.guests g in
       let after = memory_in m.after.guests g in
-      let h : Holds g at memory o t.rest = subst (λ q. HoldsIf g at memory q t.rest) x.was t.holds in
+      let h : HoldsRead g at memory o t.rest = subst (λ q. HoldsIf g at memory q t.rest) x.was t.holds in
       let is = received_there s g n m o payload e x.was h.begun.guest x.more in
       let address : p.address ≡ o.address + 1 * n = x.address ∙ ap (λ ss. o.address + item_size (scalars_of ss) * n) payload in
       rw x.is

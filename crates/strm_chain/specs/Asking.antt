@@ -30,5 +30,5 @@ pub record Asks (words : List (List ℕ)) (chunk : ℕ) (stages : List Stage) : 
   pub few_twice : count_by is_twice stages ≤ 2
 
 -- they ask for some chain
-abbrev pub IsAsked : List (List ℕ) → Type 0
-IsAsked words = (chunk : ℕ) × (stages : List Stage) × Asks words chunk stages
+abbrev pub IsChainAsked : List (List ℕ) → Type 0
+IsChainAsked words = (chunk : ℕ) × (stages : List Stage) × Asks words chunk stages

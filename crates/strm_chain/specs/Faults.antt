@@ -18,6 +18,6 @@ fault_of stages input =
     else (if nat_lt 65536 input then Some TooLong else None))
 
 -- an error is the fault of the stages and the input, or memory was wanting where there is none
-abbrev pub IsFault : List Stage → ℕ → ChainError → Type 0
-IsFault stages input error =
+abbrev pub IsChainFault : List Stage → ℕ → ChainError → Type 0
+IsChainFault stages input error =
     (fault_of stages input ≡ Some error) ⊎ ((fault_of stages input ≡ None) × (error ≡ OutOfMemory))

@@ -11,8 +11,8 @@ use Rattle.strm_chain.specs.declared.stages.Stage.{Stage}
 use Rattle.strm_chain.specs.declared.stages.Stage.TheVariants.{Copy}
 use Rattle.strm_chain.specs.declared.workers.Worker.{Worker}
 use Rattle.strm_chain.specs.declared.workers.Doing.TheVariants.{Nothing, Reading, Writing, Ended}
-use Rattle.strm_chain.specs.Stages.{begun}
-use Rattle.strm_chain.specs.Playing.{start, Play, IsPlayed, bytes_type}
+use Rattle.strm_chain.specs.Stages.{work_begun}
+use Rattle.strm_chain.specs.Playing.{chain_start, ChainPlay, IsChainPlayed, bytes_type}
 use Rattle.strm_chain.specs.Flowing.{got_on}
 use Rattle.strm_chain.specs.Linking.{Sends, Takes}
 use Rattle.strm_chain.specs.Reporting.{is_told}
@@ -20,7 +20,7 @@ use Rattle.strm_chain.specs.Running.{making_of}
 
 -- what a chain has come to: what was played, its guests, and whether memory was wanting
 pub record ChainState : Type 0 where
-  pub play : Play
+  pub play : ChainPlay
   pub workers : List Worker
   pub chunk : ℕ
   pub failed : Bool
@@ -30,7 +30,7 @@ abbrev pub new_worker : Stage → Worker
 new_worker stage = record {
   read = None;
   write = None;
-  work = begun stage;
+  work = work_begun stage;
   made = [];
   sent = 0;
   doing = Nothing;
@@ -95,7 +95,7 @@ pub record ReadsFrom (s : ℕ) (w : Worker) (state : State) (received : Items) :
   pub handle : ℕ
   pub has : w.read ≡ Some handle
   pub owner : (stream_at state s).reader.owner ≡ Held (s + 1) handle
-  pub takes : Takes (s + 1) 0 (begun w.work.stage) w.work w.made (memory_in state.guests (s + 1))
+  pub takes : Takes (s + 1) 0 (work_begun w.work.stage) w.work w.made (memory_in state.guests (s + 1))
       (stream_at state s).reader.operation received
   pub idle : w.doing ≢ Reading → (stream_at state s).reader.operation ≡ None
   pub busy : w.doing ≡ Reading → IsSome (stream_at state s).reader.operation
@@ -106,7 +106,7 @@ pub record ReadsFrom (s : ℕ) (w : Worker) (state : State) (received : Items) :
   pub gone : w.closed ≡ true → is_gone (stream_at state s).writer.owner ≡ true
 
 -- stream s is of bytes, and joins guest s to the next one
-pub record Joins (s : ℕ) (writer reader : Worker) (play : Play) : Type 0 where
+pub record Joins (s : ℕ) (writer reader : Worker) (play : ChainPlay) : Type 0 where
   pub typed : type_of (stream_at play.state s) ≡ bytes_type
   pub writes : WritesOn s writer play.state (got_on play.steps s)
   pub reads : ReadsFrom s reader play.state (got_on play.steps s)
@@ -121,7 +121,7 @@ pub record IsSink (w : Worker) : Type 0 where
 
 -- the guests of a chain, joined by streams from each to the next; the source reads nothing, and the sink
 -- copies and writes nothing
-pub record IsJoined (play : Play) (workers : List Worker) : Type 0 where
+pub record IsJoined (play : ChainPlay) (workers : List Worker) : Type 0 where
   pub guests : length workers ≤ length play.state.guests
   pub streams : length play.state.streams + 1 ≡ length workers
   pub room : (g : ℕ) → g < length workers → length (memory_in play.state.guests g) ≡ 8192
@@ -132,20 +132,20 @@ pub record IsJoined (play : Play) (workers : List Worker) : Type 0 where
   pub sink : IsSink (sink_of workers)
 
 -- guest g of such a chain
-pub record IsGuest (g : ℕ) (w : Worker) (play : Play) : Type 0 where
+pub record IsGuest (g : ℕ) (w : Worker) (play : ChainPlay) : Type 0 where
   pub workers : List Worker
   pub joined : IsJoined play workers
   pub there : g < length workers
   pub is : worker_at workers g ≡ w
-  pub played : IsPlayed play
+  pub played : IsChainPlayed play
 
 -- and the sink knows what it was told
-pub record IsGoing (play : Play) (workers : List Worker) : Type 0 where
+pub record IsGoing (play : ChainPlay) (workers : List Worker) : Type 0 where
   pub joined : IsJoined play workers
   pub told : is_told (length workers - 1) play.steps play.replies ≡ (sink_of workers).closed
 
 -- the same, but where memory was wanting
-abbrev pub IsGoingUnless : Bool → Play → List Worker → Type 0
+abbrev pub IsGoingUnless : Bool → ChainPlay → List Worker → Type 0
 IsGoingUnless true play workers = Unit {0}
 IsGoingUnless false play workers = IsGoing play workers
 
@@ -156,17 +156,17 @@ pub record IsChain (chain : ChainState) : Type 0 where
   pub going : IsGoingUnless chain.failed chain.play chain.workers
 
 -- a chain of these stages, this input and this chunk, in which no guest has had a turn
-pub record Begins (stages : List Stage) (input : List ℕ) (chunk : ℕ) (chain : ChainState) : Type 0 where
+pub record BeginsChain (stages : List Stage) (input : List ℕ) (chunk : ℕ) (chain : ChainState) : Type 0 where
   pub many : length chain.workers ≡ length stages + 2
   pub stages_are : stages_of chain.workers ≡ stages
   pub input_is : input_of chain.workers ≡ input
   pub chunk_is : chain.chunk ≡ chunk
   pub steps_are : chain.play.steps ≡ making_of (length stages)
-  pub plays : play [] start chain.play.steps ≡ Ends chain.play.replies chain.play.state
+  pub plays : play [] chain_start chain.play.steps ≡ Ends chain.play.replies chain.play.state
   pub runs : chain.failed ≡ false
 
 -- from turn to turn, a chain has as many guests of the same stages, the same input and the same chunk
-pub record GoesOn (old new : ChainState) : Type 0 where
+pub record ChainGoesOn (old new : ChainState) : Type 0 where
   pub many : length new.workers ≡ length old.workers
   pub stages : stages_of new.workers ≡ stages_of old.workers
   pub input : input_of new.workers ≡ input_of old.workers

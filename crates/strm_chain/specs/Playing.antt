@@ -12,14 +12,14 @@ use Rattle.strm_machine.specs.declared.steps.Step.TheVariants as steps
 use Rattle.strm_machine.specs.declared.streams.Side.{Side}
 use Rattle.strm_machine.specs.declared.streams.Side.TheVariants.{Writing, Reading}
 use Rattle.strm_machine.specs.declared.replies.Reply.{Reply}
-use Rattle.strm_laws.specs.Laws.{HasBytes}
+use Rattle.strm_laws.specs.Laws.{StepHasBytes}
 use Rattle.strm_host_machine.specs.Does.{Fits}
 use Rattle.strm_transmit.specs.Meets.{is_done}
 use Rattle.strm_transmit.specs.Guests.{nobody, Unhosted}
 
 -- a chain begins with a store without guests, named 0, under these limits
-abbrev pub start : State
-start = empty 0 (record { handles = 1000000; places = 1000000 })
+abbrev pub chain_start : State
+chain_start = empty 0 (record { handles = 1000000; places = 1000000 })
 
 -- the streams of a chain are of bytes
 abbrev pub bytes_type : TransmitIndex
@@ -27,12 +27,12 @@ bytes_type = index.Stream (One U8)
 
 -- these steps were answered so, and led from a new store to this one, which goes on and needs no host end
 pub record Follows (steps : List Step) (replies : List Reply) (state : State) : Type 0 where
-  pub led : (more : List Step) → play [] start (steps ++ more) ≡ play replies state more
+  pub led : (more : List Step) → play [] chain_start (steps ++ more) ≡ play replies state more
   pub running : state.trapped ≡ false
   pub unhosted : Unhosted state
   pub fits : Fits state nobody
   pub few : length steps ≤ 4294967295
-  pub bytes : All HasBytes steps
+  pub bytes : All StepHasBytes steps
 
 -- a step behind these was done, and had this reply
 pub record IsAnswered (steps : List Step) (replies : List Reply) (step : Step) (reply : Reply) (next : State) : Type 0 where
@@ -44,22 +44,22 @@ pub record IsAnswered (steps : List Step) (replies : List Reply) (step : Step) (
   pub fits : Fits next nobody
 
 -- what was played: the steps, their replies and the state that they led to
-pub record Play : Type 0 where
+pub record ChainPlay : Type 0 where
   pub steps : List Step
   pub replies : List Reply
   pub state : State
 
 -- nothing yet
-abbrev pub no_play : Play
-no_play = record { steps = []; replies = []; state = start }
+abbrev pub no_play : ChainPlay
+no_play = record { steps = []; replies = []; state = chain_start }
 
 -- the steps of a play were answered so, and led to its state
-abbrev pub IsPlayed : Play → Type 0
-IsPlayed play = Follows play.steps play.replies play.state
+abbrev pub IsChainPlayed : ChainPlay → Type 0
+IsChainPlayed play = Follows play.steps play.replies play.state
 
 -- the laws speak of so many steps more: of no play of more than 4,294,967,295
-abbrev pub HasRoom : ℕ → Play → Type 0
-HasRoom count play = length play.steps + count ≤ 4294967295
+abbrev pub HasRoomForSteps : ℕ → ChainPlay → Type 0
+HasRoomForSteps count play = length play.steps + count ≤ 4294967295
 
 -- a read or a write of guest g, on an end of a stream of bytes
 abbrev pub operation : Side → ℕ → ℕ → ℕ → ℕ → Step
@@ -71,7 +71,7 @@ abbrev pub IsDone : State → Step → Type 0
 IsDone state step = is_done (react state step).reply ≡ true
 
 -- one step was played, and had this reply
-pub record Adds (play play' : Play) (step : Step) (reply : Reply) : Type 0 where
+pub record Adds (play play' : ChainPlay) (step : Step) (reply : Reply) : Type 0 where
   pub steps_are : play'.steps ≡ play.steps ++ step ∷ []
   pub replies_are : play'.replies ≡ play.replies ++ reply ∷ []
   pub reacts : react play.state step ≡ goes reply play'.state

@@ -33,22 +33,22 @@ composed (stage ∷ more) bytes = composed more (of stage bytes)
 -- HOW IT IS DONE PIECE BY PIECE
 
 -- how many bytes a stage lets through before it has taken any
-abbrev pub room : Stage → ℕ
-room (stages.First n) = n
-room _ = 0
+abbrev pub stage_room : Stage → ℕ
+stage_room (stages.First n) = n
+stage_room _ = 0
 
 -- a stage that has taken nothing
-abbrev pub begun : Stage → Work
-begun stage = record { stage = stage; sum = 0; left = room stage }
+abbrev pub work_begun : Stage → Work
+work_begun stage = record { stage = stage; sum = 0; left = stage_room stage }
 
 -- what a stage puts out for one byte, with this sum and so many bytes left
 abbrev pub puts : Stage → ℕ → ℕ → ℕ → List ℕ
-puts stages.Copy sum left b = b ∷ []
-puts (stages.Add k) sum left b = (b + k) % 256 ∷ []
-puts (stages.Without k) sum left b = if b == k then [] else b ∷ []
-puts stages.Twice sum left b = b ∷ b ∷ []
-puts stages.Sum sum left b = (sum + b) % 256 ∷ []
-puts (stages.First n) sum left b = if left == 0 then [] else b ∷ []
+puts stages.Copy sum work_left b = b ∷ []
+puts (stages.Add k) sum work_left b = (b + k) % 256 ∷ []
+puts (stages.Without k) sum work_left b = if b == k then [] else b ∷ []
+puts stages.Twice sum work_left b = b ∷ b ∷ []
+puts stages.Sum sum work_left b = (sum + b) % 256 ∷ []
+puts (stages.First n) sum work_left b = if work_left == 0 then [] else b ∷ []
 
 -- the same of a stage under way
 abbrev pub put_out : Work → ℕ → List ℕ
@@ -63,11 +63,11 @@ work_after work b = record {
 }
 
 -- what a stage under way puts out for a list of bytes
-unfoldable pub done : Work → List ℕ → List ℕ
-done work [] = []
-done work (b ∷ bs) = put_out work b ++ done (work_after work b) bs
+unfoldable pub work_done : Work → List ℕ → List ℕ
+work_done work [] = []
+work_done work (b ∷ bs) = put_out work b ++ work_done (work_after work b) bs
 
 -- the stage behind them
-unfoldable pub left : Work → List ℕ → Work
-left work [] = work
-left work (b ∷ bs) = left (work_after work b) bs
+unfoldable pub work_left : Work → List ℕ → Work
+work_left work [] = work
+work_left work (b ∷ bs) = work_left (work_after work b) bs

@@ -13,21 +13,21 @@ use Rattle.strm_machine.specs.Plays.{play, Ends}
 use Rattle.strm_laws.specs.Laws.{waiting}
 use Rattle.strm_chain.specs.declared.workers.ChainTurn.{ChainTurn}
 use Rattle.strm_chain.specs.declared.workers.ChainTurn.TheVariants.{Moved, Idle}
-use Rattle.strm_chain.specs.Playing.{Play}
+use Rattle.strm_chain.specs.Playing.{ChainPlay}
 use Rattle.strm_chain.specs.Reporting.{is_told}
 
 -- STEPS OF A TURN
 
 -- a count of items that a guest may read or write at once
-pub record IsCount (chunk count : ℕ) : Type 0 where
+pub record IsChunkCount (chunk count : ℕ) : Type 0 where
   pub some : 1 ≤ count
   pub most : count ≤ chunk
 
 -- a step that guest g may make in its turn: a read, a write, a drop, a poke, a dump or an event, of this
 -- guest alone
 abbrev pub IsStepOf : ℕ → ℕ → Step → Type 0
-IsStepOf g chunk (steps.Write guest ty handle address count) = (guest ≡ g) × IsCount chunk count
-IsStepOf g chunk (steps.Read guest ty handle address count) = (guest ≡ g) × IsCount chunk count
+IsStepOf g chunk (steps.Write guest ty handle address count) = (guest ≡ g) × IsChunkCount chunk count
+IsStepOf g chunk (steps.Read guest ty handle address count) = (guest ≡ g) × IsChunkCount chunk count
 IsStepOf g chunk (steps.DropWrite guest ty handle) = guest ≡ g
 IsStepOf g chunk (steps.DropRead guest ty handle) = guest ≡ g
 IsStepOf g chunk (steps.Event guest handle) = guest ≡ g
@@ -72,17 +72,17 @@ pub record HasOperation (g handle : ℕ) (state : State) : Type 0 where
 
 -- guest g has ended: it has dropped the write end of its stream. The sink, the last guest, has none: it has
 -- ended once it was told that there is no more
-abbrev pub has_ended : ℕ → ℕ → Play → Bool
-has_ended sink g before =
+abbrev pub guest_has_ended : ℕ → ℕ → ChainPlay → Bool
+guest_has_ended sink g before =
     if g == sink then is_told sink before.steps before.replies
     else is_gone (stream_at before.state g).writer.owner
 
 -- TURNS
 
 -- what guest g does in a turn, from where it stood, and what the turn answers
-pub data Answers (sink g : ℕ) (before : Play) (made : List Step) (told : List Reply) (turn : ChainTurn) : Type 0 where
+pub data Answers (sink g : ℕ) (before : ChainPlay) (made : List Step) (told : List Reply) (turn : ChainTurn) : Type 0 where
   -- it has ended, and makes no step
-  NoStep : turn ≡ Idle → has_ended sink g before ≡ true → made ≡ [] → Answers sink g before made told turn
+  NoStep : turn ≡ Idle → guest_has_ended sink g before ≡ true → made ≡ [] → Answers sink g before made told turn
   -- it has an operation, and the one step is the event of that, which answers none
   NoReport : (handle : ℕ) → turn ≡ Idle → HasOperation g handle before.state →
       made ≡ steps.Event g handle ∷ [] → told ≡ replies.Event None ∷ [] → Answers sink g before made told turn
@@ -91,12 +91,12 @@ pub data Answers (sink g : ℕ) (before : Play) (made : List Step) (told : List 
       HasOperation g handle before.state → made ≡ steps.Event g handle ∷ later →
       told ≡ replies.Event (Some code) ∷ rest → Answers sink g before made told turn
   -- it has not ended and has no operation: it reads, writes or drops
-  Call : turn ≡ Moved → has_ended sink g before ≡ false → ((handle : ℕ) → ¬ HasOperation g handle before.state) →
+  Call : turn ≡ Moved → guest_has_ended sink g before ≡ false → ((handle : ℕ) → ¬ HasOperation g handle before.state) →
       HasCall made told → Answers sink g before made told turn
 
 -- a turn of guest g: its steps are reads, writes, drops, pokes, dumps and at most one event, of this guest
 -- alone, with the machine's replies, which lead from one state to the next
-pub record Turns (sink chunk g : ℕ) (turn : ChainTurn) (before after : Play) : Type 0 where
+pub record Turns (sink chunk g : ℕ) (turn : ChainTurn) (before after : ChainPlay) : Type 0 where
   pub made : List Step
   pub told : List Reply
   pub steps_are : after.steps ≡ before.steps ++ made

@@ -8,16 +8,16 @@ use Rattle.strm_chain.specs.declared.stages.Stage.TheVariants as stages
 use Rattle.strm_chain.specs.Asking.{stage_word, HasWord}
 
 -- a stage that begins with this front and goes on with a number of at most so much
-abbrev pub numbered : List ℕ → ℕ → (ℕ → Stage) → List ℕ → Option Stage → Option Stage
-numbered front most make word other =
+abbrev pub numbered_stage : List ℕ → ℕ → (ℕ → Stage) → List ℕ → Option Stage → Option Stage
+numbered_stage front most make word other =
     option_map_or (λ rest. option_map make (number_within 0 most rest)) (behind front word) other
 
 -- a stage that has a number
 unfoldable pub numbered_read : List ℕ → Option Stage
 numbered_read word =
-    numbered (codes "add:") 255 stages.Add word
-    (numbered (codes "without:") 255 stages.Without word
-    (numbered (codes "first:") 4294967295 stages.First word None))
+    numbered_stage (codes "add:") 255 stages.Add word
+    (numbered_stage (codes "without:") 255 stages.Without word
+    (numbered_stage (codes "first:") 4294967295 stages.First word None))
 
 -- the stage of a word
 unfoldable pub stage_read : List ℕ → Option Stage
@@ -27,6 +27,6 @@ stage_read word =
     else (if bytes_eq word (codes "sum") then Some stages.Sum else numbered_read word))
 
 -- words are those of stages
-pub record Spells (words : List (List ℕ)) (stages : List Stage) : Type 0 where
+pub record SpellsStages (words : List (List ℕ)) (stages : List Stage) : Type 0 where
   pub words_are : words ≡ map stage_word stages
   pub have : All HasWord stages

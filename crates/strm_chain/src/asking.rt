@@ -6,8 +6,8 @@ ghost use Rattle.std.specs.Prelude.{◌≡◌, ◌≤◌, ℕ, List, [], length,
 ghost use Rattle.strm_lines.specs.Reading.{number_within};
 ghost use Rattle.strm_chain.specs.declared.stages.Stage.{Stage as IsAStage};
 ghost use Rattle.strm_chain.specs.Faults.{is_twice};
-ghost use Rattle.strm_chain.specs.Asking.{Asks, IsAsked};
-ghost use Rattle.strm_chain.specs.WordReading.{numbered_read, stage_read, Spells};
+ghost use Rattle.strm_chain.specs.Asking.{Asks, IsChainAsked};
+ghost use Rattle.strm_chain.specs.WordReading.{numbered_read, stage_read, SpellsStages};
 
 use crate::chains::{MAX_STAGES, MAX_TWICE, count_twice};
 use crate::stages::Stage;
@@ -66,9 +66,9 @@ fn stage_of(word: &[u8]) -> Option<Stage>
 // The stages of these words, where each has one.
 fn stages_of(alloc: Global, words: &[String]) -> Result<Option<Vec<Stage>>, OutOfMemory>
     ensures some { IfOk result (λ o.
-        IfSome o (λ list. Spells (map string_bytes words.now) list.items)) }
+        IfSome o (λ list. SpellsStages (map string_bytes words.now) list.items)) }
     ensures none { result ≡ Ok None → (list : List IsAStage)
-        → ¬ Spells (map string_bytes words.now) list }
+        → ¬ SpellsStages (map string_bytes words.now) list }
 {
     let mut stages = Vec::new(alloc);
     for word in words {
@@ -86,12 +86,12 @@ fn stages_of(alloc: Global, words: &[String]) -> Result<Option<Vec<Stage>>, OutO
 // The stages of these words, where they make a chain.
 fn chain_of(alloc: Global, words: &[String]) -> Result<Option<Vec<Stage>>, OutOfMemory>
     ensures some { IfOk result (λ o.
-        IfSome o (λ list. Spells (map string_bytes words.now) list.items)) }
+        IfSome o (λ list. SpellsStages (map string_bytes words.now) list.items)) }
     ensures few { IfOk result (λ o. IfSome o (λ list. length list.items ≤ 8)) }
     ensures few_twice { IfOk result (λ o. IfSome o (λ list. count_by is_twice list.items ≤ 2)) }
     ensures none { result ≡ Ok None → (list : List IsAStage) → length list ≤ 8
         → count_by is_twice list ≤ 2 →
-        ¬ Spells (map string_bytes words.now) list }
+        ¬ SpellsStages (map string_bytes words.now) list }
 {
     if words.len() > MAX_STAGES {
         return Ok(None);
@@ -109,7 +109,7 @@ fn chain_of(alloc: Global, words: &[String]) -> Result<Option<Vec<Stage>>, OutOf
 pub(crate) fn plan_of(alloc: Global, words: &[String]) -> Result<Option<Plan>, OutOfMemory>
     ensures some { IfOk result (λ o.
         IfSome o (λ p. Asks (map string_bytes words.now) p.chunk p.stages.items)) }
-    ensures none { result ≡ Ok None → ¬ IsAsked (map string_bytes words.now) }
+    ensures none { result ≡ Ok None → ¬ IsChainAsked (map string_bytes words.now) }
 {
     let Some((first, rest)) = words.split_first() else {
         return Ok(None);

@@ -4,15 +4,15 @@
 
 ghost use Rattle.std.specs.Prelude.{◌≡◌, ◌≢◌, ◌≤◌, ◌<◌, ◌+◌, ◌-◌, ◌*◌, ◌%◌, ◌↔◌, ◌++◌, ◌∷◌, ℕ, List, [], length, map, true, false, Err, IfOk, IfSome, IfErr, IsErr, OnOk, count_by, None};
 ghost use Rattle.strm_machine.specs.Plays.{play, Ends};
-ghost use Rattle.strm_chain.specs.Playing.{start, IsPlayed, HasRoom};
+ghost use Rattle.strm_chain.specs.Playing.{chain_start, IsChainPlayed, HasRoomForSteps};
 ghost use Rattle.strm_chain.specs.Stages.{composed};
 ghost use Rattle.strm_chain.specs.Flowing.{Flows};
-ghost use Rattle.strm_chain.specs.Faults.{is_twice, fault_of, IsFault};
+ghost use Rattle.strm_chain.specs.Faults.{is_twice, fault_of, IsChainFault};
 ghost use Rattle.strm_chain.specs.Reporting.{is_told};
 ghost use Rattle.strm_chain.specs.Turning.{Turns};
-ghost use Rattle.strm_chain.specs.Running.{AreTurns, AreSomeTurns, IsRun};
-ghost use Rattle.strm_chain.specs.Keeping.{worker_at, sink_of, stages_of, input_of, IsJoined, IsGoing, GoesOn};
-ghost use Rattle.strm_chain.specs.Measuring.{most_of, to_do, IsStuck, Lowers};
+ghost use Rattle.strm_chain.specs.Running.{AreTurns, AreSomeTurns, IsChainRun};
+ghost use Rattle.strm_chain.specs.Keeping.{worker_at, sink_of, stages_of, input_of, IsJoined, IsGoing, ChainGoesOn};
+ghost use Rattle.strm_chain.specs.Measuring.{most_of, to_do, IsStuck, LowersMeasure};
 ghost use Rattle.strm_chain.specs.Turned.{Turned};
 
 use crate::lists::Bytes8;
@@ -148,7 +148,7 @@ fn fault(stages: &[Stage], input: usize) -> Option<ChainError>
 }
 
 impl Chain {
-    ghost use Rattle.strm_chain.specs.Keeping.{Begins};
+    ghost use Rattle.strm_chain.specs.Keeping.{BeginsChain};
 
     /// A chain in which no guest has had a turn.
     pub fn new(
@@ -158,8 +158,8 @@ impl Chain {
         chunk: u32,
     ) -> Result<Chain, ChainError>
         requires { (16 ≤ chunk) × (chunk ≤ 64) }
-        ensures begins { IfOk result (Begins stages.now input.items chunk) }
-        ensures err { IfErr result (IsFault stages.now (length input.items)) }
+        ensures begins { IfOk result (BeginsChain stages.now input.items chunk) }
+        ensures err { IfErr result (IsChainFault stages.now (length input.items)) }
         ensures ok { OnOk result (fault_of stages.now (length input.items) ≡ None) }
     {
         if let Some(error) = fault(stages, input.len()) {
@@ -185,7 +185,7 @@ impl Chain {
             self.old.play self.new.play) }
 
         // The chain goes on with the same stages and input, and no other guest is changed.
-        ensures goes_on { OnOk result (GoesOn self.old self.new) }
+        ensures goes_on { OnOk result (ChainGoesOn self.old self.new) }
         ensures others { (g : ℕ) → g ≢ who →
             worker_at self.new.workers g ≡ worker_at self.old.workers g }
         ensures many { length self.new.workers ≡ length self.old.workers }
@@ -194,10 +194,10 @@ impl Chain {
         // It is at most two steps. A play without room for these is answered as want of memory: since a turn that
         // is idle may be a step too, a caller who gives turns without end comes to that.
         ensures short { OnOk result (length self.new.play.steps ≤ length self.old.play.steps + 2) }
-        ensures full { ¬ HasRoom 2 self.old.play → result ≡ Err ChainError.OutOfMemory }
+        ensures full { ¬ HasRoomForSteps 2 self.old.play → result ≡ Err ChainError.OutOfMemory }
 
         // A turn that moved leaves less to do. One that was idle leaves all as it was, and its guest stuck.
-        ensures lowers { IfOk result (λ turn. Lowers who turn self.old.play.state self.old.workers
+        ensures lowers { IfOk result (λ turn. LowersMeasure who turn self.old.play.state self.old.workers
             self.new.play.state self.new.workers) }
         ensures runs { OnOk result (self.new.failed ≡ false) }
         ensures failed { IsErr result ↔ (self.new.failed ≡ true) }
@@ -215,16 +215,16 @@ impl Chain {
     fn turn_with_room(&mut self, who: u32) -> Result<ChainTurn, ChainError>
         requires there { who < length self.old.workers }
         requires runs { self.old.failed ≡ false }
-        requires room { HasRoom 2 self.old.play }
+        requires room { HasRoomForSteps 2 self.old.play }
         ensures turns { IfOk result (λ turn.
             Turns (length self.old.workers - 1) self.old.chunk who turn
             self.old.play self.new.play) }
-        ensures goes_on { OnOk result (GoesOn self.old self.new) }
+        ensures goes_on { OnOk result (ChainGoesOn self.old self.new) }
         ensures others { (g : ℕ) → g ≢ who →
             worker_at self.new.workers g ≡ worker_at self.old.workers g }
         ensures many { length self.new.workers ≡ length self.old.workers }
         ensures error { IfErr result (λ error. error ≡ ChainError.OutOfMemory) }
-        ensures lowers { IfOk result (λ turn. Lowers who turn self.old.play.state self.old.workers
+        ensures lowers { IfOk result (λ turn. LowersMeasure who turn self.old.play.state self.old.workers
             self.new.play.state self.new.workers) }
         ensures short { OnOk result (length self.new.play.steps ≤ length self.old.play.steps + 2) }
         ensures runs { OnOk result (self.new.failed ≡ false) }
@@ -278,7 +278,7 @@ impl Chain {
         ensures steps { IfOk result (λ end. end.steps ≡ self.play.steps) }
         ensures replies { IfOk result (λ end. end.replies ≡ self.play.replies) }
         ensures plays { IfOk result (λ end.
-            play [] start end.steps ≡ Ends end.replies self.play.state) }
+            play [] chain_start end.steps ≡ Ends end.replies self.play.state) }
 
         // It has ended exactly where the last report of the sink says that there is no more.
         ensures ended { IfOk result (λ end.
@@ -323,7 +323,7 @@ fn end_of(player: Player, workers: Vec<Worker>) -> Result<ChainEnd, ChainError>
     requires going { IsGoing player workers.items }
     ensures steps { IfOk result (λ end. end.steps ≡ player.steps) }
     ensures replies { IfOk result (λ end. end.replies ≡ player.replies) }
-    ensures plays { IfOk result (λ end. play [] start end.steps ≡ Ends end.replies player.state) }
+    ensures plays { IfOk result (λ end. play [] chain_start end.steps ≡ Ends end.replies player.state) }
     ensures ended { IfOk result (λ end.
         end.ended ≡ is_told (length workers.items - 1) end.steps end.replies) }
     ensures flows { IfOk result (λ end.
@@ -358,14 +358,14 @@ fn turn_at(
     requires chunk { (16 ≤ chunk) × (chunk ≤ 64) }
     requires there { who < length workers.old }
     requires joined { IsJoined player.old workers.old }
-    requires room { HasRoom 2 player.old }
+    requires room { HasRoomForSteps 2 player.old }
     ensures turned { IfOk result (λ turn.
         Turned who chunk (worker_at workers.old who) player.old turn
         (worker_at workers.new who) player.new) }
     ensures others { (g : ℕ) → g ≢ who → worker_at workers.new g ≡ worker_at workers.old g }
     ensures many { length workers.new ≡ length workers.old }
-    ensures before { IsPlayed player.old }
-    ensures after { IsPlayed player.new }
+    ensures before { IsChainPlayed player.old }
+    ensures after { IsChainPlayed player.new }
 {
     player.played();
     let turn = take_turn(player, &mut workers[who as usize], who, chunk);
@@ -384,14 +384,14 @@ fn turn_in(
     requires there { who < length workers.old }
     requires some { 2 ≤ length workers.old }
     requires going { IsGoing player.old workers.old }
-    requires room { HasRoom 2 player.old }
+    requires room { HasRoomForSteps 2 player.old }
     ensures going { OnOk result (IsGoing player.new workers.new) }
     ensures stages { OnOk result (stages_of workers.new ≡ stages_of workers.old) }
     ensures input { OnOk result (input_of workers.new ≡ input_of workers.old) }
     ensures turns { IfOk result (λ turn.
         Turns (length workers.old - 1) chunk who turn player.old player.new) }
     ensures lowers { IfOk result (λ turn.
-        Lowers who turn player.old.state workers.old player.new.state workers.new) }
+        LowersMeasure who turn player.old.state workers.old player.new.state workers.new) }
     ensures short { OnOk result (length player.new.steps ≤ length player.old.steps + 2) }
     ensures others { (g : ℕ) → g ≢ who → worker_at workers.new g ≡ worker_at workers.old g }
     ensures many { length workers.new ≡ length workers.old }
@@ -405,7 +405,7 @@ fn take_turns(chain: &mut Chain, schedule: &[u32]) -> Result<(), ChainError>
     ensures error { IfErr result (λ error. error ≡ ChainError.OutOfMemory) }
     ensures turns { OnOk result (AreTurns (length chain.old.workers - 1) chain.old.chunk
         (map (λ s. s % length chain.old.workers) schedule.now) chain.old.play chain.new.play) }
-    ensures goes_on { OnOk result (GoesOn chain.old chain.new) }
+    ensures goes_on { OnOk result (ChainGoesOn chain.old chain.new) }
     ensures runs { OnOk result (chain.new.failed ≡ false) }
 {
     for who in schedule {
@@ -420,11 +420,11 @@ fn take_round(chain: &mut Chain) -> Result<(), ChainError>
     requires runs { chain.old.failed ≡ false }
     requires untold { is_told (length chain.old.workers - 1)
         chain.old.play.steps chain.old.play.replies ≡ false }
-    requires room { HasRoom 20 chain.old.play }
+    requires room { HasRoomForSteps 20 chain.old.play }
     ensures error { IfErr result (λ error. error ≡ ChainError.OutOfMemory) }
     ensures turns { OnOk result (AreSomeTurns (length chain.old.workers - 1) chain.old.chunk
         chain.old.play chain.new.play) }
-    ensures goes_on { OnOk result (GoesOn chain.old chain.new) }
+    ensures goes_on { OnOk result (ChainGoesOn chain.old chain.new) }
     ensures runs { OnOk result (chain.new.failed ≡ false) }
     ensures less { OnOk result (to_do chain.new.play.state chain.new.workers
         < to_do chain.old.play.state chain.old.workers) }
@@ -449,7 +449,7 @@ pub fn chain_run(
 
     // The steps are those that make the chain and then those of these guests' turns, in order, and the
     // replies those of the machine's play.
-    ensures runs { IfOk result (λ end. IsRun (length stages.now) chunk
+    ensures runs { IfOk result (λ end. IsChainRun (length stages.now) chunk
         (map (λ s. s % (length stages.now + 2)) schedule.now) end.steps end.replies) }
 
     // It has ended exactly where the last report of the sink says that there is no more.
@@ -466,7 +466,7 @@ pub fn chain_run(
 
     // A run of which the laws speak: where its play has no room for a turn of the schedule, memory is wanting.
     ensures within { IfOk result (λ end. length end.steps ≤ 4294967295) }
-    ensures err { IfErr result (IsFault stages.now (length input.items)) }
+    ensures err { IfErr result (IsChainFault stages.now (length input.items)) }
 {
     let mut chain = Chain::new(alloc, stages, input, chunk)?;
     take_turns(&mut chain, schedule)?;
@@ -485,7 +485,7 @@ pub fn chain_all(
     // The steps are those that make the chain and then those of guests' turns, and the replies those of the
     // machine's play.
     ensures runs { IfOk result (λ end. (whos : List ℕ)
-        × IsRun (length stages.now) chunk whos end.steps end.replies) }
+        × IsChainRun (length stages.now) chunk whos end.steps end.replies) }
     ensures flows { IfOk result (λ end. Flows stages.now input.items end.output end.steps) }
 
     // It ends: by its last report the sink was told that there is no more. The output is what the stages make
@@ -499,7 +499,7 @@ pub fn chain_all(
     // than a play may have: so no count of steps ends it.
     ensures few { IfOk result (λ end. length end.steps
         ≤ 800 * most_of stages.now (length input.items) + 819) }
-    ensures err { IfErr result (IsFault stages.now (length input.items)) }
+    ensures err { IfErr result (IsChainFault stages.now (length input.items)) }
 {
     let mut chain = Chain::new(alloc, stages, input, chunk)?;
     while !chain.ended() {

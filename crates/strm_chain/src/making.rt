@@ -3,7 +3,7 @@
 //! Meaning: `Making.antt`. Ours.
 
 ghost use Rattle.std.specs.Prelude.{◌≡◌, ◌≤◌, ◌<◌, ◌+◌, ◌++◌, ◌∷◌, [], ℕ, List, length, slice_index_or, IfOk, OnOk, Some};
-ghost use Rattle.strm_chain.specs.Playing.{IsPlayed, HasRoom};
+ghost use Rattle.strm_chain.specs.Playing.{IsChainPlayed, HasRoomForSteps};
 ghost use Rattle.strm_chain.specs.Keeping.{new_worker, IsGoing};
 ghost use Rattle.strm_chain.specs.declared.stages.Stage.{Stage};
 ghost use Rattle.strm_chain.specs.declared.stages.Stage.TheVariants.{Copy};
@@ -30,7 +30,7 @@ pub(crate) fn make_chain(
     requires { length stages.now ≤ 8 }
     ensures ready { IfOk result (λ made. IsReady stages.now input.items made.0 made.1.items) }
     ensures going { IfOk result (λ made. IsGoing made.0 made.1.items) }
-    ensures played { IfOk result (λ made. IsPlayed made.0) }
+    ensures played { IfOk result (λ made. IsChainPlayed made.0) }
 {
     let mut player = Player::new(alloc);
     add_guests(&mut player, stages.len() as u32 + 2)?;
@@ -53,7 +53,7 @@ fn add_source(
 ) -> Result<u32, OutOfMemory>
     requires none { workers.old.items ≡ [] }
     requires made { (guests : ℕ) × (1 < guests) × AreMade guests 0 player.old }
-    requires room { HasRoom 1 player.old }
+    requires room { HasRoomForSteps 1 player.old }
     ensures { (stages : List Stage) (guests : ℕ) → AreMade guests 0 player.old
         → IfOk result (λ read.
         AreJoined input.items 0 read stages player.new workers.new.items
@@ -76,7 +76,7 @@ fn add_stage(
     requires few { length workers.old.items ≤ 8 }
     requires made { (guests : ℕ) × (length workers.old.items + 1 < guests)
         × AreMade guests (length workers.old.items) player.old }
-    requires room { HasRoom 1 player.old }
+    requires room { HasRoomForSteps 1 player.old }
     ensures { (input : List ℕ) (stages : List Stage) (guests i : ℕ) → i < length stages
         → stage ≡ slice_index_or stages i Copy
         → AreJoined input i read stages player.old workers.old.items
@@ -104,7 +104,7 @@ fn add_guests(player: &mut Player, count: u32) -> Result<(), OutOfMemory>
 // A guest more; the answer is its number.
 fn add_guest(player: &mut Player) -> Result<u32, OutOfMemory>
     requires made { (n : ℕ) × (n ≤ 9) × AreMade n 0 player.old }
-    requires room { HasRoom 1 player.old }
+    requires room { HasRoomForSteps 1 player.old }
     ensures { (n : ℕ) → AreMade n 0 player.old → OnOk result (AreMade (n + 1) 0 player.new) }
 {
     player.played();
@@ -115,7 +115,7 @@ fn add_guest(player: &mut Player) -> Result<u32, OutOfMemory>
 fn make_pair(player: &mut Player, writer: u32) -> Result<Pair, OutOfMemory>
     requires few { writer ≤ 8 }
     requires made { (guests : ℕ) × (writer + 1 < guests) × AreMade guests writer player.old }
-    requires room { HasRoom 1 player.old }
+    requires room { HasRoomForSteps 1 player.old }
     ensures { IfOk result (λ pair. MakesPair writer player.old pair player.new) }
 {
     player.played();

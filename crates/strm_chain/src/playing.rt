@@ -5,7 +5,7 @@
 ghost use Rattle.std.specs.Prelude.{◌≡◌, ◌≤◌, ◌<◌, ◌∷◌, ◌++◌, ◌-◌, [], true, false, OnOk, IfOk, length, take};
 ghost use Rattle.strm_machine.specs.Acts.{act_of};
 ghost use Rattle.strm_machine.specs.State.{memory_in, stream_at};
-ghost use Rattle.strm_laws.specs.Laws.{HasBytes};
+ghost use Rattle.strm_laws.specs.Laws.{StepHasBytes};
 ghost use Rattle.strm_machine.specs.Reactions.{react, goes};
 ghost use Rattle.strm_machine.specs.declared.replies.Reply.TheVariants as replies;
 ghost use Rattle.strm_machine.specs.declared.steps.Step.TheVariants as steps;
@@ -65,9 +65,9 @@ impl Model for Player {
     ghost use Rattle.std.specs.Coded.{codes};
     ghost use Rattle.strm_error_contexts.specs.Contexts.{contexts_code};
     ghost use Rattle.strm_waitable_sets.specs.Sets.{sets_code};
-    ghost use Rattle.strm_chain.specs.Playing.{Play, Follows};
+    ghost use Rattle.strm_chain.specs.Playing.{ChainPlay, Follows};
 
-    ghost Value = { Play };
+    ghost Value = { ChainPlay };
 
     ghost coded = { Prim.hlevel (codes, sets_code, contexts_code) };
 
@@ -77,7 +77,7 @@ impl Model for Player {
 }
 
 impl Player {
-    ghost use Rattle.strm_chain.specs.Playing.{no_play, Adds, IsPlayed, HasRoom};
+    ghost use Rattle.strm_chain.specs.Playing.{no_play, Adds, IsChainPlayed, HasRoomForSteps};
 
     // A store that was played no step.
     pub(crate) fn new(alloc: Global) -> Player
@@ -94,7 +94,7 @@ impl Player {
     // A guest more; the answer is its number.
     pub(crate) fn add_guest(&mut self, size: u32) -> Result<u32, OutOfMemory>
         requires done { IsDone self.old.state (steps.Guest size) }
-        requires room { HasRoom 1 self.old }
+        requires room { HasRoomForSteps 1 self.old }
         ensures { IfOk result (λ number.
             Adds self.old self.new (steps.Guest size) (replies.Number number)) }
     {
@@ -117,7 +117,7 @@ impl Player {
     // A stream of bytes from a guest to another.
     pub(crate) fn new_between(&mut self, writer: u32, reader: u32) -> Result<Pair, OutOfMemory>
         requires done { IsDone self.old.state (steps.Between writer reader bytes_type) }
-        requires room { HasRoom 1 self.old }
+        requires room { HasRoomForSteps 1 self.old }
         ensures { IfOk result (λ pair.
             Adds self.old self.new (steps.Between writer reader bytes_type) (replies.Pair pair)) }
     {
@@ -152,7 +152,7 @@ impl Player {
         count: u32,
     ) -> Result<ReturnCode, OutOfMemory>
         requires done { IsDone self.old.state (operation side guest handle address count) }
-        requires room { HasRoom 1 self.old }
+        requires room { HasRoomForSteps 1 self.old }
         ensures { IfOk result (λ code. Adds self.old self.new
             (operation side guest handle address count) (replies.Code code)) }
     {
@@ -177,7 +177,7 @@ impl Player {
         handle: u32,
     ) -> Result<Option<ReturnCode>, OutOfMemory>
         requires done { IsDone self.old.state (steps.Event guest handle) }
-        requires room { HasRoom 1 self.old }
+        requires room { HasRoomForSteps 1 self.old }
         ensures { IfOk result (λ code.
             Adds self.old self.new (steps.Event guest handle) (replies.Event code)) }
     {
@@ -203,7 +203,7 @@ impl Player {
         bytes: &Chunk,
     ) -> Result<(), OutOfMemory>
         requires done { IsDone self.old.state (steps.Poke guest address bytes.now) }
-        requires room { HasRoom 1 self.old }
+        requires room { HasRoomForSteps 1 self.old }
         ensures { OnOk result (Adds self.old self.new
             (steps.Poke guest address bytes.now) replies.Done) }
     {
@@ -230,7 +230,7 @@ impl Player {
     pub(crate) fn dump(&mut self, guest: u32, address: u32, len: u32) -> Result<Chunk, OutOfMemory>
         requires few { len ≤ 64 }
         requires done { IsDone self.old.state (steps.Dump guest address len) }
-        requires room { HasRoom 1 self.old }
+        requires room { HasRoomForSteps 1 self.old }
         ensures { IfOk result (λ bytes.
             Adds self.old self.new (steps.Dump guest address len) (replies.Bytes bytes)) }
     {
@@ -254,7 +254,7 @@ impl Player {
     // A write end is dropped.
     pub(crate) fn drop_writable(&mut self, guest: u32, handle: u32) -> Result<(), OutOfMemory>
         requires done { IsDone self.old.state (steps.DropWrite guest bytes_type handle) }
-        requires room { HasRoom 1 self.old }
+        requires room { HasRoomForSteps 1 self.old }
         ensures { OnOk result (Adds self.old self.new
             (steps.DropWrite guest bytes_type handle) replies.Done) }
     {
@@ -277,8 +277,8 @@ impl Player {
 
     // Whether there is room for the steps of a turn.
     pub(crate) fn has_room(&self) -> bool
-        ensures room { result ≡ true → HasRoom 2 self.now }
-        ensures full { result ≡ false → ¬ HasRoom 2 self.now }
+        ensures room { result ≡ true → HasRoomForSteps 2 self.now }
+        ensures full { result ≡ false → ¬ HasRoomForSteps 2 self.now }
     {
         self.steps.as_slice().len() <= MAX_STEPS - TURN_STEPS
     }
@@ -309,7 +309,7 @@ impl Player {
     // What was played led to the state. It does nothing.
     #[inline(always)]
     pub(crate) fn played(&self)
-        ensures { IsPlayed self.now }
+        ensures { IsChainPlayed self.now }
     {
         let _ = &self.store;
     }
@@ -318,7 +318,7 @@ impl Player {
     pub(crate) fn finish(self) -> (Steps, Replies)
         ensures steps { result.0 ≡ self.steps }
         ensures replies { result.1 ≡ self.replies }
-        ensures follows { IsPlayed self }
+        ensures follows { IsChainPlayed self }
     {
         (self.steps, self.replies)
     }
@@ -337,7 +337,7 @@ fn forget(alloc: Global, store: &mut Store, steps: &mut Steps, replies: &mut Rep
 // What a step puts into a memory is bytes. It does nothing.
 #[inline(always)]
 fn sound(step: &Step)
-    ensures { HasBytes step.now }
+    ensures { StepHasBytes step.now }
 {
     match step {
         Step::Poke { bytes, .. } | Step::Feed { bytes, .. } => bytes.sound(),

@@ -5,8 +5,8 @@
 ghost use Rattle.std.specs.Prelude.{◌≡◌, ◌≢◌, ◌≤◌, ◌+◌, ◌⊎◌, ℕ, List, [], length, map, IfOk, Some, string_bytes};
 ghost use Rattle.std.specs.Io.KnownBytes.{Appends, Consumes};
 ghost use Rattle.strm_input_output.specs.Faults.{Rose, TakesPart};
-ghost use Rattle.strm_chain.specs.Asking.{Asks, IsAsked};
-ghost use Rattle.strm_chain.specs.Serving.{IsTooLong, IsPipedBy, IsOutput, IsStatus, IsFaultless, usage_text};
+ghost use Rattle.strm_chain.specs.Asking.{Asks, IsChainAsked};
+ghost use Rattle.strm_chain.specs.Serving.{IsChainTooLong, IsPipedBy, IsChainOutput, IsChainStatus, IsChainFaultless, chain_usage_text};
 
 use crate::asking::{Plan, plan_of};
 use crate::chains::{ChainError, MAX_INPUT, chain_all};
@@ -50,32 +50,32 @@ pub fn chain_serve<S: Source, K: Sink>(
     source: &mut S,
     sink: &mut K,
 ) -> u8
-    ensures known { IsStatus result }
+    ensures known { IsChainStatus result }
     ensures told { result ≢ WRITE_FAULT → result ≢ OUT_OF_MEMORY → (text : List ℕ)
-        × IsOutput (map string_bytes words.now.items) (S.left source.old) (S.left source.new)
+        × IsChainOutput (map string_bytes words.now.items) (S.left source.old) (S.left source.new)
         (S.faults source.old) (S.faults source.new) result text
         × Appends (K.taken sink.old) (K.taken sink.new) text }
     ensures part { result ≡ WRITE_FAULT → (status : ℕ) × (text : List ℕ)
-        × IsOutput (map string_bytes words.now.items) (S.left source.old) (S.left source.new)
+        × IsChainOutput (map string_bytes words.now.items) (S.left source.old) (S.left source.new)
         (S.faults source.old) (S.faults source.new) status text
         × TakesPart (K.taken sink.old) (K.taken sink.new) text }
     ensures write_fault { result ≡ WRITE_FAULT → Rose (K.faults sink.old) (K.faults sink.new) }
     ensures nothing { result ≡ OUT_OF_MEMORY → sink.new ≡ sink.old }
     ensures read { (front : List ℕ) × Consumes (S.left source.old) (S.left source.new) front
         × (length front ≤ MAX_INPUT + 1) }
-    ensures unread { ¬ IsAsked (map string_bytes words.now.items) → source.new ≡ source.old }
+    ensures unread { ¬ IsChainAsked (map string_bytes words.now.items) → source.new ≡ source.old }
 
     // What the stages make of an input within the limit is written, but for faults and want of memory;
     // else it is told that the input is too long, or how to call it.
     ensures complete { (input : List ℕ) →
-        IsFaultless (map string_bytes words.now.items) (S.left source.old) input
+        IsChainFaultless (map string_bytes words.now.items) (S.left source.old) input
         (S.faults source.old) (S.faults source.new) (K.faults sink.old) (K.faults sink.new) →
-        ¬ IsTooLong input → (result ≡ DONE) ⊎ (result ≡ OUT_OF_MEMORY) }
+        ¬ IsChainTooLong input → (result ≡ DONE) ⊎ (result ≡ OUT_OF_MEMORY) }
     ensures too_long { (input : List ℕ) →
-        IsFaultless (map string_bytes words.now.items) (S.left source.old) input
+        IsChainFaultless (map string_bytes words.now.items) (S.left source.old) input
         (S.faults source.old) (S.faults source.new) (K.faults sink.old) (K.faults sink.new) →
-        IsTooLong input → (result ≡ TOO_LONG) ⊎ (result ≡ OUT_OF_MEMORY) }
-    ensures usage { ¬ IsAsked (map string_bytes words.now.items) →
+        IsChainTooLong input → (result ≡ TOO_LONG) ⊎ (result ≡ OUT_OF_MEMORY) }
+    ensures usage { ¬ IsChainAsked (map string_bytes words.now.items) →
         ¬ Rose (K.faults sink.old) (K.faults sink.new) →
         (result ≡ USAGE) ⊎ (result ≡ OUT_OF_MEMORY) }
 {
@@ -94,11 +94,11 @@ fn answer_words<S: Source>(
     words: &[String],
     source: &mut S,
 ) -> Result<Output, OutOfMemory>
-    ensures told { IfOk result (λ a. IsOutput (map string_bytes words.now) (S.left source.old) (S.left source.new)
+    ensures told { IfOk result (λ a. IsChainOutput (map string_bytes words.now) (S.left source.old) (S.left source.new)
         (S.faults source.old) (S.faults source.new) a.status a.bytes) }
     ensures read { (front : List ℕ) × Consumes (S.left source.old) (S.left source.new) front
         × (length front ≤ MAX_INPUT + 1) }
-    ensures unread { ¬ IsAsked (map string_bytes words.now) → source.new ≡ source.old }
+    ensures unread { ¬ IsChainAsked (map string_bytes words.now) → source.new ≡ source.old }
 {
     match plan_of(alloc, words)? {
         Some(plan) => answer_plan(alloc, &plan, source),
@@ -119,7 +119,7 @@ fn fixed(alloc: Global, status: u8, text: &[u8]) -> Result<Output, OutOfMemory>
 fn answer_plan<S: Source>(alloc: Global, plan: &Plan, source: &mut S) -> Result<Output, OutOfMemory>
     requires chunk { (16 ≤ plan.now.chunk) × (plan.now.chunk ≤ 64) }
     ensures told { (words : List (List ℕ)) → Asks words plan.now.chunk plan.now.stages.items →
-        IfOk result (λ a. IsOutput words (S.left source.old) (S.left source.new)
+        IfOk result (λ a. IsChainOutput words (S.left source.old) (S.left source.new)
         (S.faults source.old) (S.faults source.new) a.status a.bytes) }
     ensures read { (front : List ℕ) × Consumes (S.left source.old) (S.left source.new) front
         × (length front ≤ MAX_INPUT + 1) }

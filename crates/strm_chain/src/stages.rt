@@ -3,7 +3,7 @@
 //! Meaning: `Stages.antt`. Ours.
 
 ghost use Rattle.std.specs.Prelude.{◌≡◌, ◌++◌, ◌∷◌, [], OnOk, OnErr, IfOk};
-ghost use Rattle.strm_chain.specs.Stages.{room, begun, put_out, work_after, done, left};
+ghost use Rattle.strm_chain.specs.Stages.{stage_room, work_begun, put_out, work_after, work_done, work_left};
 
 use crate::lists::Bytes8;
 use strm_codes::counts::OutOfMemory;
@@ -38,7 +38,7 @@ pub struct Work {
 impl Stage {
     // How many bytes it lets through before it has taken any.
     fn room(self) -> u32
-        ensures { result ≡ room self }
+        ensures { result ≡ stage_room self }
     {
         match self {
             Stage::First(count) => count,
@@ -50,7 +50,7 @@ impl Stage {
 impl Work {
     /// A stage that has taken nothing.
     pub fn of(stage: Stage) -> Work
-        ensures { result ≡ begun stage }
+        ensures { result ≡ work_begun stage }
     {
         Work {
             stage,
@@ -61,8 +61,8 @@ impl Work {
 
     /// Takes these bytes: puts what the stage makes of them behind `out`.
     pub fn go_on(&mut self, bytes: &[u8], out: &mut Bytes8) -> Result<(), OutOfMemory>
-        ensures work { OnOk result (self.new ≡ left self.old bytes.now) }
-        ensures out { OnOk result (out.new ≡ out.old ++ done self.old bytes.now) }
+        ensures work { OnOk result (self.new ≡ work_left self.old bytes.now) }
+        ensures out { OnOk result (out.new ≡ out.old ++ work_done self.old bytes.now) }
     {
         match self.stage {
             Stage::Copy => {
@@ -75,8 +75,8 @@ impl Work {
 
     // The same byte by byte.
     fn go_on_by_bytes(&mut self, bytes: &[u8], out: &mut Bytes8) -> Result<(), OutOfMemory>
-        ensures work { OnOk result (self.new ≡ left self.old bytes.now) }
-        ensures out { OnOk result (out.new ≡ out.old ++ done self.old bytes.now) }
+        ensures work { OnOk result (self.new ≡ work_left self.old bytes.now) }
+        ensures out { OnOk result (out.new ≡ out.old ++ work_done self.old bytes.now) }
     {
         for byte in bytes {
             self.put(*byte, out)?;
@@ -87,7 +87,7 @@ impl Work {
 
     // These bytes were taken.
     fn take_all(&mut self, bytes: &[u8])
-        ensures { self.new ≡ left self.old bytes.now }
+        ensures { self.new ≡ work_left self.old bytes.now }
     {
         for byte in bytes {
             self.take(*byte);

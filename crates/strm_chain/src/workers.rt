@@ -8,9 +8,9 @@ ghost use Rattle.std.specs.Prelude.{◌≡◌, ◌≤◌, ◌+◌, ◌++◌, ◌
 ghost use Rattle.strm_codes.specs.Codes.{count_of};
 ghost use Rattle.strm_codes.specs.declared.codes.ReturnCode.TheVariants as codes;
 ghost use Rattle.strm_machine.specs.declared.steps.Step.TheVariants as steps;
-ghost use Rattle.strm_chain.specs.Playing.{HasRoom, IsDone};
+ghost use Rattle.strm_chain.specs.Playing.{HasRoomForSteps, IsDone};
 ghost use Rattle.strm_chain.specs.Keeping.{IsGuest};
-ghost use Rattle.strm_chain.specs.Turning.{IsCount};
+ghost use Rattle.strm_chain.specs.Turning.{IsChunkCount};
 ghost use Rattle.strm_chain.specs.Turned.{Turned, EndsRead, TakesIn, HandsOver};
 ghost use Rattle.strm_chain.specs.declared.workers.Doing.TheVariants as doing;
 
@@ -77,7 +77,7 @@ pub(crate) fn take_turn(
 ) -> Result<ChainTurn, OutOfMemory>
     requires chunk { (16 ≤ chunk) × (chunk ≤ 64) }
     requires guest { IsGuest guest worker.old player.old }
-    requires room { HasRoom 2 player.old }
+    requires room { HasRoomForSteps 2 player.old }
     ensures { IfOk result (λ turn.
         Turned guest chunk worker.old player.old turn worker.new player.new) }
 {
@@ -97,7 +97,7 @@ pub(crate) fn take_turn(
 #[inline(always)]
 fn next_bytes(worker: &Worker, chunk: u32) -> Option<Chunk>
     requires { (16 ≤ chunk) × (chunk ≤ 64) }
-    ensures count { IfSome result (λ bytes. IsCount chunk (length bytes)) }
+    ensures count { IfSome result (λ bytes. IsChunkCount chunk (length bytes)) }
     ensures value { IfSome result (λ bytes.
         bytes ≡ take chunk (drop worker.now.sent worker.now.made)) }
     ensures none { result ≡ None → worker.now.write ≡ None
@@ -121,7 +121,7 @@ fn hear_of_read(
 ) -> Result<ChainTurn, OutOfMemory>
     requires guest { IsGuest guest worker.old player.old }
     requires waits { worker.old.doing ≡ doing.Reading }
-    requires room { HasRoom 2 player.old }
+    requires room { HasRoomForSteps 2 player.old }
     ensures { (chunk : ℕ) → IfOk result (λ turn.
         Turned guest chunk worker.old player.old turn worker.new player.new) }
 {
@@ -146,7 +146,7 @@ fn hear_of_write(
 ) -> Result<ChainTurn, OutOfMemory>
     requires guest { IsGuest guest worker.old player.old }
     requires waits { worker.old.doing ≡ doing.Writing }
-    requires room { HasRoom 2 player.old }
+    requires room { HasRoomForSteps 2 player.old }
     ensures { (chunk : ℕ) → IfOk result (λ turn.
         Turned guest chunk worker.old player.old turn worker.new player.new) }
 {
@@ -173,8 +173,8 @@ fn begin_read(
     requires guest { IsGuest guest worker.old player.old }
     requires rests { worker.old.doing ≡ doing.Nothing }
     requires unclosed { worker.old.closed ≡ false }
-    requires some { IsCount 64 chunk }
-    requires room { HasRoom 2 player.old }
+    requires some { IsChunkCount 64 chunk }
+    requires room { HasRoomForSteps 2 player.old }
     ensures { IfOk result (λ turn.
         Turned guest chunk worker.old player.old turn worker.new player.new) }
 {
@@ -207,10 +207,10 @@ fn begin_write(
     requires guest { IsGuest guest worker.old player.old }
     requires rests { worker.old.doing ≡ doing.Nothing }
     requires most { chunk ≤ 64 }
-    requires some { IsCount chunk (length bytes.now) }
+    requires some { IsChunkCount chunk (length bytes.now) }
     requires next { bytes.now ≡ take chunk (drop worker.old.sent worker.old.made) }
     requires writes { IsSome worker.old.write }
-    requires room { HasRoom 2 player.old }
+    requires room { HasRoomForSteps 2 player.old }
     ensures { IfOk result (λ turn.
         Turned guest chunk worker.old player.old turn worker.new player.new) }
 {
@@ -237,7 +237,7 @@ fn end(player: &mut Player, worker: &mut Worker, guest: u32) -> Result<ChainTurn
     requires rests { worker.old.doing ≡ doing.Nothing }
     requires closed { worker.old.closed ≡ true }
     requires all { worker.old.write ≡ None ⊎ (length worker.old.made ≤ worker.old.sent) }
-    requires room { HasRoom 2 player.old }
+    requires room { HasRoomForSteps 2 player.old }
     ensures { (chunk : ℕ) → IfOk result (λ turn.
         Turned guest chunk worker.old player.old turn worker.new player.new) }
 {
@@ -261,7 +261,7 @@ fn take_read(
     requires ends { EndsRead code }
     requires few { count_of code ≤ 64 }
     requires done { IsDone player.old.state (steps.Dump guest 0 (count_of code)) }
-    requires room { HasRoom 1 player.old }
+    requires room { HasRoomForSteps 1 player.old }
     ensures { OnOk result (TakesIn guest worker.old code player.old worker.new player.new) }
 {
     let (count, dropped) = match code {

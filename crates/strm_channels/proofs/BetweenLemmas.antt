@@ -9,9 +9,9 @@ use Rattle.strm_memory.specs.declared.copies.BadItem.{BadItem}
 use Rattle.strm_machine.specs.State.{memory_in, with_memory}
 use Rattle.strm_machine.proofs.StateLemmas.{with_memory-same}
 use Rattle.strm_memory.specs.Linear.{LinearMemory, with_contents}
-use Rattle.strm_channels.specs.Guests.{seen, linear_in, with_linear, Receives}
+use Rattle.strm_channels.specs.Guests.{guests_of, linear_in, with_linear, Receives}
 use Rattle.strm_channels.specs.declared.guests.Guest.{Guest}
-use Rattle.strm_channels.proofs.GuestLemmas.{seen-with_linear, linear_in-seen, memory_in-seen}
+use Rattle.strm_channels.proofs.GuestLemmas.{guests_of-with_linear, linear_in-seen, memory_in-seen}
 
 module _ (payload : Payload) (count source target : ℕ) (w x : Guest) (filled : LinearMemory) (result : Result (Unit {0}) BadItem) where
   -- the memory of x has the items of that of w
@@ -35,33 +35,33 @@ some_map None f h = h
 some_map (Some x) f h = f x h
 
 module _ (payload : Payload) (count source target : ℕ) (guests : List Guest) (from to : ℕ) (w x : Guest) (filled : LinearMemory) (writer : Stands guests from w) (reader : Stands guests to x) where
-  pub receives : (result : Result (Unit {0}) BadItem) → Fills payload count source target w x filled result → Receives payload count (seen guests) (seen (set guests to (record x { memory = filled }))) from source to target result
+  pub receives : (result : Result (Unit {0}) BadItem) → Fills payload count source target w x filled result → Receives payload count (guests_of guests) (guests_of (set guests to (record x { memory = filled }))) from source to target result
   receives result k = record {
     ok = on_ok result
-        (λ h. subst (λ m. IsSomeAnd (items_at (scalars_of payload) m source count) (λ xs. seen (set guests to (record x { memory = filled })) ≡ with_memory (seen guests) to (stored_at (scalars_of payload) (memory_in (seen guests) to) target xs))) (sym read)
+        (λ h. subst (λ m. IsSomeAnd (items_at (scalars_of payload) m source count) (λ xs. guests_of (set guests to (record x { memory = filled })) ≡ with_memory (guests_of guests) to (stored_at (scalars_of payload) (memory_in (guests_of guests) to) target xs))) (sym read)
         (some_map (items_at (scalars_of payload) w.memory.bytes source count)
-        (λ xs e. now ∙ ap (with_linear (seen guests) to) (e ∙ ap (λ (m : LinearMemory). with_contents m (stored_at (scalars_of payload) m.bytes target xs)) (sym was))) h))
+        (λ xs e. now ∙ ap (with_linear (guests_of guests) to) (e ∙ ap (λ (m : LinearMemory). with_contents m (stored_at (scalars_of payload) m.bytes target xs)) (sym was))) h))
         k.ok;
     bad = rw read k.bad;
     err = err_of result k.err;
   }
     where
-      read : memory_in (seen guests) from ≡ w.memory.bytes
+      read : memory_in (guests_of guests) from ≡ w.memory.bytes
       read = memory_in-seen guests from w writer.there writer.is
 
-      was : linear_in (seen guests) to ≡ x.memory
+      was : linear_in (guests_of guests) to ≡ x.memory
       was = linear_in-seen guests to x reader.there reader.is
 
-      now : seen (set guests to (record x { memory = filled })) ≡ with_linear (seen guests) to filled
-      now = seen-with_linear guests to x filled reader.there reader.is
+      now : guests_of (set guests to (record x { memory = filled })) ≡ with_linear (guests_of guests) to filled
+      now = guests_of-with_linear guests to x filled reader.there reader.is
 
-      err_of : (r : Result (Unit {0}) BadItem) → OnErr r (filled ≡ x.memory) → OnErr r (seen (set guests to (record x { memory = filled })) ≡ seen guests)
+      err_of : (r : Result (Unit {0}) BadItem) → OnErr r (filled ≡ x.memory) → OnErr r (guests_of (set guests to (record x { memory = filled })) ≡ guests_of guests)
       err_of (Ok v) h = tt
-      err_of (Err e) h = now ∙ ap (with_linear (seen guests) to) (h ∙ sym was) ∙ with_memory-same (seen guests) to
+      err_of (Err e) h = now ∙ ap (with_linear (guests_of guests) to) (h ∙ sym was) ∙ with_memory-same (guests_of guests) to
 
 module _ (payload : Payload) (count source target : ℕ) (guests low high : List Guest) (from to : ℕ) (w x : Guest) (filled : LinearMemory) (parts : guests ≡ low ++ high) (result : Result (Unit {0}) BadItem) (fills : Fills payload count source target w x filled result) where
   abbrev Received : List Guest → Type 0
-  Received after = Receives payload count (seen guests) (seen after) from source to target result
+  Received after = Receives payload count (guests_of guests) (guests_of after) from source to target result
 
   -- the reader is the first of the second part
   pub behind : length low ≡ to → 0 < length high → from < to → w ≡ get_or low from w → x ≡ get_or high 0 x → Received (low ++ set high 0 (record x { memory = filled }))

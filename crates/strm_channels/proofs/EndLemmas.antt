@@ -8,7 +8,7 @@ use Rattle.strm_codes.specs.declared.codes.TransmitIndex.TheVariants as index
 use Rattle.strm_codes.specs.declared.payloads.Payload.{Payload}
 use Rattle.strm_handles.specs.Handles.{Handles, Table, lends_of, live_of, removed}
 use Rattle.strm_handles.specs.Ends.{without_value}
-use Rattle.strm_handles.specs.Lookups.{◌>>=◌, stream_of, future_of}
+use Rattle.strm_handles.specs.Lookups.{◌>>=◌, stream_end_of, future_end_of}
 use Rattle.strm_handles.specs.declared.entries.TransmitEnd.{TransmitEnd}
 use Rattle.strm_handles.specs.declared.errors.HandleError.{HandleError}
 use Rattle.strm_handles.proofs.LookupLemmas.{live_of-removed-stream, live_of-removed-future}
@@ -17,7 +17,7 @@ use Rattle.strm_machine.specs.State.{no_guest, guest_in}
 use Rattle.strm_machine.specs.Making.{end_entry}
 use Rattle.strm_machine.specs.declared.streams.Side.{Side}
 use Rattle.strm_machine.specs.declared.streams.Side.TheVariants.{Writing, Reading}
-use Rattle.strm_channels.specs.Guests.{guest_of, seen, room_in, live_in, removable}
+use Rattle.strm_channels.specs.Guests.{guest_of, guests_of, room_in_table, live_in, removable}
 use Rattle.strm_channels.specs.declared.guests.Guest.{Guest}
 use Rattle.strm_channels.proofs.GuestLemmas.{guest_in-seen}
 
@@ -38,27 +38,27 @@ at_most (x ∷ xs) (suc g) v d (suc n) h = at_most xs g v d n h
 abbrev room_of : Guest → ℕ
 room_of g = g.table.room
 
-room_read : (guests : List Guest) (g : ℕ) (x : Guest) → g < length guests → x ≡ get_or guests g x → room_in guests g ≡ x.table.room
+room_read : (guests : List Guest) (g : ℕ) (x : Guest) → g < length guests → x ≡ get_or guests g x → room_in_table guests g ≡ x.table.room
 room_read guests g x l e = get_or-map room_of guests g x 0 l ∙ ap room_of (sym e)
 
 -- another guest in a guest's place, the room of whose table is at most so much less
-pub rooms_after : (guests : List Guest) (g : ℕ) (x y : Guest) (d n : ℕ) → g < length guests → x ≡ get_or guests g x → x.table.room ≤ y.table.room + d → room_in guests n ≤ room_in (set guests g y) n + d
+pub rooms_after : (guests : List Guest) (g : ℕ) (x y : Guest) (d n : ℕ) → g < length guests → x ≡ get_or guests g x → x.table.room ≤ y.table.room + d → room_in_table guests n ≤ room_in_table (set guests g y) n + d
 rooms_after guests g x y d n l e h =
     rw (map-set room_of guests g y)
     (at_most (map room_of guests) g y.table.room d n (omega (arith, room_read guests g x l e, h)))
 
-pub room_after : (guests : List Guest) (g : ℕ) (y : Guest) → g < length guests → room_in (set guests g y) g ≡ y.table.room
+pub room_after : (guests : List Guest) (g : ℕ) (y : Guest) → g < length guests → room_in_table (set guests g y) g ≡ y.table.room
 room_after guests g y l =
     rw (map-set room_of guests g y)
     (get_or-set_same (map room_of guests) g y.table.room 0 (omega (arith, l, length-map guests room_of)))
 
 -- another table of the same handles
-pub seen-same : (guests : List Guest) (g : ℕ) (x : Guest) (table : Table) → g < length guests → x ≡ get_or guests g x → table.handles ≡ x.table.handles → seen (set guests g (record x { table = table })) ≡ seen guests
-seen-same guests g x table l e h =
+pub guests_of-same : (guests : List Guest) (g : ℕ) (x : Guest) (table : Table) → g < length guests → x ≡ get_or guests g x → table.handles ≡ x.table.handles → guests_of (set guests g (record x { table = table })) ≡ guests_of guests
+guests_of-same guests g x table l e h =
     map-set guest_of guests g (record x { table = table })
-    ∙ ap (λ (k : Handles). set (seen guests) g (record (guest_of x) { handles = k })) h
-    ∙ ap (set (seen guests) g) (sym (guest_in-seen guests g x l e))
-    ∙ set-get_or (seen guests) g no_guest
+    ∙ ap (λ (k : Handles). set (guests_of guests) g (record (guest_of x) { handles = k })) h
+    ∙ ap (set (guests_of guests) g) (sym (guest_in-seen guests g x l e))
+    ∙ set-get_or (guests_of guests) g no_guest
 
 -- one live handle more in one table is one more in all
 pub live_after : (guests : List machine.Guest) (g : ℕ) (y : machine.Guest) → g < length guests → live_of y.handles ≡ live_of (guest_in guests g).handles + 1 → live_in (set guests g y) ≡ live_in guests + 1
@@ -74,17 +74,17 @@ first_ok : {A B : Type 0} (r : Result A HandleError) (next : A → Result B Hand
 first_ok (Ok x) next e = refl
 first_ok (Err x) next e = cc
 
-stream_live : (handles : Handles) (payload : Payload) (n : ℕ) (r : Result TransmitEnd HandleError) → stream_of handles payload n ≡ r → IsOk r → live_of (removed handles n) + 1 ≡ live_of handles
+stream_live : (handles : Handles) (payload : Payload) (n : ℕ) (r : Result TransmitEnd HandleError) → stream_end_of handles payload n ≡ r → IsOk r → live_of (removed handles n) + 1 ≡ live_of handles
 stream_live handles payload n (Ok end) e k = live_of-removed-stream handles payload n end e
 stream_live handles payload n (Err x) e k = cc
 
-future_live : (handles : Handles) (payload : Payload) (n : ℕ) (r : Result TransmitEnd HandleError) → future_of handles payload n ≡ r → IsOk r → live_of (removed handles n) + 1 ≡ live_of handles
+future_live : (handles : Handles) (payload : Payload) (n : ℕ) (r : Result TransmitEnd HandleError) → future_end_of handles payload n ≡ r → IsOk r → live_of (removed handles n) + 1 ≡ live_of handles
 future_live handles payload n (Ok end) e k = live_of-removed-future handles payload n end e
 future_live handles payload n (Err x) e k = cc
 
 -- the removal of an end is one live handle less
 pub removable_live : (side : Side) (ty : TransmitIndex) (handles : Handles) (n : ℕ) → removable side ty handles n ≡ Ok tt → live_of (removed handles n) + 1 ≡ live_of handles
-removable_live Writing (index.Stream payload) handles n e = stream_live handles payload n _ refl (first_ok (stream_of handles payload n) _ e)
-removable_live Reading (index.Stream payload) handles n e = stream_live handles payload n _ refl (first_ok (stream_of handles payload n) _ e)
-removable_live Writing (index.Future payload) handles n e = future_live handles payload n _ refl (first_ok (future_of handles payload n) _ e)
-removable_live Reading (index.Future payload) handles n e = future_live handles payload n _ refl (first_ok (future_of handles payload n) _ e)
+removable_live Writing (index.Stream payload) handles n e = stream_live handles payload n _ refl (first_ok (stream_end_of handles payload n) _ e)
+removable_live Reading (index.Stream payload) handles n e = stream_live handles payload n _ refl (first_ok (stream_end_of handles payload n) _ e)
+removable_live Writing (index.Future payload) handles n e = future_live handles payload n _ refl (first_ok (future_end_of handles payload n) _ e)
+removable_live Reading (index.Future payload) handles n e = future_live handles payload n _ refl (first_ok (future_end_of handles payload n) _ e)

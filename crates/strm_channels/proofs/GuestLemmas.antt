@@ -8,24 +8,24 @@ use Rattle.strm_handles.specs.Handles.{Table}
 use Rattle.strm_machine.specs.State as machine
 use Rattle.strm_waitable_sets.specs.Sets.{Sets}
 use Rattle.strm_machine.specs.State.{no_guest, guest_in, memory_in, with_memory, with_handles, with_table}
-use Rattle.strm_channels.specs.Guests.{guest_of, seen, linear_in, with_linear}
+use Rattle.strm_channels.specs.Guests.{guest_of, guests_of, linear_in, with_linear}
 use Rattle.strm_channels.specs.declared.guests.Guest.{Guest}
 
 -- the guest that an index read
-pub guest_in-seen : (guests : List Guest) (g : ℕ) (x : Guest) → g < length guests → x ≡ get_or guests g x → guest_in (seen guests) g ≡ guest_of x
+pub guest_in-seen : (guests : List Guest) (g : ℕ) (x : Guest) → g < length guests → x ≡ get_or guests g x → guest_in (guests_of guests) g ≡ guest_of x
 guest_in-seen guests g x l e = get_or-map guest_of guests g x no_guest l ∙ ap guest_of (sym e)
 
 -- a guest that was given another memory
-pub seen-with_linear : (guests : List Guest) (g : ℕ) (x : Guest) (memory : LinearMemory) → g < length guests → x ≡ get_or guests g x → seen (set guests g (record x { memory = memory })) ≡ with_linear (seen guests) g memory
-seen-with_linear guests g x memory l e =
+pub guests_of-with_linear : (guests : List Guest) (g : ℕ) (x : Guest) (memory : LinearMemory) → g < length guests → x ≡ get_or guests g x → guests_of (set guests g (record x { memory = memory })) ≡ with_linear (guests_of guests) g memory
+guests_of-with_linear guests g x memory l e =
     map-set guest_of guests g (record x { memory = memory })
-    ∙ ap (λ (k : machine.Guest). set (seen guests) g (record k { memory = memory.bytes; base = memory.base })) (sym (guest_in-seen guests g x l e))
+    ∙ ap (λ (k : machine.Guest). set (guests_of guests) g (record k { memory = memory.bytes; base = memory.base })) (sym (guest_in-seen guests g x l e))
 
 -- a guest whose memory has other bytes in the same place
-pub seen-with_memory : (guests : List Guest) (g : ℕ) (x : Guest) (bytes : List ℕ) → g < length guests → x ≡ get_or guests g x → seen (set guests g (record x { memory = with_contents x.memory bytes })) ≡ with_memory (seen guests) g bytes
-seen-with_memory guests g x bytes l e =
+pub guests_of-with_memory : (guests : List Guest) (g : ℕ) (x : Guest) (bytes : List ℕ) → g < length guests → x ≡ get_or guests g x → guests_of (set guests g (record x { memory = with_contents x.memory bytes })) ≡ with_memory (guests_of guests) g bytes
+guests_of-with_memory guests g x bytes l e =
     map-set guest_of guests g (record x { memory = with_contents x.memory bytes })
-    ∙ ap (λ (k : machine.Guest). set (seen guests) g (record k { memory = bytes })) (sym (guest_in-seen guests g x l e))
+    ∙ ap (λ (k : machine.Guest). set (guests_of guests) g (record k { memory = bytes })) (sym (guest_in-seen guests g x l e))
 
 -- the second of two memories for one guest
 pub with_linear-twice : (guests : List machine.Guest) (g : ℕ) (a b : LinearMemory) → with_linear (with_linear guests g a) g b ≡ with_linear guests g b
@@ -38,26 +38,26 @@ with_linear-twice guests g a b =
       | inr l ↦ (let past : with_linear guests g a ≡ guests = set_past guests g first l in rw past refl)
     ]
 
-pub seen-with_handles : (guests : List Guest) (g : ℕ) (x : Guest) (table : Table) → g < length guests → x ≡ get_or guests g x → seen (set guests g (record x { table = table })) ≡ with_handles (seen guests) g table.handles
-seen-with_handles guests g x table l e =
+pub guests_of-with_handles : (guests : List Guest) (g : ℕ) (x : Guest) (table : Table) → g < length guests → x ≡ get_or guests g x → guests_of (set guests g (record x { table = table })) ≡ with_handles (guests_of guests) g table.handles
+guests_of-with_handles guests g x table l e =
     map-set guest_of guests g (record x { table = table })
-    ∙ ap (λ (k : machine.Guest). set (seen guests) g (record k { handles = table.handles })) (sym (guest_in-seen guests g x l e))
+    ∙ ap (λ (k : machine.Guest). set (guests_of guests) g (record k { handles = table.handles })) (sym (guest_in-seen guests g x l e))
 
-pub seen-with_table : (guests : List Guest) (g : ℕ) (x : Guest) (table : Table) (sets : Sets) → g < length guests → x ≡ get_or guests g x → seen (set guests g (record x { table = table; sets = sets })) ≡ with_table (seen guests) g table.handles sets
-seen-with_table guests g x table sets l e =
+pub guests_of-with_table : (guests : List Guest) (g : ℕ) (x : Guest) (table : Table) (sets : Sets) → g < length guests → x ≡ get_or guests g x → guests_of (set guests g (record x { table = table; sets = sets })) ≡ with_table (guests_of guests) g table.handles sets
+guests_of-with_table guests g x table sets l e =
     map-set guest_of guests g (record x { table = table; sets = sets })
-    ∙ ap (λ (k : machine.Guest). set (seen guests) g (record k { handles = table.handles; sets = sets })) (sym (guest_in-seen guests g x l e))
+    ∙ ap (λ (k : machine.Guest). set (guests_of guests) g (record k { handles = table.handles; sets = sets })) (sym (guest_in-seen guests g x l e))
 
 -- a guest that became what a function makes of it, as the machine's
-pub seen-made : (guests : List Guest) (g : ℕ) (x y : Guest) (f : machine.Guest → machine.Guest) → g < length guests → x ≡ get_or guests g x → guest_of y ≡ f (guest_of x) → seen (set guests g y) ≡ set (seen guests) g (f (guest_in (seen guests) g))
-seen-made guests g x y f l e h =
+pub guests_of-made : (guests : List Guest) (g : ℕ) (x y : Guest) (f : machine.Guest → machine.Guest) → g < length guests → x ≡ get_or guests g x → guest_of y ≡ f (guest_of x) → guests_of (set guests g y) ≡ set (guests_of guests) g (f (guest_in (guests_of guests) g))
+guests_of-made guests g x y f l e h =
     map-set guest_of guests g y
-    ∙ ap (set (seen guests) g) (h ∙ ap f (sym (guest_in-seen guests g x l e)))
+    ∙ ap (set (guests_of guests) g) (h ∙ ap f (sym (guest_in-seen guests g x l e)))
 
-pub linear_in-seen : (guests : List Guest) (g : ℕ) (x : Guest) → g < length guests → x ≡ get_or guests g x → linear_in (seen guests) g ≡ x.memory
+pub linear_in-seen : (guests : List Guest) (g : ℕ) (x : Guest) → g < length guests → x ≡ get_or guests g x → linear_in (guests_of guests) g ≡ x.memory
 linear_in-seen guests g x l e = ap (λ (k : machine.Guest). record { bytes = k.memory; base = k.base }) (guest_in-seen guests g x l e)
 
-pub memory_in-seen : (guests : List Guest) (g : ℕ) (x : Guest) → g < length guests → x ≡ get_or guests g x → memory_in (seen guests) g ≡ x.memory.bytes
+pub memory_in-seen : (guests : List Guest) (g : ℕ) (x : Guest) → g < length guests → x ≡ get_or guests g x → memory_in (guests_of guests) g ≡ x.memory.bytes
 memory_in-seen guests g x l e = ap (λ (k : machine.Guest). k.memory) (guest_in-seen guests g x l e)
 
 -- what holds of a call that answered, where it did

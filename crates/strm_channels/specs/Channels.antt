@@ -51,7 +51,7 @@ stream_of channel = record {
 }
 
 -- both cells are of one stream, and each knows whether the other end is gone
-pub record AreTied (writer reader : Part) : Type 0 where
+pub record AreCellsTied (writer reader : Part) : Type 0 where
   pub kind : reader.cell.kind ≡ writer.cell.kind
   pub passed : reader.cell.passed ≡ writer.cell.passed
   pub writer_sees : writer.cell.other_gone ≡ is_gone reader.owner
@@ -74,8 +74,8 @@ pub record IsKeptIn (before after : Part) : Type 0 where
   pub sees : after.cell.other_gone ≡ before.cell.other_gone
 
 -- an operation of which so many items more were moved
-abbrev pub gone_on : Payload → Operation → ℕ → Operation
-gone_on payload operation n = record operation {
+abbrev pub operation_gone_on : Payload → Operation → ℕ → Operation
+operation_gone_on payload operation n = record operation {
   address = operation.address + item_size (scalars_of payload) * n;
   left = operation.left - n;
   moved = operation.moved + n;

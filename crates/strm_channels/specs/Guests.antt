@@ -11,7 +11,7 @@ use Rattle.strm_handles.specs.Handles.{Handles, inserted, removed, live_of}
 use Rattle.strm_handles.specs.Ends.{without_value, stream_readable_of, stream_writable_of, future_readable_of, future_writable_of}
 use Rattle.strm_handles.specs.declared.entries.Entry.TheVariants as entries
 use Rattle.strm_handles.specs.declared.errors.HandleError.{HandleError}
-use Rattle.strm_waitable_sets.specs.Sets.{least_free, with_new_set, left, without_set}
+use Rattle.strm_waitable_sets.specs.Sets.{least_free, with_new_set, handle_left, without_set}
 use Rattle.strm_machine.specs.declared.streams.Side.{Side}
 use Rattle.strm_machine.specs.declared.streams.Side.TheVariants.{Writing, Reading}
 use Rattle.strm_machine.specs.Making.{end_entry}
@@ -33,12 +33,12 @@ with_linear guests g memory =
     slice_set guests g (record (guest_in guests g) { memory = memory.bytes; base = memory.base })
 
 -- the guests, as the machine's
-abbrev pub seen : List Guest → List machine.Guest
-seen guests = map guest_of guests
+abbrev pub guests_of : List Guest → List machine.Guest
+guests_of guests = map guest_of guests
 
 -- how many inserts the table of a guest takes without memory
-abbrev pub room_in : List Guest → ℕ → ℕ
-room_in guests g = slice_index_or (map (λ (k : Guest). k.table.room) guests) g 0
+abbrev pub room_in_table : List Guest → ℕ → ℕ
+room_in_table guests g = slice_index_or (map (λ (k : Guest). k.table.room) guests) g 0
 
 -- the live handles of guests together
 abbrev pub live_in : List machine.Guest → ℕ
@@ -51,7 +51,7 @@ sets_among guests = sum_by (λ (g : machine.Guest). count_by (λ there. there) g
 -- the guests without a handle of one of them, which leaves the set that it is in
 abbrev pub without_handle_in : List machine.Guest → ℕ → ℕ → List machine.Guest
 without_handle_in guests g handle =
-    with_table guests g (removed (guest_in guests g).handles handle) (left (sets_in guests g) handle)
+    with_table guests g (removed (guest_in guests g).handles handle) (handle_left (sets_in guests g) handle)
 
 -- the guests with a handle more of one of them, for an end of stream s
 abbrev pub with_end_in : List machine.Guest → ℕ → Side → TransmitIndex → ℕ → List machine.Guest

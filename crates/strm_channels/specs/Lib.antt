@@ -1,3 +1,3 @@
 pub mod Channels
 pub mod Guests
-pub mod Taking
+pub mod Meetings

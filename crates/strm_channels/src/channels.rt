@@ -17,7 +17,7 @@ ghost use Rattle.strm_machine.specs.Turns.{is_future, with_received};
 ghost use Rattle.strm_machine.specs.Endings.{report_on, delivered, cancelled_end, told_end};
 ghost use Rattle.strm_codes.specs.declared.codes.ReturnCode.TheVariants.{Blocked};
 ghost use Rattle.strm_events.specs.Cells.{new_cell, kept_report, may_meet, moved_so_far};
-ghost use Rattle.strm_channels.specs.Channels.{end_of_part, cell_of, IsKeptIn, gone_on, came_out, without_report};
+ghost use Rattle.strm_channels.specs.Channels.{end_of_part, cell_of, IsKeptIn, operation_gone_on, came_out, without_report};
 
 use std::marker::Model;
 use strm_codes::codes::{ReturnCode, StreamResult, TransmitKind};
@@ -57,11 +57,11 @@ impl Model for Channel {
 
     ghost Value = { Stream };
 
-    ghost use Rattle.strm_channels.specs.Channels.{stream_of, AreTied};
+    ghost use Rattle.strm_channels.specs.Channels.{stream_of, AreCellsTied};
 
     ghost view = { stream_of };
 
-    ghost invariant = { λ c. AreTied c.writer c.reader };
+    ghost invariant = { λ c. AreCellsTied c.writer c.reader };
 }
 
 // An end that has no operation and was not told.
@@ -157,7 +157,7 @@ fn progress_in(part: &mut Part, payload: Payload, count: ItemCount)
     requires counted { moved_so_far part.old.cell.pending + count < count_limit }
     requires room { part.old.place.address + item_size (scalars_of payload) * count < 2 ^ 32 }
     ensures end { end_of_part part.new ≡ record (end_of_part part.old) {
-      operation = option_map (λ operation. gone_on payload operation count)
+      operation = option_map (λ operation. operation_gone_on payload operation count)
           (end_of_part part.old).operation;
     } }
     ensures kept { IsKeptIn part.old part.new }
@@ -360,7 +360,7 @@ impl Channel {
         requires room { IsSomeAnd (end_of side self.old).operation (λ operation.
             operation.address + item_size (scalars_of self.old.payload) * count < 2 ^ 32) }
         ensures { self.new ≡ with_end side self.old (record (end_of side self.old) {
-          operation = option_map (λ operation. gone_on self.old.payload operation count)
+          operation = option_map (λ operation. operation_gone_on self.old.payload operation count)
               (end_of side self.old).operation;
         }) }
     {

@@ -12,10 +12,10 @@ ghost use Rattle.strm_handles.specs.Lookups.{error_context_rep_of};
 ghost use Rattle.strm_handles.specs.declared.entries.Entry.TheVariants.{ErrorContext};
 ghost use Rattle.strm_memory.specs.Bytes.{bytes_at, put_at};
 ghost use Rattle.strm_memory.specs.Region.{bytes_out_of_bounds};
-ghost use Rattle.strm_error_contexts.specs.Contexts.{is_there, message_at, count_at, next_number, inserted as with_message, raised, dropped};
+ghost use Rattle.strm_error_contexts.specs.Contexts.{is_context_there, message_at, count_at, next_number, inserted as with_message, raised, context_dropped};
 ghost use Rattle.strm_machine.specs.State.{guest_in, memory_in, with_memory};
 ghost use Rattle.strm_machine.specs.ErrorContexts.{message_limit, bytes_of_message};
-ghost use Rattle.strm_channels.specs.Guests.{seen, room_in, live_in, with_context_in, without_context_in};
+ghost use Rattle.strm_channels.specs.Guests.{guests_of, room_in_table, live_in, with_context_in, without_context_in};
 
 use crate::ends::reserve;
 use crate::guests::{Guest, read_bytes, write_bytes};
@@ -47,13 +47,13 @@ fn insert_context(
     context: u32,
 ) -> u32
     requires there { guest < length guests.old.items }
-    requires room { 0 < room_in guests.old.items guest }
-    requires small { next_index (guest_in (seen guests.old.items) guest).handles < 2 ^ 28 }
+    requires room { 0 < room_in_table guests.old.items guest }
+    requires small { next_index (guest_in (guests_of guests.old.items) guest).handles < 2 ^ 28 }
     requires below { counter.old.live < counter.old.limit }
-    ensures number { result ≡ next_index (guest_in (seen guests.old.items) guest).handles }
-    ensures guests { seen guests.new.items ≡ with_context_in (seen guests.old.items) guest context }
+    ensures number { result ≡ next_index (guest_in (guests_of guests.old.items) guest).handles }
+    ensures guests { guests_of guests.new.items ≡ with_context_in (guests_of guests.old.items) guest context }
     ensures counter { counter.new ≡ counted counter.old }
-    ensures live { live_in (seen guests.new.items) ≡ live_in (seen guests.old.items) + 1 }
+    ensures live { live_in (guests_of guests.new.items) ≡ live_in (guests_of guests.old.items) + 1 }
     ensures count { length guests.new.items ≡ length guests.old.items }
 {
     insert(&mut guests[guest].table, counter, context)
@@ -68,12 +68,12 @@ fn keep_message(
     len: u32,
 ) -> Result<u32, OutOfMemory>
     requires there { guest < length guests.now.items }
-    requires inside { bytes_out_of_bounds (length (memory_in (seen guests.now.items) guest)) address
+    requires inside { bytes_out_of_bounds (length (memory_in (guests_of guests.now.items) guest)) address
         len ≡ false }
-    requires text { is_utf8 (bytes_at (memory_in (seen guests.now.items) guest) address len) ≡ true }
+    requires text { is_utf8 (bytes_at (memory_in (guests_of guests.now.items) guest) address len) ≡ true }
     ensures number { IfOk result (λ number. number ≡ next_number contexts.old) }
     ensures ok { OnOk result (contexts.new ≡ with_message contexts.old
-        (bytes_at (memory_in (seen guests.now.items) guest) address len)) }
+        (bytes_at (memory_in (guests_of guests.now.items) guest) address len)) }
     ensures err { OnErr result (contexts.new ≡ contexts.old) }
 {
     let message = message_of(read_bytes(guests, guest, address, len)).unwrap();
@@ -91,21 +91,21 @@ pub fn give_context(
     len: u32,
 ) -> Result<u32, OutOfMemory>
     requires there { guest < length guests.old.items }
-    requires inside { bytes_out_of_bounds (length (memory_in (seen guests.old.items) guest)) address
+    requires inside { bytes_out_of_bounds (length (memory_in (guests_of guests.old.items) guest)) address
         len ≡ false }
-    requires text { is_utf8 (bytes_at (memory_in (seen guests.old.items) guest) address len) ≡ true }
-    requires small { next_index (guest_in (seen guests.old.items) guest).handles < 2 ^ 28 }
+    requires text { is_utf8 (bytes_at (memory_in (guests_of guests.old.items) guest) address len) ≡ true }
+    requires small { next_index (guest_in (guests_of guests.old.items) guest).handles < 2 ^ 28 }
     requires below { counter.old.live < counter.old.limit }
     ensures number { IfOk result (λ number. number
-        ≡ next_index (guest_in (seen guests.old.items) guest).handles) }
-    ensures guests { OnOk result (seen guests.new.items
-        ≡ with_context_in (seen guests.old.items) guest (next_number contexts.old)) }
+        ≡ next_index (guest_in (guests_of guests.old.items) guest).handles) }
+    ensures guests { OnOk result (guests_of guests.new.items
+        ≡ with_context_in (guests_of guests.old.items) guest (next_number contexts.old)) }
     ensures contexts { OnOk result (contexts.new ≡ with_message contexts.old
-        (bytes_at (memory_in (seen guests.old.items) guest) address len)) }
+        (bytes_at (memory_in (guests_of guests.old.items) guest) address len)) }
     ensures counter { OnOk result (counter.new ≡ counted counter.old) }
     ensures live { OnOk result
-        (live_in (seen guests.new.items) ≡ live_in (seen guests.old.items) + 1) }
-    ensures err { OnErr result (seen guests.new.items ≡ seen guests.old.items) }
+        (live_in (guests_of guests.new.items) ≡ live_in (guests_of guests.old.items) + 1) }
+    ensures err { OnErr result (guests_of guests.new.items ≡ guests_of guests.old.items) }
     ensures same { OnErr result (contexts.new ≡ contexts.old) }
     ensures kept { OnErr result (counter.new ≡ counter.old) }
     ensures count { length guests.new.items ≡ length guests.old.items }
@@ -117,7 +117,7 @@ pub fn give_context(
 
 // Counts a handle more to a context that has fewer than a limit.
 fn count_handle(contexts: &mut ErrorContexts, context: u32, limit: usize)
-    requires known { is_there contexts.old context ≡ true }
+    requires known { is_context_there contexts.old context ≡ true }
     requires fits { count_at contexts.old context < limit }
     ensures { contexts.new ≡ raised contexts.old context }
 {
@@ -136,19 +136,19 @@ pub fn share_context(
     context: u32,
 ) -> Result<u32, OutOfMemory>
     requires there { guest < length guests.old.items }
-    requires known { is_there contexts.old context ≡ true }
+    requires known { is_context_there contexts.old context ≡ true }
     requires fits { count_at contexts.old context < counter.old.limit }
-    requires small { next_index (guest_in (seen guests.old.items) guest).handles < 2 ^ 28 }
+    requires small { next_index (guest_in (guests_of guests.old.items) guest).handles < 2 ^ 28 }
     requires below { counter.old.live < counter.old.limit }
     ensures number { IfOk result (λ number. number
-        ≡ next_index (guest_in (seen guests.old.items) guest).handles) }
-    ensures guests { OnOk result (seen guests.new.items
-        ≡ with_context_in (seen guests.old.items) guest context) }
+        ≡ next_index (guest_in (guests_of guests.old.items) guest).handles) }
+    ensures guests { OnOk result (guests_of guests.new.items
+        ≡ with_context_in (guests_of guests.old.items) guest context) }
     ensures contexts { OnOk result (contexts.new ≡ raised contexts.old context) }
     ensures counter { OnOk result (counter.new ≡ counted counter.old) }
     ensures live { OnOk result
-        (live_in (seen guests.new.items) ≡ live_in (seen guests.old.items) + 1) }
-    ensures err { OnErr result (seen guests.new.items ≡ seen guests.old.items) }
+        (live_in (guests_of guests.new.items) ≡ live_in (guests_of guests.old.items) + 1) }
+    ensures err { OnErr result (guests_of guests.new.items ≡ guests_of guests.old.items) }
     ensures same { OnErr result (contexts.new ≡ contexts.old) }
     ensures kept { OnErr result (counter.new ≡ counter.old) }
     ensures count { length guests.new.items ≡ length guests.old.items }
@@ -169,15 +169,15 @@ pub fn remove_context(
     context: u32,
 )
     requires there { guest < length guests.old.items }
-    requires named { error_context_rep_of (guest_in (seen guests.old.items) guest).handles handle
+    requires named { error_context_rep_of (guest_in (guests_of guests.old.items) guest).handles handle
         ≡ Ok context }
-    requires known { is_there contexts.old context ≡ true }
-    requires live { live_in (seen guests.old.items) ≤ counter.old.live }
-    ensures guests { seen guests.new.items
-        ≡ without_context_in (seen guests.old.items) guest handle }
-    ensures contexts { contexts.new ≡ dropped contexts.old context }
+    requires known { is_context_there contexts.old context ≡ true }
+    requires live { live_in (guests_of guests.old.items) ≤ counter.old.live }
+    ensures guests { guests_of guests.new.items
+        ≡ without_context_in (guests_of guests.old.items) guest handle }
+    ensures contexts { contexts.new ≡ context_dropped contexts.old context }
     ensures counter { counter.new ≡ uncounted counter.old }
-    ensures live { live_in (seen guests.new.items) + 1 ≡ live_in (seen guests.old.items) }
+    ensures live { live_in (guests_of guests.new.items) + 1 ≡ live_in (guests_of guests.old.items) }
     ensures count { length guests.new.items ≡ length guests.old.items }
 {
     let table = &mut guests[guest].table;
@@ -204,12 +204,12 @@ pub fn tell_message(
     context: u32,
 ) -> u32
     requires there { guest < length guests.old.items }
-    requires inside { bytes_out_of_bounds (length (memory_in (seen guests.old.items) guest)) address
+    requires inside { bytes_out_of_bounds (length (memory_in (guests_of guests.old.items) guest)) address
         (length (bytes_of_message (message_at contexts.now context))) ≡ false }
     requires short { length (bytes_of_message (message_at contexts.now context)) ≤ message_limit }
     ensures len { result ≡ length (bytes_of_message (message_at contexts.now context)) }
-    ensures guests { seen guests.new.items ≡ with_memory (seen guests.old.items) guest
-        (put_at (memory_in (seen guests.old.items) guest) address
+    ensures guests { guests_of guests.new.items ≡ with_memory (guests_of guests.old.items) guest
+        (put_at (memory_in (guests_of guests.old.items) guest) address
         (bytes_of_message (message_at contexts.now context))) }
     ensures count { length guests.new.items ≡ length guests.old.items }
 {

@@ -10,7 +10,7 @@ ghost use Rattle.strm_handles.specs.Changes.{Inserts, Removes};
 ghost use Rattle.strm_handles.specs.Counters.{counted, uncounted};
 ghost use Rattle.strm_machine.specs.State.{guest_in};
 ghost use Rattle.strm_machine.specs.Making.{end_entry, with_read_end, with_ends};
-ghost use Rattle.strm_channels.specs.Guests.{seen, room_in, live_in, with_end_in, without_handle_in, removable};
+ghost use Rattle.strm_channels.specs.Guests.{guests_of, room_in_table, live_in, with_end_in, without_handle_in, removable};
 
 use crate::guests::Guest;
 use strm_codes::codes::TransmitIndex;
@@ -70,10 +70,10 @@ fn insert(
 // Room for so many handles in a guest's table.
 pub(crate) fn reserve(guests: &mut Vec<Guest>, guest: usize, needed: u32) -> Result<(), OutOfMemory>
     requires { guest < length guests.old.items }
-    ensures seen { seen guests.new.items ≡ seen guests.old.items }
+    ensures seen { guests_of guests.new.items ≡ guests_of guests.old.items }
     ensures count { length guests.new.items ≡ length guests.old.items }
-    ensures room { OnOk result (needed ≤ room_in guests.new.items guest) }
-    ensures rooms { (n : ℕ) → room_in guests.old.items n ≤ room_in guests.new.items n }
+    ensures room { OnOk result (needed ≤ room_in_table guests.new.items guest) }
+    ensures rooms { (n : ℕ) → room_in_table guests.old.items n ≤ room_in_table guests.new.items n }
 {
     match guests[guest].table.reserve(needed) {
         Ok(()) => Ok(()),
@@ -91,15 +91,15 @@ fn insert_end(
     stream: u32,
 ) -> u32
     requires there { guest < length guests.old.items }
-    requires room { 0 < room_in guests.old.items guest }
-    requires small { next_index (guest_in (seen guests.old.items) guest).handles < 2 ^ 28 }
+    requires room { 0 < room_in_table guests.old.items guest }
+    requires small { next_index (guest_in (guests_of guests.old.items) guest).handles < 2 ^ 28 }
     requires below { counter.old.live < counter.old.limit }
-    ensures number { result ≡ next_index (guest_in (seen guests.old.items) guest).handles }
-    ensures guests { seen guests.new.items
-        ≡ with_end_in (seen guests.old.items) guest side ty stream }
+    ensures number { result ≡ next_index (guest_in (guests_of guests.old.items) guest).handles }
+    ensures guests { guests_of guests.new.items
+        ≡ with_end_in (guests_of guests.old.items) guest side ty stream }
     ensures counter { counter.new ≡ counted counter.old }
-    ensures rooms { (n : ℕ) → room_in guests.old.items n ≤ room_in guests.new.items n + 1 }
-    ensures live { live_in (seen guests.new.items) ≡ live_in (seen guests.old.items) + 1 }
+    ensures rooms { (n : ℕ) → room_in_table guests.old.items n ≤ room_in_table guests.new.items n + 1 }
+    ensures live { live_in (guests_of guests.new.items) ≡ live_in (guests_of guests.old.items) + 1 }
     ensures count { length guests.new.items ≡ length guests.old.items }
 {
     insert(&mut guests[guest].table, counter, side, ty, stream)
@@ -117,20 +117,20 @@ pub fn insert_ends(
 ) -> Result<(u32, u32), OutOfMemory>
     requires writer { writer < length guests.old.items }
     requires reader { reader < length guests.old.items }
-    requires read { next_index (guest_in (seen guests.old.items) reader).handles < 2 ^ 28 }
-    requires write { next_index (guest_in (with_read_end (seen guests.old.items) reader ty stream)
+    requires read { next_index (guest_in (guests_of guests.old.items) reader).handles < 2 ^ 28 }
+    requires write { next_index (guest_in (with_read_end (guests_of guests.old.items) reader ty stream)
         writer).handles < 2 ^ 28 }
     requires below { counter.old.live + 2 ≤ counter.old.limit }
     ensures numbers { IfOk result (λ numbers. numbers ≡ (
-      next_index (guest_in (seen guests.old.items) reader).handles,
-      next_index (guest_in (with_read_end (seen guests.old.items) reader ty stream) writer).handles,
+      next_index (guest_in (guests_of guests.old.items) reader).handles,
+      next_index (guest_in (with_read_end (guests_of guests.old.items) reader ty stream) writer).handles,
     )) }
-    ensures guests { OnOk result (seen guests.new.items
-        ≡ with_ends (seen guests.old.items) writer reader ty stream) }
+    ensures guests { OnOk result (guests_of guests.new.items
+        ≡ with_ends (guests_of guests.old.items) writer reader ty stream) }
     ensures counter { OnOk result (counter.new ≡ counted (counted counter.old)) }
     ensures live { OnOk result
-        (live_in (seen guests.new.items) ≡ live_in (seen guests.old.items) + 2) }
-    ensures err { OnErr result (seen guests.new.items ≡ seen guests.old.items) }
+        (live_in (guests_of guests.new.items) ≡ live_in (guests_of guests.old.items) + 2) }
+    ensures err { OnErr result (guests_of guests.new.items ≡ guests_of guests.old.items) }
     ensures kept { OnErr result (counter.new ≡ counter.old) }
     ensures count { length guests.new.items ≡ length guests.old.items }
 {
@@ -175,15 +175,15 @@ fn try_remove(
 /// it is in.
 pub fn remove_end(guests: &mut Vec<Guest>, counter: &mut HandleCounter, side: Side, end: &NamedEnd)
     requires there { end.now.guest < length guests.old.items }
-    requires idle { removable side end.now.ty (guest_in (seen guests.old.items) end.now.guest).handles
+    requires idle { removable side end.now.ty (guest_in (guests_of guests.old.items) end.now.guest).handles
         end.now.handle ≡ Ok tt }
-    requires live { live_in (seen guests.old.items) ≤ counter.old.live }
-    ensures guests { seen guests.new.items
-        ≡ without_handle_in (seen guests.old.items) end.now.guest end.now.handle }
+    requires live { live_in (guests_of guests.old.items) ≤ counter.old.live }
+    ensures guests { guests_of guests.new.items
+        ≡ without_handle_in (guests_of guests.old.items) end.now.guest end.now.handle }
     ensures counter { counter.new ≡ uncounted counter.old }
-    ensures room { 0 < room_in guests.new.items end.now.guest }
-    ensures rooms { (n : ℕ) → room_in guests.old.items n ≤ room_in guests.new.items n }
-    ensures live { live_in (seen guests.new.items) + 1 ≡ live_in (seen guests.old.items) }
+    ensures room { 0 < room_in_table guests.new.items end.now.guest }
+    ensures rooms { (n : ℕ) → room_in_table guests.old.items n ≤ room_in_table guests.new.items n }
+    ensures live { live_in (guests_of guests.new.items) + 1 ≡ live_in (guests_of guests.old.items) }
     ensures count { length guests.new.items ≡ length guests.old.items }
 {
     let guest = &mut guests[end.guest as usize];
@@ -202,16 +202,16 @@ pub fn give_end(
     stream: u32,
 ) -> Result<u32, OutOfMemory>
     requires there { guest < length guests.old.items }
-    requires small { next_index (guest_in (seen guests.old.items) guest).handles < 2 ^ 28 }
+    requires small { next_index (guest_in (guests_of guests.old.items) guest).handles < 2 ^ 28 }
     requires below { counter.old.live < counter.old.limit }
     ensures number { IfOk result (λ number. number
-        ≡ next_index (guest_in (seen guests.old.items) guest).handles) }
-    ensures guests { OnOk result (seen guests.new.items
-        ≡ with_end_in (seen guests.old.items) guest side ty stream) }
+        ≡ next_index (guest_in (guests_of guests.old.items) guest).handles) }
+    ensures guests { OnOk result (guests_of guests.new.items
+        ≡ with_end_in (guests_of guests.old.items) guest side ty stream) }
     ensures counter { OnOk result (counter.new ≡ counted counter.old) }
     ensures live { OnOk result
-        (live_in (seen guests.new.items) ≡ live_in (seen guests.old.items) + 1) }
-    ensures err { OnErr result (seen guests.new.items ≡ seen guests.old.items) }
+        (live_in (guests_of guests.new.items) ≡ live_in (guests_of guests.old.items) + 1) }
+    ensures err { OnErr result (guests_of guests.new.items ≡ guests_of guests.old.items) }
     ensures kept { OnErr result (counter.new ≡ counter.old) }
     ensures count { length guests.new.items ≡ length guests.old.items }
 {
@@ -223,9 +223,9 @@ pub fn give_end(
 // up serves.
 fn reserve_move(guests: &mut Vec<Guest>, from: usize, to: usize) -> Result<(), OutOfMemory>
     requires { to < length guests.old.items }
-    ensures seen { seen guests.new.items ≡ seen guests.old.items }
+    ensures seen { guests_of guests.new.items ≡ guests_of guests.old.items }
     ensures count { length guests.new.items ≡ length guests.old.items }
-    ensures room { OnOk result (from ≢ to → 0 < room_in guests.new.items to) }
+    ensures room { OnOk result (from ≢ to → 0 < room_in_table guests.new.items to) }
     ensures within { from ≡ to → result ≡ Ok tt }
 {
     if from == to {
@@ -247,19 +247,19 @@ pub fn move_end(
 ) -> Result<u32, OutOfMemory>
     requires from { end.now.guest < length guests.old.items }
     requires to { to < length guests.old.items }
-    requires idle { removable side end.now.ty (guest_in (seen guests.old.items) end.now.guest).handles
+    requires idle { removable side end.now.ty (guest_in (guests_of guests.old.items) end.now.guest).handles
         end.now.handle ≡ Ok tt }
-    requires small { next_index (guest_in (without_handle_in (seen guests.old.items) end.now.guest
+    requires small { next_index (guest_in (without_handle_in (guests_of guests.old.items) end.now.guest
         end.now.handle) to).handles < 2 ^ 28 }
-    requires live { live_in (seen guests.old.items) ≤ counter.old.live }
+    requires live { live_in (guests_of guests.old.items) ≤ counter.old.live }
     requires limit { counter.old.live ≤ counter.old.limit }
     ensures number { IfOk result (λ number. number ≡ next_index (guest_in (without_handle_in
-        (seen guests.old.items) end.now.guest end.now.handle) to).handles) }
-    ensures guests { OnOk result (seen guests.new.items ≡ with_end_in (without_handle_in
-        (seen guests.old.items) end.now.guest end.now.handle) to side end.now.ty stream) }
+        (guests_of guests.old.items) end.now.guest end.now.handle) to).handles) }
+    ensures guests { OnOk result (guests_of guests.new.items ≡ with_end_in (without_handle_in
+        (guests_of guests.old.items) end.now.guest end.now.handle) to side end.now.ty stream) }
     ensures counter { counter.new ≡ counter.old }
-    ensures live { live_in (seen guests.new.items) ≡ live_in (seen guests.old.items) }
-    ensures err { OnErr result (seen guests.new.items ≡ seen guests.old.items) }
+    ensures live { live_in (guests_of guests.new.items) ≡ live_in (guests_of guests.old.items) }
+    ensures err { OnErr result (guests_of guests.new.items ≡ guests_of guests.old.items) }
     ensures within { end.now.guest ≡ to → IsOk result }
     ensures count { length guests.new.items ≡ length guests.old.items }
 {

@@ -9,7 +9,7 @@ ghost use Rattle.strm_memory.specs.Region.{bytes_out_of_bounds};
 ghost use Rattle.strm_machine.specs.State.{memory_in, with_memory};
 ghost use Rattle.strm_machine.specs.Bases.{base_in, with_base};
 ghost use Rattle.strm_memory.specs.Linear.{untold};
-ghost use Rattle.strm_channels.specs.Guests.{seen, linear_in, with_linear, Receives};
+ghost use Rattle.strm_channels.specs.Guests.{guests_of, linear_in, with_linear, Receives};
 
 use std::alloc::Global;
 use std::mem;
@@ -32,7 +32,7 @@ pub struct Guest {
 #[inline(always)]
 pub fn memory(guests: &Vec<Guest>, guest: usize) -> &GuestMemory
     requires { guest < length guests.now.items }
-    ensures { result.now ≡ linear_in (seen guests.now.items) guest }
+    ensures { result.now ≡ linear_in (guests_of guests.now.items) guest }
 {
     &guests[guest].memory
 }
@@ -41,8 +41,8 @@ pub fn memory(guests: &Vec<Guest>, guest: usize) -> &GuestMemory
 #[inline(always)]
 pub fn take_memory(alloc: Global, guests: &mut Vec<Guest>, guest: usize) -> GuestMemory
     requires { guest < length guests.old.items }
-    ensures memory { result ≡ linear_in (seen guests.old.items) guest }
-    ensures rest { seen guests.new.items ≡ with_linear (seen guests.old.items) guest (untold []) }
+    ensures memory { result ≡ linear_in (guests_of guests.old.items) guest }
+    ensures rest { guests_of guests.new.items ≡ with_linear (guests_of guests.old.items) guest (untold []) }
     ensures count { length guests.new.items ≡ length guests.old.items }
 {
     mem::replace(&mut guests[guest].memory, GuestMemory::empty(alloc))
@@ -52,7 +52,7 @@ pub fn take_memory(alloc: Global, guests: &mut Vec<Guest>, guest: usize) -> Gues
 #[inline(always)]
 pub fn put_memory(guests: &mut Vec<Guest>, guest: usize, memory: GuestMemory)
     requires { guest < length guests.old.items }
-    ensures guests { seen guests.new.items ≡ with_linear (seen guests.old.items) guest memory }
+    ensures guests { guests_of guests.new.items ≡ with_linear (guests_of guests.old.items) guest memory }
     ensures count { length guests.new.items ≡ length guests.old.items }
 {
     guests[guest].memory = memory;
@@ -72,10 +72,10 @@ fn receive_behind(
     requires behind { from < to }
     requires there { to < length guests.old }
     requires source_holds { source + item_size (scalars_of payload) * count
-        ≤ length (memory_in (seen guests.old) from) }
+        ≤ length (memory_in (guests_of guests.old) from) }
     requires target_holds { target + item_size (scalars_of payload) * count
-        ≤ length (memory_in (seen guests.old) to) }
-    ensures received { Receives payload count (seen guests.old) (seen guests.new) from source to target result }
+        ≤ length (memory_in (guests_of guests.old) to) }
+    ensures received { Receives payload count (guests_of guests.old) (guests_of guests.new) from source to target result }
     ensures length { length guests.new ≡ length guests.old }
 {
     let (low, high) = guests.split_at_mut(to);
@@ -100,10 +100,10 @@ fn receive_before(
     requires before { to < from }
     requires there { from < length guests.old }
     requires source_holds { source + item_size (scalars_of payload) * count
-        ≤ length (memory_in (seen guests.old) from) }
+        ≤ length (memory_in (guests_of guests.old) from) }
     requires target_holds { target + item_size (scalars_of payload) * count
-        ≤ length (memory_in (seen guests.old) to) }
-    ensures received { Receives payload count (seen guests.old) (seen guests.new) from source to target result }
+        ≤ length (memory_in (guests_of guests.old) to) }
+    ensures received { Receives payload count (guests_of guests.old) (guests_of guests.new) from source to target result }
     ensures length { length guests.new ≡ length guests.old }
 {
     let (low, high) = guests.split_at_mut(from);
@@ -129,10 +129,10 @@ pub fn receive_between(
     requires from_there { from < length guests.old.items }
     requires to_there { to < length guests.old.items }
     requires source_holds { source + item_size (scalars_of payload) * count
-        ≤ length (memory_in (seen guests.old.items) from) }
+        ≤ length (memory_in (guests_of guests.old.items) from) }
     requires target_holds { target + item_size (scalars_of payload) * count
-        ≤ length (memory_in (seen guests.old.items) to) }
-    ensures received { Receives payload count (seen guests.old.items) (seen guests.new.items) from source to target result }
+        ≤ length (memory_in (guests_of guests.old.items) to) }
+    ensures received { Receives payload count (guests_of guests.old.items) (guests_of guests.new.items) from source to target result }
     ensures length { length guests.new.items ≡ length guests.old.items }
 {
     if from < to {
@@ -161,8 +161,8 @@ pub fn receive_between(
 /// Where a guest's memory lies, which is told: from now on it lies there. Takes no memory.
 pub fn tell_base(guests: &mut Vec<Guest>, guest: usize) -> *const u8
     requires { guest < length guests.old.items }
-    ensures told { seen guests.new.items ≡ with_base (seen guests.old.items) guest result }
-    ensures again { IfSome (base_in (seen guests.old.items) guest) (λ base. result ≡ base) }
+    ensures told { guests_of guests.new.items ≡ with_base (guests_of guests.old.items) guest result }
+    ensures again { IfSome (base_in (guests_of guests.old.items) guest) (λ base. result ≡ base) }
     ensures count { length guests.new.items ≡ length guests.old.items }
 {
     let memory = &mut guests[guest].memory;
@@ -172,10 +172,10 @@ pub fn tell_base(guests: &mut Vec<Guest>, guest: usize) -> *const u8
 /// Puts bytes into a guest's memory.
 pub fn write_bytes(guests: &mut Vec<Guest>, guest: usize, address: u32, bytes: &[u8])
     requires there { guest < length guests.old.items }
-    requires inside { bytes_out_of_bounds (length (memory_in (seen guests.old.items) guest)) address
+    requires inside { bytes_out_of_bounds (length (memory_in (guests_of guests.old.items) guest)) address
         (length bytes.now) ≡ false }
-    ensures guests { seen guests.new.items ≡ with_memory (seen guests.old.items) guest
-        (put_at (memory_in (seen guests.old.items) guest) address bytes.now) }
+    ensures guests { guests_of guests.new.items ≡ with_memory (guests_of guests.old.items) guest
+        (put_at (memory_in (guests_of guests.old.items) guest) address bytes.now) }
     ensures count { length guests.new.items ≡ length guests.old.items }
 {
     let memory = &mut guests[guest].memory;
@@ -185,9 +185,9 @@ pub fn write_bytes(guests: &mut Vec<Guest>, guest: usize, address: u32, bytes: &
 /// So many bytes of a guest's memory.
 pub fn read_bytes(guests: &Vec<Guest>, guest: usize, address: u32, len: u32) -> &[u8]
     requires there { guest < length guests.now.items }
-    requires inside { bytes_out_of_bounds (length (memory_in (seen guests.now.items) guest)) address
+    requires inside { bytes_out_of_bounds (length (memory_in (guests_of guests.now.items) guest)) address
         len ≡ false }
-    ensures exact { result.now ≡ take len (drop address (memory_in (seen guests.now.items) guest)) }
+    ensures exact { result.now ≡ take len (drop address (memory_in (guests_of guests.now.items) guest)) }
     ensures most { length result.now ≤ len }
 {
     let bytes = memory(guests, guest).bytes();

@@ -17,8 +17,8 @@ ghost use Rattle.std.specs.Prelude.{false};
 ghost use Rattle.strm_machine.specs.Meetings.{begun, advanced, meeting_of, carried};
 ghost use Rattle.strm_machine.specs.Turns.{with_received, answers, completes_alone, moves, rendezvous, turn};
 ghost use Rattle.strm_machine.specs.Soundness.{sizes_of, IsPlaced, StreamIsPlaced};
-ghost use Rattle.strm_channels.specs.Guests.{seen};
-ghost use Rattle.strm_channels.specs.Taking.{taken};
+ghost use Rattle.strm_channels.specs.Guests.{guests_of};
+ghost use Rattle.strm_channels.specs.Meetings.{meeting_answered};
 
 use crate::channels::Channel;
 use crate::guests::{Guest, put_memory, receive_between, take_memory};
@@ -122,11 +122,11 @@ fn carry_within(
     requires there { read.now.guest < length guests.old.items }
     requires numbers { IsTrue (is_number_or_none payload) }
     requires source { write.now.address + item_size (scalars_of payload) * count
-        ≤ length (memory_in (seen guests.old.items) read.now.guest) }
+        ≤ length (memory_in (guests_of guests.old.items) read.now.guest) }
     requires target { read.now.address + item_size (scalars_of payload) * count
-        ≤ length (memory_in (seen guests.old.items) read.now.guest) }
-    ensures carried { carried (seen guests.old.items) payload write.now read.now count
-        ≡ Some (seen guests.new.items) }
+        ≤ length (memory_in (guests_of guests.old.items) read.now.guest) }
+    ensures carried { carried (guests_of guests.old.items) payload write.now read.now count
+        ≡ Some (guests_of guests.new.items) }
     ensures length { length guests.new.items ≡ length guests.old.items }
 {
     let to = read.guest as usize;
@@ -158,14 +158,14 @@ fn carry_between(
     requires writer { write.now.guest < length guests.old.items }
     requires reader { read.now.guest < length guests.old.items }
     requires source { write.now.address + item_size (scalars_of payload) * count
-        ≤ length (memory_in (seen guests.old.items) write.now.guest) }
+        ≤ length (memory_in (guests_of guests.old.items) write.now.guest) }
     requires target { read.now.address + item_size (scalars_of payload) * count
-        ≤ length (memory_in (seen guests.old.items) read.now.guest) }
-    ensures ok { OnOk result (carried (seen guests.old.items) payload write.now read.now count
-        ≡ Some (seen guests.new.items)) }
-    ensures bad { OnErr result (carried (seen guests.old.items) payload write.now read.now count
+        ≤ length (memory_in (guests_of guests.old.items) read.now.guest) }
+    ensures ok { OnOk result (carried (guests_of guests.old.items) payload write.now read.now count
+        ≡ Some (guests_of guests.new.items)) }
+    ensures bad { OnErr result (carried (guests_of guests.old.items) payload write.now read.now count
         ≡ None) }
-    ensures err { OnErr result (seen guests.new.items ≡ seen guests.old.items) }
+    ensures err { OnErr result (guests_of guests.new.items ≡ guests_of guests.old.items) }
     ensures length { length guests.new.items ≡ length guests.old.items }
 {
     let (from, to) = (write.guest as usize, read.guest as usize);
@@ -193,16 +193,16 @@ fn carry(
     requires writer { write.now.guest < length guests.old.items }
     requires reader { read.now.guest < length guests.old.items }
     requires numbers { write.now.guest ≡ read.now.guest → IsTrue (is_number_or_none payload) }
-    requires source { is_out_of_bounds (length (memory_in (seen guests.old.items) write.now.guest))
+    requires source { is_out_of_bounds (length (memory_in (guests_of guests.old.items) write.now.guest))
         (scalars_of payload) write.now.address count ≡ false }
-    requires target { is_out_of_bounds (length (memory_in (seen guests.old.items) read.now.guest))
+    requires target { is_out_of_bounds (length (memory_in (guests_of guests.old.items) read.now.guest))
         (scalars_of payload) read.now.address count ≡ false }
     requires some { 0 < count }
-    ensures ok { OnOk result (carried (seen guests.old.items) payload write.now read.now count
-        ≡ Some (seen guests.new.items)) }
-    ensures bad { OnErr result (carried (seen guests.old.items) payload write.now read.now count
+    ensures ok { OnOk result (carried (guests_of guests.old.items) payload write.now read.now count
+        ≡ Some (guests_of guests.new.items)) }
+    ensures bad { OnErr result (carried (guests_of guests.old.items) payload write.now read.now count
         ≡ None) }
-    ensures err { OnErr result (seen guests.new.items ≡ seen guests.old.items) }
+    ensures err { OnErr result (guests_of guests.new.items ≡ guests_of guests.old.items) }
     ensures length { length guests.new.items ≡ length guests.old.items }
 {
     if payload.size() == 0 {
@@ -226,17 +226,17 @@ fn carry_from(
     theirs: &Operation,
     count: ItemCount,
 ) -> Result<(), BadItem>
-    requires mine { IsPlaced (sizes_of (seen guests.old.items)) payload mine.now }
-    requires theirs { IsPlaced (sizes_of (seen guests.old.items)) payload theirs.now }
+    requires mine { IsPlaced (sizes_of (guests_of guests.old.items)) payload mine.now }
+    requires theirs { IsPlaced (sizes_of (guests_of guests.old.items)) payload theirs.now }
     requires numbers { mine.now.guest ≡ theirs.now.guest → IsTrue (is_number_or_none payload) }
     requires mine_left { count ≤ mine.now.left }
     requires theirs_left { count ≤ theirs.now.left }
     requires some { 0 < count }
-    ensures ok { OnOk result (carried (seen guests.old.items) payload (write_of side mine.now theirs.now)
-        (read_of side mine.now theirs.now) count ≡ Some (seen guests.new.items)) }
-    ensures bad { OnErr result (carried (seen guests.old.items) payload (write_of side mine.now theirs.now)
+    ensures ok { OnOk result (carried (guests_of guests.old.items) payload (write_of side mine.now theirs.now)
+        (read_of side mine.now theirs.now) count ≡ Some (guests_of guests.new.items)) }
+    ensures bad { OnErr result (carried (guests_of guests.old.items) payload (write_of side mine.now theirs.now)
         (read_of side mine.now theirs.now) count ≡ None) }
-    ensures err { OnErr result (seen guests.new.items ≡ seen guests.old.items) }
+    ensures err { OnErr result (guests_of guests.new.items ≡ guests_of guests.old.items) }
 {
     let write = write_of(side, mine, theirs);
     let read = read_of(side, mine, theirs);
@@ -257,18 +257,18 @@ fn exchange(
     requires payload { payload.now ≡ stream.old.payload }
     requires there { (end_of (opposite side) stream.old).operation ≡ Some theirs.now }
     requires open { theirs.now.is_open ≡ true }
-    requires mine { IsPlaced (sizes_of (seen guests.old.items)) stream.old.payload mine.now }
-    requires theirs { IsPlaced (sizes_of (seen guests.old.items)) stream.old.payload theirs.now }
+    requires mine { IsPlaced (sizes_of (guests_of guests.old.items)) stream.old.payload mine.now }
+    requires theirs { IsPlaced (sizes_of (guests_of guests.old.items)) stream.old.payload theirs.now }
     requires numbers { mine.now.guest ≡ theirs.now.guest
         → IsTrue (is_number_or_none stream.old.payload) }
     requires some { 0 < min mine.now.left theirs.now.left }
     requires room { theirs.now.address
         + item_size (scalars_of stream.old.payload) * min mine.now.left theirs.now.left < 2 ^ 32 }
-    ensures { moves side (seen guests.old.items) stream.old mine.now theirs.now
+    ensures { moves side (guests_of guests.old.items) stream.old mine.now theirs.now
         (min mine.now.left theirs.now.left)
-        (carried (seen guests.old.items) stream.old.payload (write_of side mine.now theirs.now)
+        (carried (guests_of guests.old.items) stream.old.payload (write_of side mine.now theirs.now)
         (read_of side mine.now theirs.now) (min mine.now.left theirs.now.left))
-        ≡ taken result guests.new.items stream.new }
+        ≡ meeting_answered result guests.new.items stream.new }
 {
     let count = lesser(mine.left, theirs.left);
     carry_from(alloc, guests, *payload, side, mine, theirs, count)?;
@@ -293,12 +293,12 @@ fn meet(
     requires begun { mine ≡ begun mine.guest mine.address mine.left }
     requires there { (end_of (opposite side) stream.old).operation ≡ Some theirs }
     requires open { theirs.is_open ≡ true }
-    requires mine { IsPlaced (sizes_of (seen guests.old.items)) stream.old.payload mine }
-    requires theirs { IsPlaced (sizes_of (seen guests.old.items)) stream.old.payload theirs }
+    requires mine { IsPlaced (sizes_of (guests_of guests.old.items)) stream.old.payload mine }
+    requires theirs { IsPlaced (sizes_of (guests_of guests.old.items)) stream.old.payload theirs }
     requires numbers { mine.guest ≡ theirs.guest → IsTrue (is_number_or_none stream.old.payload) }
-    requires sizes { sum (sizes_of (seen guests.old.items)) ≤ 268435456 }
-    ensures { rendezvous side (seen guests.old.items) stream.old mine theirs
-        ≡ taken result guests.new.items stream.new }
+    requires sizes { sum (sizes_of (guests_of guests.old.items)) ≤ 268435456 }
+    ensures { rendezvous side (guests_of guests.old.items) stream.old mine theirs
+        ≡ meeting_answered result guests.new.items stream.new }
 {
     let met = match side {
         Side::Writing => meeting(mine.left, theirs.left),
@@ -326,13 +326,13 @@ pub fn meet_or_wait(
     requires payload { payload.now ≡ stream.old.payload }
     requires idle { (end_of side stream.old).operation ≡ None }
     requires begun { mine ≡ begun mine.guest mine.address mine.left }
-    requires placed { StreamIsPlaced (sizes_of (seen guests.old.items)) stream.old }
-    requires mine { IsPlaced (sizes_of (seen guests.old.items)) stream.old.payload mine }
-    requires sizes { sum (sizes_of (seen guests.old.items)) ≤ 268435456 }
+    requires placed { StreamIsPlaced (sizes_of (guests_of guests.old.items)) stream.old }
+    requires mine { IsPlaced (sizes_of (guests_of guests.old.items)) stream.old.payload mine }
+    requires sizes { sum (sizes_of (guests_of guests.old.items)) ≤ 268435456 }
     requires numbers { IsTrue (is_open_of mine.guest (end_of (opposite side) stream.old).operation)
         → IsTrue (is_number_or_none stream.old.payload) }
-    ensures { turn side (seen guests.old.items) stream.old mine
-        ≡ taken result guests.new.items stream.new }
+    ensures { turn side (guests_of guests.old.items) stream.old mine
+        ≡ meeting_answered result guests.new.items stream.new }
 {
     if stream.owner(opposite(side)) == Owner::Gone {
         stream.learn(side);

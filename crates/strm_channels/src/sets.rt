@@ -9,10 +9,10 @@ ghost use Rattle.strm_handles.specs.Handles.{next_index, inserted, live_of};
 ghost use Rattle.strm_handles.specs.Counters.{counted, uncounted};
 ghost use Rattle.strm_handles.specs.Lookups.{waitable_set_rep_of};
 ghost use Rattle.strm_handles.specs.declared.entries.Entry.TheVariants.{WaitableSet};
-ghost use Rattle.strm_waitable_sets.specs.Sets.{members, set_of, is_there, joined, left, HasNoMember};
+ghost use Rattle.strm_waitable_sets.specs.Sets.{members, set_of, is_set_there, handle_joined, handle_left, HasNoMember};
 ghost use Rattle.strm_machine.specs.State.{guest_in, sets_in, with_sets};
 ghost use Rattle.strm_machine.specs.WaitableSets.{has_some};
-ghost use Rattle.strm_channels.specs.Guests.{guest_of, seen, live_in, sets_among, with_set_of, with_set_in, without_set_in};
+ghost use Rattle.strm_channels.specs.Guests.{guest_of, guests_of, live_in, sets_among, with_set_of, with_set_in, without_set_in};
 
 use crate::guests::Guest;
 use strm_codes::counts::OutOfMemory;
@@ -62,17 +62,17 @@ pub fn give_set(
     guest: usize,
 ) -> Result<u32, OutOfMemory>
     requires there { guest < length guests.old.items }
-    requires small { next_index (guest_in (seen guests.old.items) guest).handles < 2 ^ 28 }
+    requires small { next_index (guest_in (guests_of guests.old.items) guest).handles < 2 ^ 28 }
     requires below { counter.old.live < counter.old.limit }
     ensures number { IfOk result (λ number. number
-        ≡ next_index (guest_in (seen guests.old.items) guest).handles) }
-    ensures guests { OnOk result (seen guests.new.items ≡ with_set_in (seen guests.old.items) guest) }
+        ≡ next_index (guest_in (guests_of guests.old.items) guest).handles) }
+    ensures guests { OnOk result (guests_of guests.new.items ≡ with_set_in (guests_of guests.old.items) guest) }
     ensures counter { OnOk result (counter.new ≡ counted counter.old) }
     ensures live { OnOk result
-        (live_in (seen guests.new.items) ≡ live_in (seen guests.old.items) + 1) }
+        (live_in (guests_of guests.new.items) ≡ live_in (guests_of guests.old.items) + 1) }
     ensures sets { OnOk result
-        (sets_among (seen guests.new.items) ≡ sets_among (seen guests.old.items) + 1) }
-    ensures err { OnErr result (seen guests.new.items ≡ seen guests.old.items) }
+        (sets_among (guests_of guests.new.items) ≡ sets_among (guests_of guests.old.items) + 1) }
+    ensures err { OnErr result (guests_of guests.new.items ≡ guests_of guests.old.items) }
     ensures kept { OnErr result (counter.new ≡ counter.old) }
     ensures count { length guests.new.items ≡ length guests.old.items }
 {
@@ -88,16 +88,16 @@ pub fn remove_set(
     set: u32,
 )
     requires there { guest < length guests.old.items }
-    requires named { waitable_set_rep_of (guest_in (seen guests.old.items) guest).handles handle
+    requires named { waitable_set_rep_of (guest_in (guests_of guests.old.items) guest).handles handle
         ≡ Ok set }
-    requires made { is_there (sets_in (seen guests.old.items) guest) set ≡ true }
-    requires empty { HasNoMember (sets_in (seen guests.old.items) guest) set }
-    requires live { live_in (seen guests.old.items) ≤ counter.old.live }
-    ensures guests { seen guests.new.items
-        ≡ without_set_in (seen guests.old.items) guest handle set }
+    requires made { is_set_there (sets_in (guests_of guests.old.items) guest) set ≡ true }
+    requires empty { HasNoMember (sets_in (guests_of guests.old.items) guest) set }
+    requires live { live_in (guests_of guests.old.items) ≤ counter.old.live }
+    ensures guests { guests_of guests.new.items
+        ≡ without_set_in (guests_of guests.old.items) guest handle set }
     ensures counter { counter.new ≡ uncounted counter.old }
-    ensures live { live_in (seen guests.new.items) + 1 ≡ live_in (seen guests.old.items) }
-    ensures sets { sets_among (seen guests.new.items) + 1 ≡ sets_among (seen guests.old.items) }
+    ensures live { live_in (guests_of guests.new.items) + 1 ≡ live_in (guests_of guests.old.items) }
+    ensures sets { sets_among (guests_of guests.new.items) + 1 ≡ sets_among (guests_of guests.old.items) }
     ensures count { length guests.new.items ≡ length guests.old.items }
 {
     let guest = &mut guests[guest];
@@ -114,10 +114,10 @@ pub fn join_set(
     handle: u32,
 ) -> Result<(), OutOfMemory>
     requires there { guest < length guests.old.items }
-    requires made { is_there (sets_in (seen guests.old.items) guest) set ≡ true }
-    ensures ok { OnOk result (seen guests.new.items ≡ with_sets (seen guests.old.items) guest
-        (joined (sets_in (seen guests.old.items) guest) handle set)) }
-    ensures err { OnErr result (seen guests.new.items ≡ seen guests.old.items) }
+    requires made { is_set_there (sets_in (guests_of guests.old.items) guest) set ≡ true }
+    ensures ok { OnOk result (guests_of guests.new.items ≡ with_sets (guests_of guests.old.items) guest
+        (handle_joined (sets_in (guests_of guests.old.items) guest) handle set)) }
+    ensures err { OnErr result (guests_of guests.new.items ≡ guests_of guests.old.items) }
     ensures count { length guests.new.items ≡ length guests.old.items }
 {
     guests[guest].sets.join(handle, set)
@@ -126,8 +126,8 @@ pub fn join_set(
 /// Takes a handle out of the set of its guest that it is in, if it is in one.
 pub fn leave_set(guests: &mut Vec<Guest>, guest: usize, handle: u32)
     requires there { guest < length guests.old.items }
-    ensures guests { seen guests.new.items ≡ with_sets (seen guests.old.items) guest
-        (left (sets_in (seen guests.old.items) guest) handle) }
+    ensures guests { guests_of guests.new.items ≡ with_sets (guests_of guests.old.items) guest
+        (handle_left (sets_in (guests_of guests.old.items) guest) handle) }
     ensures count { length guests.new.items ≡ length guests.old.items }
 {
     guests[guest].sets.leave(handle);
@@ -136,7 +136,7 @@ pub fn leave_set(guests: &mut Vec<Guest>, guest: usize, handle: u32)
 /// Whether a guest's handle is in a set.
 pub fn is_in_set(guests: &Vec<Guest>, guest: usize, handle: u32) -> bool
     requires { guest < length guests.now.items }
-    ensures { result ≡ is_some (set_of (sets_in (seen guests.now.items) guest) handle) }
+    ensures { result ≡ is_some (set_of (sets_in (guests_of guests.now.items) guest) handle) }
 {
     guests[guest].sets.set_of(handle).is_some()
 }
@@ -144,8 +144,8 @@ pub fn is_in_set(guests: &Vec<Guest>, guest: usize, handle: u32) -> bool
 /// Whether a guest's set has a member.
 pub fn has_member(guests: &Vec<Guest>, guest: usize, set: u32) -> bool
     requires there { guest < length guests.now.items }
-    requires made { is_there (sets_in (seen guests.now.items) guest) set ≡ true }
-    ensures { result ≡ has_some (members (sets_in (seen guests.now.items) guest) set) }
+    requires made { is_set_there (sets_in (guests_of guests.now.items) guest) set ≡ true }
+    ensures { result ≡ has_some (members (sets_in (guests_of guests.now.items) guest) set) }
 {
     guests[guest].sets.poll(set, |_handle| true).is_some()
 }

@@ -8,7 +8,7 @@ use Rattle.std.specs.Prelude.{nat_lt, option_map, option_and_then}
 use Rattle.strm_resources.specs.Nodes.{node_at, parent_at, children_at, children_of, is_childless, new_node, cut_from, cut, filled}
 use Rattle.strm_resources.specs.Links as links
 use Rattle.strm_resources.proofs.NodeLemmas.{lacks-childless, empty_is_childless}
-use Rattle.strm_error_contexts.specs.Contexts.{Context, Contexts, with_handles, AreKept}
+use Rattle.strm_error_contexts.specs.Contexts.{Context, Contexts, context_with_handles, AreContextsKept}
 use Rattle.strm_error_contexts.specs.Inside.{lone_node, lone_nodes}
 
 is_some-lone_node : (o : Option Context) → is_some (lone_node o) ≡ is_some o
@@ -50,17 +50,17 @@ pub lone-emptied : (slots : List (Option Context)) (number : ℕ) → lone_nodes
 lone-emptied slots number =
     map-set lone_node slots number None ∙ ap (λ nodes. set nodes number None) (sym (ap (cut_from (lone_nodes slots) number) (parent-lone slots number)))
 
-lone-with_handles : (handles : ℕ) (o : Option Context) → lone_node (option_map (with_handles handles) o) ≡ lone_node o
+lone-with_handles : (handles : ℕ) (o : Option Context) → lone_node (option_map (context_with_handles handles) o) ≡ lone_node o
 lone-with_handles handles None = refl
 lone-with_handles handles (Some c) = refl
 
-pub lone-counted : (slots : List (Option Context)) (number handles : ℕ) → lone_nodes (set slots number (option_map (with_handles handles) (get_or slots number None))) ≡ lone_nodes slots
+pub lone-counted : (slots : List (Option Context)) (number handles : ℕ) → lone_nodes (set slots number (option_map (context_with_handles handles) (get_or slots number None))) ≡ lone_nodes slots
 lone-counted slots number handles = map-set_same lone_node slots number _ None (lone-with_handles handles (get_or slots number None))
 
 -- ---- what is kept
 
 -- of contexts that are kept, their nodes are
-pub links-kept : (contexts : Contexts) → AreKept contexts → links.AreKept (lone_nodes contexts.slots) contexts.freed
+pub links-kept : (contexts : Contexts) → AreContextsKept contexts → links.IsLinked (lone_nodes contexts.slots) contexts.freed
 links-kept contexts kept = record {
   vacant = λ number.
       kept.vacant number
@@ -73,7 +73,7 @@ links-kept contexts kept = record {
 }
 
 -- and back
-pub vacant-from_links : (slots : List (Option Context)) (freed : List ℕ) → links.AreKept (lone_nodes slots) freed → (number : ℕ) → links.is_among freed number ≡ (nat_lt number (length slots) && not (is_some (get_or slots number None)))
+pub vacant-from_links : (slots : List (Option Context)) (freed : List ℕ) → links.IsLinked (lone_nodes slots) freed → (number : ℕ) → links.is_among freed number ≡ (nat_lt number (length slots) && not (is_some (get_or slots number None)))
 vacant-from_links slots freed kept number =
     kept.vacant number
     ∙ ap (λ n. nat_lt number n && not (is_some (node_at (lone_nodes slots) number))) (length-lone slots)

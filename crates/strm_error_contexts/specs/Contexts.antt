@@ -5,7 +5,7 @@
 use Rattle.std.specs.Prelude.{◌≡◌, ℕ, ◌+◌, ◌-◌, ◌<◌, Bool, true, not, ◌&&◌, nat_eq, nat_lt, if◌then◌else◌, List, [], ◌∷◌, length, drop, slice_index_or, slice_set, count_by, Option, Some, None, option_map, is_some, refl}
 use Rattle.std.specs.Coded.{Coded, code_by, coded×, coded_ℕ, coded_list, coded_option}
 use Rattle.std.specs.List.{IsDistinct}
-use Rattle.strm_resources.specs.Nodes.{next_of, filled}
+use Rattle.strm_resources.specs.Nodes.{next_node, filled}
 use Rattle.strm_resources.specs.Links.{is_among}
 
 -- an error context: its message, as UTF-8, and the number of handles to it in all tables
@@ -47,21 +47,21 @@ abbrev pub context_at : Contexts → ℕ → Option Context
 context_at contexts number = slice_index_or contexts.slots number None
 
 -- a context has this number
-abbrev pub is_there : Contexts → ℕ → Bool
-is_there contexts number = is_some (context_at contexts number)
+abbrev pub is_context_there : Contexts → ℕ → Bool
+is_context_there contexts number = is_some (context_at contexts number)
 
 -- the message of a context
 abbrev pub message_at : Contexts → ℕ → Option (List ℕ)
 message_at contexts number = option_map (λ context. context.message) (context_at contexts number)
 
 -- the number of handles to a context; none where there is no context
-abbrev pub handles_of : Option Context → ℕ
-handles_of None = 0
-handles_of (Some context) = context.handles
+abbrev pub handles_of_context : Option Context → ℕ
+handles_of_context None = 0
+handles_of_context (Some context) = context.handles
 
 -- the number of handles to the context of a number; none where it has none
 abbrev pub count_at : Contexts → ℕ → ℕ
-count_at contexts number = handles_of (context_at contexts number)
+count_at contexts number = handles_of_context (context_at contexts number)
 
 -- how many contexts there are
 abbrev pub len : Contexts → ℕ
@@ -69,7 +69,7 @@ len contexts = count_by is_some contexts.slots
 
 -- the number that the next context gets: the one freed last, else the next new one
 abbrev pub next_number : Contexts → ℕ
-next_number contexts = next_of contexts.freed (length contexts.slots)
+next_number contexts = next_node contexts.freed (length contexts.slots)
 
 -- a context with this message, and one handle
 abbrev pub new_context : List ℕ → Context
@@ -83,22 +83,22 @@ inserted contexts message = record {
 }
 
 -- a context with so many handles
-abbrev pub with_handles : ℕ → Context → Context
-with_handles handles context = record context { handles = handles }
+abbrev pub context_with_handles : ℕ → Context → Context
+context_with_handles handles context = record context { handles = handles }
 
 -- so many handles to the context of a number
-abbrev pub counted : Contexts → ℕ → ℕ → Contexts
-counted contexts number handles = record contexts {
-  slots = slice_set contexts.slots number (option_map (with_handles handles) (context_at contexts number));
+abbrev pub context_counted : Contexts → ℕ → ℕ → Contexts
+context_counted contexts number handles = record contexts {
+  slots = slice_set contexts.slots number (option_map (context_with_handles handles) (context_at contexts number));
 }
 
 -- a handle more to a context
 abbrev pub raised : Contexts → ℕ → Contexts
-raised contexts number = counted contexts number (count_at contexts number + 1)
+raised contexts number = context_counted contexts number (count_at contexts number + 1)
 
 -- a handle less to a context that has several
-abbrev pub lowered : Contexts → ℕ → Contexts
-lowered contexts number = counted contexts number (count_at contexts number - 1)
+abbrev pub context_lowered : Contexts → ℕ → Contexts
+context_lowered contexts number = context_counted contexts number (count_at contexts number - 1)
 
 -- without a context, whose number is given first from now on
 abbrev pub removed : Contexts → ℕ → Contexts
@@ -108,14 +108,14 @@ removed contexts number = record {
 }
 
 -- a handle less to a context, which goes with its last
-abbrev pub dropped : Contexts → ℕ → Contexts
-dropped contexts number =
-    if nat_lt 1 (count_at contexts number) then lowered contexts number else removed contexts number
+abbrev pub context_dropped : Contexts → ℕ → Contexts
+context_dropped contexts number =
+    if nat_lt 1 (count_at contexts number) then context_lowered contexts number else removed contexts number
 
 -- a context that is there has a handle, and the freed numbers are those below the length that have no
 -- context, each once
-pub record AreKept (contexts : Contexts) : Type 0 where
-  pub handled : (number : ℕ) → is_there contexts number ≡ true → 0 < count_at contexts number
+pub record AreContextsKept (contexts : Contexts) : Type 0 where
+  pub handled : (number : ℕ) → is_context_there contexts number ≡ true → 0 < count_at contexts number
   pub vacant : (number : ℕ) → is_among contexts.freed number
-      ≡ (nat_lt number (length contexts.slots) && not (is_there contexts number))
+      ≡ (nat_lt number (length contexts.slots) && not (is_context_there contexts number))
   pub apart : IsDistinct nat_eq contexts.freed

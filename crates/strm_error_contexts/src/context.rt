@@ -4,7 +4,7 @@
 //! `GlobalErrorContextRefCount`, which are one here.
 
 ghost use Rattle.std.specs.Prelude.{◌≡◌, ◌+◌, ◌-◌, ◌<◌, ◌^◌, string_bytes};
-ghost use Rattle.strm_error_contexts.specs.Contexts.{with_handles, new_context};
+ghost use Rattle.strm_error_contexts.specs.Contexts.{context_with_handles, new_context};
 
 use std::marker::Model;
 use strm_resources::kinds::{Resident, Tag};
@@ -55,7 +55,7 @@ impl ErrorContext {
     /// Counts a handle more.
     pub(crate) fn raise(&mut self)
         requires { self.old.handles + 1 < 2 ^ 64 }
-        ensures { self.new ≡ with_handles (self.old.handles + 1) self.old }
+        ensures { self.new ≡ context_with_handles (self.old.handles + 1) self.old }
     {
         self.handles += 1;
     }
@@ -63,7 +63,7 @@ impl ErrorContext {
     /// Counts a handle less.
     pub(crate) fn lower(&mut self)
         requires { 0 < self.old.handles }
-        ensures { self.new ≡ with_handles (self.old.handles - 1) self.old }
+        ensures { self.new ≡ context_with_handles (self.old.handles - 1) self.old }
     {
         self.handles -= 1;
     }

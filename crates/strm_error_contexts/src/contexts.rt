@@ -7,7 +7,7 @@
 ghost use Rattle.std.specs.Prelude.{◌≡◌, ◌+◌, ◌-◌, ◌<◌, ◌^◌, ◌==◌, nat_lt, not, true, false, is_some, IfOk, OnOk, OnErr, option_copied};
 ghost use Rattle.strm_resources.specs.Nodes.{is_childless};
 ghost use Rattle.strm_resources.specs.Entries.{value_at, children_of, deleted};
-ghost use Rattle.strm_error_contexts.specs.Contexts.{no_contexts, context_at, is_there, message_at, handles_of, count_at, len, next_number, inserted, raised, dropped, AreKept};
+ghost use Rattle.strm_error_contexts.specs.Contexts.{no_contexts, context_at, is_context_there, message_at, handles_of_context, count_at, len, next_number, inserted, raised, context_dropped, AreContextsKept};
 ghost use Rattle.strm_error_contexts.specs.Inside.{with_handles_at};
 
 use crate::context::{ContextKey, ErrorContext};
@@ -27,15 +27,15 @@ pub struct ErrorContexts {
 
 impl Model for ErrorContexts {
     ghost use Rattle.strm_error_contexts.specs.Contexts.{Contexts, contexts_code};
-    ghost use Rattle.strm_error_contexts.specs.Inside.{seen, AreHeld};
+    ghost use Rattle.strm_error_contexts.specs.Inside.{contexts_of, AreContextsHeld};
 
     ghost Value = { Contexts };
 
     ghost coded = { contexts_code };
 
-    ghost view = { λ c. seen c.table.entries };
+    ghost view = { λ c. contexts_of c.table.entries };
 
-    ghost invariant = { λ c. AreHeld c.table.entries c.len };
+    ghost invariant = { λ c. AreContextsHeld c.table.entries c.len };
 }
 
 impl ErrorContexts {
@@ -64,7 +64,7 @@ impl ErrorContexts {
 
     /// Whether a context has this number.
     pub fn is_there(&self, number: u32) -> bool
-        ensures { result ≡ is_there self.now number }
+        ensures { result ≡ is_context_there self.now number }
     {
         self.context(number).is_some()
     }
@@ -107,7 +107,7 @@ impl ErrorContexts {
     /// one. Where there is no memory, or no number of 32 bits is left, nothing changes.
     pub fn insert(&mut self, message: &str) -> Result<u32, OutOfMemory>
         ensures number { IfOk result (λ number. number ≡ next_number self.old) }
-        ensures there { IfOk result (λ number. is_there self.new number ≡ true) }
+        ensures there { IfOk result (λ number. is_context_there self.new number ≡ true) }
         ensures ok { OnOk result (self.new ≡ inserted self.old message.now) }
         ensures err { OnErr result (self.new ≡ self.old) }
     {
@@ -125,7 +125,7 @@ impl ErrorContexts {
 
     /// Counts a handle more to a context: it was transferred or lowered. No memory is taken.
     pub fn add_handle(&mut self, number: u32)
-        requires there { is_there self.old number ≡ true }
+        requires there { is_context_there self.old number ≡ true }
         requires fits { count_at self.old number + 1 < 2 ^ 64 }
         ensures { self.new ≡ raised self.old number }
     {
@@ -135,10 +135,10 @@ impl ErrorContexts {
     /// Counts a handle less to a context, and answers whether it was the last one; the context then
     /// goes, and its number is the one given next. No memory is taken.
     pub fn drop_handle(&mut self, number: u32) -> bool
-        requires there { is_there self.old number ≡ true }
+        requires there { is_context_there self.old number ≡ true }
         ensures last { result ≡ (count_at self.old number == 1) }
-        ensures gone { is_there self.new number ≡ not result }
-        ensures dropped { self.new ≡ dropped self.old number }
+        ensures gone { is_context_there self.new number ≡ not result }
+        ensures dropped { self.new ≡ context_dropped self.old number }
     {
         if self.has_several(number) {
             lower_at(&mut self.table, number);
@@ -151,8 +151,8 @@ impl ErrorContexts {
 
     /// A context that is there has a handle, and the number given next has no context.
     pub fn are_kept(&self)
-        ensures kept { AreKept self.now }
-        ensures next { is_there self.now (next_number self.now) ≡ false }
+        ensures kept { AreContextsKept self.now }
+        ensures next { is_context_there self.now (next_number self.now) ≡ false }
     {
         let _ = &self.table;
     }
@@ -161,9 +161,9 @@ impl ErrorContexts {
 // Counts a handle more to the context of a number.
 fn raise_at(table: &mut ResourceTable<ErrorContext>, number: u32)
     requires there { is_some (value_at table.old.entries number) ≡ true }
-    requires fits { handles_of (value_at table.old.entries number) + 1 < 2 ^ 64 }
+    requires fits { handles_of_context (value_at table.old.entries number) + 1 < 2 ^ 64 }
     ensures { table.new.entries ≡ with_handles_at table.old.entries number
-        (handles_of (value_at table.old.entries number) + 1) }
+        (handles_of_context (value_at table.old.entries number) + 1) }
 {
     match table.get_any_mut(number) {
         Ok(context) => context.raise(),
@@ -174,9 +174,9 @@ fn raise_at(table: &mut ResourceTable<ErrorContext>, number: u32)
 // Counts a handle less to the context of a number.
 fn lower_at(table: &mut ResourceTable<ErrorContext>, number: u32)
     requires there { is_some (value_at table.old.entries number) ≡ true }
-    requires several { 0 < handles_of (value_at table.old.entries number) }
+    requires several { 0 < handles_of_context (value_at table.old.entries number) }
     ensures { table.new.entries ≡ with_handles_at table.old.entries number
-        (handles_of (value_at table.old.entries number) - 1) }
+        (handles_of_context (value_at table.old.entries number) - 1) }
 {
     match table.get_any_mut(number) {
         Ok(context) => context.lower(),

@@ -57,8 +57,8 @@ abbrev pub with_pending : Cell → Option Pending → Cell
 with_pending cell pending = record cell { pending = pending }
 
 -- the cell whose operation, if it has one, goes on so
-abbrev pub changed : (Pending → Pending) → Cell → Cell
-changed change cell = with_pending cell (option_map change cell.pending)
+abbrev pub cell_changed : (Pending → Pending) → Cell → Cell
+cell_changed change cell = with_pending cell (option_map change cell.pending)
 
 -- the cell after its report was taken
 abbrev pub told_cell : Cell → Cell

@@ -7,7 +7,7 @@
 ghost use Rattle.std.specs.Prelude.{◌≡◌, ◌+◌, ◌<◌, true, Some, None, is_some};
 ghost use Rattle.std.specs.Option.{option_map};
 ghost use Rattle.strm_codes.specs.Counts.{count_limit};
-ghost use Rattle.strm_events.specs.Cells.{new_cell, kept_report, just_begun, with_pending, changed, with_met, with_moved, with_outcome, with_asked, unmet, told_cell, may_meet, moved_so_far};
+ghost use Rattle.strm_events.specs.Cells.{new_cell, kept_report, just_begun, with_pending, cell_changed, with_met, with_moved, with_outcome, with_asked, unmet, told_cell, may_meet, moved_so_far};
 
 use crate::reports::{Pending, report};
 use std::marker::Model;
@@ -164,7 +164,7 @@ impl EventCell {
     pub fn met(&mut self, items: ItemCount, is_open: bool)
         requires open { may_meet self.old.pending ≡ true }
         requires counted { moved_so_far self.old.pending + items < count_limit }
-        ensures { self.new ≡ changed (with_met items is_open) self.old }
+        ensures { self.new ≡ cell_changed (with_met items is_open) self.old }
     {
         if let Some(pending) = self.pending {
             self.put(Some(Pending {
@@ -182,7 +182,7 @@ impl EventCell {
     pub fn progress(&mut self, items: ItemCount)
         requires open { may_meet self.old.pending ≡ true }
         requires counted { moved_so_far self.old.pending + items < count_limit }
-        ensures { self.new ≡ changed (with_moved items) self.old }
+        ensures { self.new ≡ cell_changed (with_moved items) self.old }
     {
         if let Some(pending) = self.pending {
             self.put(Some(Pending {
@@ -196,7 +196,7 @@ impl EventCell {
     #[inline(always)]
     pub fn settle(&mut self, outcome: StreamResult)
         requires open { may_meet self.old.pending ≡ true }
-        ensures { self.new ≡ changed (with_outcome outcome) self.old }
+        ensures { self.new ≡ cell_changed (with_outcome outcome) self.old }
     {
         if let Some(pending) = self.pending {
             self.put(Some(Pending {
@@ -212,7 +212,7 @@ impl EventCell {
     #[inline(always)]
     pub fn ask(&mut self)
         requires busy { is_some self.old.pending ≡ true }
-        ensures { self.new ≡ changed with_asked self.old }
+        ensures { self.new ≡ cell_changed with_asked self.old }
     {
         if let Some(pending) = self.pending {
             self.put(Some(Pending {
@@ -226,7 +226,7 @@ impl EventCell {
     #[inline(always)]
     pub fn withdraw(&mut self)
         requires busy { is_some self.old.pending ≡ true }
-        ensures { self.new ≡ changed unmet self.old }
+        ensures { self.new ≡ cell_changed unmet self.old }
     {
         if let Some(pending) = self.pending {
             self.put(Some(Pending {

@@ -3,7 +3,7 @@ use Rattle.std.proofs.Common.{ltb, ◌⊎◌, ◌≡◌, ◌≢◌, true, false,
 use Rattle.std.proofs.lemmas.Bool.Decides.{eqb_tells}
 use Rattle.std.proofs.lemmas.Bool.{ne_eqb, le-ltb, lt-ltb, cases_lt}
 use Rattle.std.proofs.lemmas.List.{take_at, drop_at, take-append-drop, length-replicate, length-take-le}
-use Rattle.strm_frames.specs.Frames.{Frame, Data, End, named, spelled, IsFrame}
+use Rattle.strm_frames.specs.Frames.{Frame, Data, End, lane_named, spelled, IsFrame}
 use Rattle.strm_frames.specs.Streams.{IsPartOfFrame, HasBadKind, HasNoBytes}
 use Rattle.strm_frames.specs.Fronts.{Whole, Part, Other, Empty, data_at, end_at, front_of, HasKind}
 
@@ -120,7 +120,7 @@ front-part b p = front-part_of p.frame b p.more p.is p.some p.begins
 
 -- TO THE GRAMMAR
 
-pub whole_sound : (b : List ℕ) (f : Frame) (more : List ℕ) → IsBytes b → Whole f more ≡ front_of b → (b ≡ spelled f ++ more) × IsFrame f × (named f < 256)
+pub whole_sound : (b : List ℕ) (f : Frame) (more : List ℕ) → IsBytes b → Whole f more ≡ front_of b → (b ≡ spelled f ++ more) × IsFrame f × (lane_named f < 256)
 unfolding front_of
 whole_sound [] f more t e = cc
 whole_sound (k ∷ b) f more t e =
@@ -132,7 +132,7 @@ whole_sound (k ∷ b) f more t e =
       ]
     ]
   where
-    data_sound : (k : ℕ) → k ≡ 0 → (b : List ℕ) (f : Frame) (more : List ℕ) → IsBytes (k ∷ b) → Whole f more ≡ data_at b → (k ∷ b ≡ spelled f ++ more) × IsFrame f × (named f < 256)
+    data_sound : (k : ℕ) → k ≡ 0 → (b : List ℕ) (f : Frame) (more : List ℕ) → IsBytes (k ∷ b) → Whole f more ≡ data_at b → (k ∷ b ≡ spelled f ++ more) × IsFrame f × (lane_named f < 256)
     data_sound k z [] f more t e = cc
     data_sound k z (l ∷ []) f more t e = cc
     data_sound k z (l ∷ n ∷ r) f more t e =
@@ -149,7 +149,7 @@ whole_sound (k ∷ b) f more t e =
           ]
         ]
 
-    end_sound : (k : ℕ) → k ≡ 1 → (b : List ℕ) (f : Frame) (more : List ℕ) → IsBytes (k ∷ b) → Whole f more ≡ end_at b → (k ∷ b ≡ spelled f ++ more) × IsFrame f × (named f < 256)
+    end_sound : (k : ℕ) → k ≡ 1 → (b : List ℕ) (f : Frame) (more : List ℕ) → IsBytes (k ∷ b) → Whole f more ≡ end_at b → (k ∷ b ≡ spelled f ++ more) × IsFrame f × (lane_named f < 256)
     end_sound k z [] f more t e = cc
     end_sound k z (l ∷ r) f more t e =
         let ff : f ≡ End l = cc in

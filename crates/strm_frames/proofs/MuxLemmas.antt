@@ -4,9 +4,9 @@ use Rattle.std.specs.Prelude.{◌==◌, cond}
 use Rattle.std.proofs.lemmas.Bool.Decides.{eqb_tells}
 use Rattle.std.proofs.lemmas.List.{append-nil, append_assoc, take-append-drop, take_min, drop_min}
 use Rattle.std.proofs.lemmas.List.Concat.{flat_map-append}
-use Rattle.strm_frames.specs.Frames.{Frame, Data, End, spelled, spelling, part_for, lane_in, is_end_of, ends, AreFramesAfter}
+use Rattle.strm_frames.specs.Frames.{Frame, Data, End, spelled, encoding, part_for, lane_in, is_end_of, ends, AreFramesAfter}
 use Rattle.strm_frames.specs.Demuxes.{are_unset}
-use Rattle.strm_frames.specs.Muxes.{Written, pieces_in, pieces_of, Carries, IsMux}
+use Rattle.strm_frames.specs.Muxes.{Written, pieces_in, pieces_of, MuxCarries, IsMux}
 use Rattle.strm_frames.proofs.TakingLemmas.{lane_more}
 use Rattle.strm_frames.proofs.DemuxLemmas.{or_false, ends_more, are_append, tell_more, unset}
 
@@ -42,7 +42,7 @@ pieces_some lane (b ∷ bytes) h =
 pub record PushesSoFar (lane : ℕ) (bytes rest old now : List ℕ) : Type 0 where
   pub front : List ℕ
   pub now_is : now ≡ old ++ front
-  pub goes_on : front ++ spelling (pieces_of lane rest) ≡ spelling (pieces_of lane bytes)
+  pub goes_on : front ++ encoding (pieces_of lane rest) ≡ encoding (pieces_of lane bytes)
   pub left : length rest ≤ length bytes
 
 pub pushes_none : (lane : ℕ) (bytes old : List ℕ) → PushesSoFar lane bytes bytes old old
@@ -56,14 +56,14 @@ pushes_more lane bytes rest piece more old now new h p q a n =
     record {
       front = a.front ++ spelled (Data lane piece);
       now_is = n ∙ ap (λ (s : List ℕ). s ++ spelled (Data lane piece)) a.now_is ∙ append_assoc old a.front (spelled (Data lane piece));
-      goes_on = append_assoc a.front (spelled (Data lane piece)) (spelling (pieces_of lane more)) ∙ ap (λ (s : List ℕ). a.front ++ s) (rw (pp, qq) (ap spelling (sym (pieces_some lane rest h)))) ∙ a.goes_on;
+      goes_on = append_assoc a.front (spelled (Data lane piece)) (encoding (pieces_of lane more)) ∙ ap (λ (s : List ℕ). a.front ++ s) (rw (pp, qq) (ap encoding (sym (pieces_some lane rest h)))) ∙ a.goes_on;
       left = omega (arith, a.left, ap length q, length-drop (min (length rest) 255) rest);
     }
 
 -- behind the last
-pub pushes_all : (lane : ℕ) (bytes rest old now : List ℕ) → length rest ≡ 0 → PushesSoFar lane bytes rest old now → now ≡ old ++ spelling (pieces_of lane bytes)
+pub pushes_all : (lane : ℕ) (bytes rest old now : List ℕ) → length rest ≡ 0 → PushesSoFar lane bytes rest old now → now ≡ old ++ encoding (pieces_of lane bytes)
 pushes_all lane bytes rest old now h a =
-    let none : spelling (pieces_of lane rest) ≡ [] = ap spelling (pieces_none lane rest h) in
+    let none : encoding (pieces_of lane rest) ≡ [] = ap encoding (pieces_none lane rest h) in
     a.now_is ∙ ap (λ (s : List ℕ). old ++ s) (sym (append-nil a.front) ∙ ap (λ (s : List ℕ). a.front ++ s) (sym none) ∙ a.goes_on)
 
 -- WHAT PIECES GIVE
@@ -113,11 +113,11 @@ are_pieces (suc n) l earlier (b ∷ bytes) h =
     let open_yet : ends l (earlier ++ Data l p ∷ []) ≡ false = ends_more l earlier (Data l p) ∙ or_false (ends l earlier) ∙ h in
     ((omega (arith, long), omega (arith, long)), h, are_pieces n l (earlier ++ Data l p ∷ []) (drop 255 (b ∷ bytes)) open_yet)
 
-pub carries_none : (written : Written) → written.bytes ≡ [] → are_unset written.ended ≡ true → Carries written []
+pub carries_none : (written : Written) → written.bytes ≡ [] → are_unset written.ended ≡ true → MuxCarries written []
 unfolding AreFramesAfter ends
 carries_none written e u = record { frames = []; spelled = e; are = tt; lanes = λ lane. refl; ended = λ lane. refl; flags = λ lane h. unset written.ended u lane }
 
-pub carries_put : (written new : Written) (given : List Frame) (l : ℕ) (bytes : List ℕ) → l < 256 → get_or written.ended l false ≡ false → new.bytes ≡ written.bytes ++ spelling (pieces_of l bytes) → new.ended ≡ written.ended → Carries written given → Carries new (given ++ Data l bytes ∷ [])
+pub carries_put : (written new : Written) (given : List Frame) (l : ℕ) (bytes : List ℕ) → l < 256 → get_or written.ended l false ≡ false → new.bytes ≡ written.bytes ++ encoding (pieces_of l bytes) → new.ended ≡ written.ended → MuxCarries written given → MuxCarries new (given ++ Data l bytes ∷ [])
 unfolding pieces_of
 carries_put written new given l bytes b z e d c =
     let fs = c.frames in
@@ -125,14 +125,14 @@ carries_put written new given l bytes b z e d c =
     let open_yet : ends l fs ≡ false = c.ended l ∙ sym (c.flags l b) ∙ z in
     record {
       frames = fs ++ gs;
-      spelled = e ∙ ap (λ (s : List ℕ). s ++ spelling gs) c.spelled ∙ sym (flat_map-append spelled fs gs);
+      spelled = e ∙ ap (λ (s : List ℕ). s ++ encoding gs) c.spelled ∙ sym (flat_map-append spelled fs gs);
       are = are_append [] fs gs c.are (are_pieces (length bytes) l fs bytes open_yet);
       lanes = λ lane. flat_map-append (part_for lane) fs gs ∙ rw (c.lanes lane, lane_pieces (length bytes) l lane bytes (omega arith)) (sym (lane_more lane given (Data l bytes)));
       ended = λ lane. ends_append lane fs gs ∙ rw (ends_pieces (length bytes) l lane bytes, c.ended lane) (sym (ends_more lane given (Data l bytes)));
       flags = λ lane h. ap (λ (x : List Bool). get_or x lane false) d ∙ c.flags lane h ∙ sym (ends_more lane given (Data l bytes) ∙ or_false (ends lane given));
     }
 
-pub carries_end : (written new : Written) (given : List Frame) (l : ℕ) → l < 256 → length written.ended ≡ 256 → get_or written.ended l false ≡ false → new.bytes ≡ written.bytes ++ spelled (End l) → new.ended ≡ set written.ended l true → Carries written given → Carries new (given ++ End l ∷ [])
+pub carries_end : (written new : Written) (given : List Frame) (l : ℕ) → l < 256 → length written.ended ≡ 256 → get_or written.ended l false ≡ false → new.bytes ≡ written.bytes ++ spelled (End l) → new.ended ≡ set written.ended l true → MuxCarries written given → MuxCarries new (given ++ End l ∷ [])
 unfolding AreFramesAfter
 carries_end written new given l b n z e d c =
     let fs = c.frames in
@@ -151,7 +151,7 @@ carries_end written new given l b n z e d c =
 pub mux_none : (written : Written) → written.bytes ≡ [] → are_unset written.ended ≡ true → IsMux written
 mux_none written e u = record { given = []; carries = carries_none written e u }
 
-pub mux_put : (written new : Written) (l : ℕ) (bytes : List ℕ) → l < 256 → get_or written.ended l false ≡ false → new.bytes ≡ written.bytes ++ spelling (pieces_of l bytes) → new.ended ≡ written.ended → IsMux written → IsMux new
+pub mux_put : (written new : Written) (l : ℕ) (bytes : List ℕ) → l < 256 → get_or written.ended l false ≡ false → new.bytes ≡ written.bytes ++ encoding (pieces_of l bytes) → new.ended ≡ written.ended → IsMux written → IsMux new
 mux_put written new l bytes b z e d m = record { given = m.given ++ Data l bytes ∷ []; carries = carries_put written new m.given l bytes b z e d m.carries }
 
 pub mux_end : (written new : Written) (l : ℕ) → l < 256 → length written.ended ≡ 256 → get_or written.ended l false ≡ false → new.bytes ≡ written.bytes ++ spelled (End l) → new.ended ≡ set written.ended l true → IsMux written → IsMux new

@@ -4,29 +4,29 @@ use Rattle.std.proofs.lemmas.Bool.Decides.{eqb_tells}
 use Rattle.std.proofs.lemmas.Bool.{cases_eq}
 use Rattle.std.proofs.lemmas.List.{append-nil, append_assoc, get_or-set_same, get_or-set_other, length-set, get_or-append-add}
 use Rattle.std.proofs.lemmas.List.Concat.{flat_map-append}
-use Rattle.strm_frames.specs.Frames.{Frame, Data, End, named, spelled, IsFrame, spelling, part_for, lane_in}
-use Rattle.strm_frames.specs.Streams.{placed}
+use Rattle.strm_frames.specs.Frames.{Frame, Data, End, lane_named, spelled, IsFrame, encoding, part_for, lane_in}
+use Rattle.strm_frames.specs.Streams.{place_told}
 use Rattle.strm_frames.specs.Fronts.{Whole, Part, Other, Empty, front_of}
-use Rattle.strm_frames.specs.Taking.{flagged, flags_after, AreAllowed, AreEach, Surveys, SurveysFault, Extends, IsHalted, Appends, AppendsSome, Counts, Retracts}
+use Rattle.strm_frames.specs.Taking.{flagged, flags_after, AreAllowed, AreEach, Surveys, SurveysFault, ExtendsLanes, IsHalted, Appends, AppendsSome, Counts, Retracts}
 use Rattle.strm_frames.specs.declared.errors.Fault.TheVariants.{BadKind, EmptyFrame, AfterEnd}
 use Rattle.strm_frames.proofs.FrontLemmas.{IsBytes, whole_sound, other_sound, empty_sound, part_sound}
 
 -- LISTS OF FRAMES
 
-pub spelling_more : (frames : List Frame) (f : Frame) (bytes rest more : List ℕ) → bytes ≡ spelling frames ++ rest → rest ≡ spelled f ++ more → bytes ≡ spelling (frames ++ f ∷ []) ++ more
+pub spelling_more : (frames : List Frame) (f : Frame) (bytes rest more : List ℕ) → bytes ≡ encoding frames ++ rest → rest ≡ spelled f ++ more → bytes ≡ encoding (frames ++ f ∷ []) ++ more
 spelling_more frames f bytes rest more e d =
-    let one : spelling (frames ++ f ∷ []) ≡ spelling frames ++ spelled f = flat_map-append spelled frames (f ∷ []) ∙ ap (λ (s : List ℕ). spelling frames ++ s) (append-nil (spelled f)) in
-    e ∙ ap (λ (s : List ℕ). spelling frames ++ s) d ∙ sym (append_assoc (spelling frames) (spelled f) more) ∙ ap (λ (s : List ℕ). s ++ more) (sym one)
+    let one : encoding (frames ++ f ∷ []) ≡ encoding frames ++ spelled f = flat_map-append spelled frames (f ∷ []) ∙ ap (λ (s : List ℕ). encoding frames ++ s) (append-nil (spelled f)) in
+    e ∙ ap (λ (s : List ℕ). encoding frames ++ s) d ∙ sym (append_assoc (encoding frames) (spelled f) more) ∙ ap (λ (s : List ℕ). s ++ more) (sym one)
 
-pub length_more : (frames : List Frame) (f : Frame) → length (spelling (frames ++ f ∷ [])) ≡ length (spelling frames) + length (spelled f)
+pub length_more : (frames : List Frame) (f : Frame) → length (encoding (frames ++ f ∷ [])) ≡ length (encoding frames) + length (spelled f)
 length_more frames f =
-    let one : spelling (frames ++ f ∷ []) ≡ spelling frames ++ spelled f = flat_map-append spelled frames (f ∷ []) ∙ ap (λ (s : List ℕ). spelling frames ++ s) (append-nil (spelled f)) in
-    ap length one ∙ length-append (spelling frames) (spelled f)
+    let one : encoding (frames ++ f ∷ []) ≡ encoding frames ++ spelled f = flat_map-append spelled frames (f ∷ []) ∙ ap (λ (s : List ℕ). encoding frames ++ s) (append-nil (spelled f)) in
+    ap length one ∙ length-append (encoding frames) (spelled f)
 
 pub lane_more : (lane : ℕ) (frames : List Frame) (f : Frame) → lane_in lane (frames ++ f ∷ []) ≡ lane_in lane frames ++ part_for lane f
 lane_more lane frames f = flat_map-append (part_for lane) frames (f ∷ []) ∙ ap (λ (s : List ℕ). lane_in lane frames ++ s) (append-nil (part_for lane f))
 
-pub each_more : (frames : List Frame) (f : Frame) → AreEach frames → IsFrame f → named f < 256 → AreEach (frames ++ f ∷ [])
+pub each_more : (frames : List Frame) (f : Frame) → AreEach frames → IsFrame f → lane_named f < 256 → AreEach (frames ++ f ∷ [])
 unfolding AreEach
 each_more [] f a h n = (h, n, tt)
 each_more (g ∷ gs) f a h n = (a.0, a.1, each_more gs f a.2 h n)
@@ -47,7 +47,7 @@ shorter f bytes front rest more t w e = by_frame f rest more (whole_sound rest f
 -- the frames so far
 pub record CountsSoFar (bytes rest : List ℕ) (lane count : ℕ) : Type 0 where
   pub frames : List Frame
-  pub whole : bytes ≡ spelling frames ++ rest
+  pub whole : bytes ≡ encoding frames ++ rest
   pub are : AreEach frames
   pub count_is : count ≡ length (lane_in lane frames)
 
@@ -57,7 +57,7 @@ counts_none bytes lane = record { frames = []; whole = refl; are = tt; count_is 
 
 pub counts_more : (bytes rest more : List ℕ) (lane count total : ℕ) (f : Frame) → IsBytes bytes → CountsSoFar bytes rest lane count → Whole f more ≡ front_of rest → total ≡ count + length (part_for lane f) → CountsSoFar bytes more lane total
 counts_more bytes rest more lane count total f t a e n =
-    let s = whole_sound rest f more (rest_bytes bytes (spelling a.frames) rest t a.whole) e in
+    let s = whole_sound rest f more (rest_bytes bytes (encoding a.frames) rest t a.whole) e in
     record {
       frames = a.frames ++ f ∷ [];
       whole = spelling_more a.frames f bytes rest more a.whole s.0;
@@ -76,9 +76,9 @@ counts_other bytes rest more d lane count l t a e q =
 pub counts_end : (bytes rest more : List ℕ) (lane count l : ℕ) → IsBytes bytes → CountsSoFar bytes rest lane count → Whole (End l) more ≡ front_of rest → CountsSoFar bytes more lane count
 counts_end bytes rest more lane count l t a e = counts_more bytes rest more lane count count (End l) t a e (omega arith)
 
-lane_fits : (lane : ℕ) (frames : List Frame) → length (lane_in lane frames) ≤ length (spelling frames)
+lane_fits : (lane : ℕ) (frames : List Frame) → length (lane_in lane frames) ≤ length (encoding frames)
 lane_fits lane [] = omega arith
-lane_fits lane (f ∷ fs) = omega (arith, part_fits f, lane_fits lane fs, length-append (part_for lane f) (lane_in lane fs), length-append (spelled f) (spelling fs))
+lane_fits lane (f ∷ fs) = omega (arith, part_fits f, lane_fits lane fs, length-append (part_for lane f) (lane_in lane fs), length-append (spelled f) (encoding fs))
   where
     part_fits : (f : Frame) → length (part_for lane f) ≤ length (spelled f)
     part_fits (Data l bytes) = elim (eqb_tells l lane) [ inl y ↦ rw y.0 (omega arith) | inr y ↦ rw y.0 (omega arith) ]
@@ -87,8 +87,8 @@ lane_fits lane (f ∷ fs) = omega (arith, part_fits f, lane_fits lane fs, length
 -- so many bytes are no more than all bytes
 pub counts_fit : (bytes rest more d : List ℕ) (lane count l : ℕ) → IsBytes bytes → CountsSoFar bytes rest lane count → Whole (Data l d) more ≡ front_of rest → count + length d ≤ length bytes
 counts_fit bytes rest more d lane count l t a e =
-    let s = whole_sound rest (Data l d) more (rest_bytes bytes (spelling a.frames) rest t a.whole) e in
-    omega (arith, a.count_is, lane_fits lane a.frames, ap length a.whole, length-append (spelling a.frames) rest, ap length s.0, length-append d more)
+    let s = whole_sound rest (Data l d) more (rest_bytes bytes (encoding a.frames) rest t a.whole) e in
+    omega (arith, a.count_is, lane_fits lane a.frames, ap length a.whole, length-append (encoding a.frames) rest, ap length s.0, length-append d more)
 
 -- where no frame follows
 pub halts_part : (b : List ℕ) → Part ≡ front_of b → IsHalted b
@@ -107,15 +107,15 @@ counts_all bytes rest lane count a h = record { frames = a.frames; left = rest; 
 
 pub record AppendsSoFar (bytes rest : List ℕ) (old new : List (List ℕ)) : Type 0 where
   pub frames : List Frame
-  pub whole : bytes ≡ spelling frames ++ rest
+  pub whole : bytes ≡ encoding frames ++ rest
   pub are : AreEach frames
-  pub extends : Extends old new frames
+  pub extends : ExtendsLanes old new frames
 
 pub appends_none : (bytes : List ℕ) (lanes : List (List ℕ)) → AppendsSoFar bytes bytes lanes lanes
 unfolding AreEach
 appends_none bytes lanes = record { frames = []; whole = refl; are = tt; extends = record { same = refl; each = λ k h. sym (append-nil (get_or lanes k [])) } }
 
-pub extends_data : (old now new : List (List ℕ)) (frames : List Frame) (l : ℕ) (d : List ℕ) → Extends old now frames → l < length now → new ≡ set now l (get_or now l [] ++ d) → Extends old new (frames ++ Data l d ∷ [])
+pub extends_data : (old now new : List (List ℕ)) (frames : List Frame) (l : ℕ) (d : List ℕ) → ExtendsLanes old now frames → l < length now → new ≡ set now l (get_or now l [] ++ d) → ExtendsLanes old new (frames ++ Data l d ∷ [])
 extends_data old now new frames l d a h e = record {
   same = ap length e ∙ length-set now l (get_or now l [] ++ d) ∙ a.same;
   each = λ k below. elim (eqb_tells l k) [
@@ -138,7 +138,7 @@ extends_data old now new frames l d a h e = record {
 
 pub appends_data : (bytes rest more d : List ℕ) (old now new : List (List ℕ)) (l : ℕ) → IsBytes bytes → AppendsSoFar bytes rest old now → Whole (Data l d) more ≡ front_of rest → length now ≡ 256 → new ≡ set now l (get_or now l [] ++ d) → AppendsSoFar bytes more old new
 appends_data bytes rest more d old now new l t a e h n =
-    let s = whole_sound rest (Data l d) more (rest_bytes bytes (spelling a.frames) rest t a.whole) e in
+    let s = whole_sound rest (Data l d) more (rest_bytes bytes (encoding a.frames) rest t a.whole) e in
     record {
       frames = a.frames ++ Data l d ∷ [];
       whole = spelling_more a.frames (Data l d) bytes rest more a.whole s.0;
@@ -148,7 +148,7 @@ appends_data bytes rest more d old now new l t a e h n =
 
 pub appends_end : (bytes rest more : List ℕ) (old now : List (List ℕ)) (l : ℕ) → IsBytes bytes → AppendsSoFar bytes rest old now → Whole (End l) more ≡ front_of rest → AppendsSoFar bytes more old now
 appends_end bytes rest more old now l t a e =
-    let s = whole_sound rest (End l) more (rest_bytes bytes (spelling a.frames) rest t a.whole) e in
+    let s = whole_sound rest (End l) more (rest_bytes bytes (encoding a.frames) rest t a.whole) e in
     record {
       frames = a.frames ++ End l ∷ [];
       whole = spelling_more a.frames (End l) bytes rest more a.whole s.0;
@@ -165,7 +165,7 @@ appends_some bytes rest old new done n a e = record {
   left = rest;
   whole = a.whole;
   are = a.are;
-  done_is = omega (arith, ap length a.whole, length-append (spelling a.frames) rest);
+  done_is = omega (arith, ap length a.whole, length-append (encoding a.frames) rest);
   long = n;
   extends = a.extends;
 }
@@ -174,7 +174,7 @@ appends_some bytes rest old new done n a e = record {
 
 pub record SurveysSoFar (bytes rest : List ℕ) (flags now : List Bool) : Type 0 where
   pub frames : List Frame
-  pub whole : bytes ≡ spelling frames ++ rest
+  pub whole : bytes ≡ encoding frames ++ rest
   pub allowed : AreAllowed flags frames
   pub flags_are : now ≡ flags_after flags frames
 
@@ -187,14 +187,14 @@ unfolding flags_after
 flags_more flags [] f = refl
 flags_more flags (g ∷ gs) f = flags_more (flagged flags g) gs f
 
-allowed_more : (flags : List Bool) (frames : List Frame) (f : Frame) → AreAllowed flags frames → IsFrame f → named f < 256 → get_or (flags_after flags frames) (named f) false ≡ false → AreAllowed flags (frames ++ f ∷ [])
+allowed_more : (flags : List Bool) (frames : List Frame) (f : Frame) → AreAllowed flags frames → IsFrame f → lane_named f < 256 → get_or (flags_after flags frames) (lane_named f) false ≡ false → AreAllowed flags (frames ++ f ∷ [])
 unfolding AreAllowed flags_after
 allowed_more flags [] f a h n z = (h, n, z, tt)
 allowed_more flags (g ∷ gs) f a h n z = (a.0, a.1, a.2, allowed_more (flagged flags g) gs f a.3 h n z)
 
-pub surveys_more : (bytes rest more : List ℕ) (flags now new : List Bool) (f : Frame) → IsBytes bytes → SurveysSoFar bytes rest flags now → Whole f more ≡ front_of rest → get_or now (named f) false ≡ false → new ≡ flagged now f → SurveysSoFar bytes more flags new
+pub surveys_more : (bytes rest more : List ℕ) (flags now new : List Bool) (f : Frame) → IsBytes bytes → SurveysSoFar bytes rest flags now → Whole f more ≡ front_of rest → get_or now (lane_named f) false ≡ false → new ≡ flagged now f → SurveysSoFar bytes more flags new
 surveys_more bytes rest more flags now new f t a e z n =
-    let s = whole_sound rest f more (rest_bytes bytes (spelling a.frames) rest t a.whole) e in
+    let s = whole_sound rest f more (rest_bytes bytes (encoding a.frames) rest t a.whole) e in
     record {
       frames = a.frames ++ f ∷ [];
       whole = spelling_more a.frames f bytes rest more a.whole s.0;
@@ -207,20 +207,20 @@ surveys_all bytes rest flags now used t a p e = record {
   frames = a.frames;
   left = rest;
   whole = a.whole;
-  used_is = omega (arith, ap length a.whole, length-append (spelling a.frames) rest);
+  used_is = omega (arith, ap length a.whole, length-append (encoding a.frames) rest);
   allowed = a.allowed;
   flags_are = a.flags_are;
-  part = part_sound rest (rest_bytes bytes (spelling a.frames) rest t a.whole) p;
+  part = part_sound rest (rest_bytes bytes (encoding a.frames) rest t a.whole) p;
 }
 
 -- the place of what is left
 abbrev pub IsAt : ℕ → List ℕ → List ℕ → ℕ → Type 0
-IsAt place bytes rest at = at ≡ placed (place + (length bytes - length rest))
+IsAt place bytes rest at = at ≡ place_told (place + (length bytes - length rest))
 
-place_of : (bytes rest : List ℕ) (frames : List Frame) (place at : ℕ) → bytes ≡ spelling frames ++ rest → at ≡ placed (place + (length bytes - length rest)) → at ≡ placed (place + length (spelling frames))
+place_of : (bytes rest : List ℕ) (frames : List Frame) (place at : ℕ) → bytes ≡ encoding frames ++ rest → at ≡ place_told (place + (length bytes - length rest)) → at ≡ place_told (place + length (encoding frames))
 place_of bytes rest frames place at e n =
-    let d : length bytes - length rest ≡ length (spelling frames) = omega (arith, ap length e, length-append (spelling frames) rest) in
-    n ∙ ap (λ (k : ℕ). placed (place + k)) d
+    let d : length bytes - length rest ≡ length (encoding frames) = omega (arith, ap length e, length-append (encoding frames) rest) in
+    n ∙ ap (λ (k : ℕ). place_told (place + k)) d
 
 pub survey_bad_kind : (bytes rest : List ℕ) (flags now : List Bool) (place at : ℕ) → SurveysSoFar bytes rest flags now → Other ≡ front_of rest → IsAt place bytes rest at → SurveysFault bytes flags place (BadKind at)
 survey_bad_kind bytes rest flags now place at a e n = record { frames = a.frames; next = rest; whole = a.whole; allowed = a.allowed; is = (place_of bytes rest a.frames place at a.whole n, other_sound rest e) }
@@ -228,9 +228,9 @@ survey_bad_kind bytes rest flags now place at a e n = record { frames = a.frames
 pub survey_empty : (bytes rest : List ℕ) (flags now : List Bool) (place at : ℕ) → SurveysSoFar bytes rest flags now → Empty ≡ front_of rest → IsAt place bytes rest at → SurveysFault bytes flags place (EmptyFrame at)
 survey_empty bytes rest flags now place at a e n = record { frames = a.frames; next = rest; whole = a.whole; allowed = a.allowed; is = (place_of bytes rest a.frames place at a.whole n, empty_sound rest e) }
 
-pub survey_after_end : (bytes rest more : List ℕ) (flags now : List Bool) (place at : ℕ) (f : Frame) → IsBytes bytes → SurveysSoFar bytes rest flags now → Whole f more ≡ front_of rest → get_or now (named f) false ≡ true → IsAt place bytes rest at → SurveysFault bytes flags place (AfterEnd at)
+pub survey_after_end : (bytes rest more : List ℕ) (flags now : List Bool) (place at : ℕ) (f : Frame) → IsBytes bytes → SurveysSoFar bytes rest flags now → Whole f more ≡ front_of rest → get_or now (lane_named f) false ≡ true → IsAt place bytes rest at → SurveysFault bytes flags place (AfterEnd at)
 survey_after_end bytes rest more flags now place at f t a e z n =
-    let s = whole_sound rest f more (rest_bytes bytes (spelling a.frames) rest t a.whole) e in
+    let s = whole_sound rest f more (rest_bytes bytes (encoding a.frames) rest t a.whole) e in
     record {
       frames = a.frames;
       next = rest;

@@ -40,9 +40,9 @@ HasKind kind [] = ⊥
 HasKind kind (k ∷ more) = k ≡ kind
 
 -- what code finds, as such
-abbrev pub seen : Front → NextFrame
-seen (fronts.Data lane bytes more) = Whole (Data lane bytes.now) more.now
-seen (fronts.End lane more) = Whole (End lane) more.now
-seen fronts.Part = Part
-seen fronts.Other = Other
-seen fronts.Empty = Empty
+abbrev pub front_seen : Front → NextFrame
+front_seen (fronts.Data lane bytes more) = Whole (Data lane bytes.now) more.now
+front_seen (fronts.End lane more) = Whole (End lane) more.now
+front_seen fronts.Part = Part
+front_seen fronts.Other = Other
+front_seen fronts.Empty = Empty

@@ -1,6 +1,6 @@
 -- What a mux was given, and what it has written. Ours.
 use Rattle.std.specs.Prelude.{◌≡◌, ℕ, zero, suc, ◌<◌, Bool, false, List, [], ◌∷◌, length, take, drop, slice_index_or}
-use Rattle.strm_frames.specs.Frames.{Frame, Data, spelling, lane_in, ends, AreFrames}
+use Rattle.strm_frames.specs.Frames.{Frame, Data, encoding, lane_in, ends, AreFrames}
 
 -- the bytes of its frames, and which lanes it ended
 pub record Written : Type 0 where
@@ -19,9 +19,9 @@ pieces_of lane bytes = pieces_in (length bytes) lane bytes
 
 -- it was given these bytes and ends, in this order, where a `Data` of a lane has whatever was put at once:
 -- its frames give each lane just these
-pub record Carries (written : Written) (given : List Frame) : Type 0 where
+pub record MuxCarries (written : Written) (given : List Frame) : Type 0 where
   pub frames : List Frame
-  pub spelled : written.bytes ≡ spelling frames
+  pub spelled : written.bytes ≡ encoding frames
   pub are : AreFrames frames
   pub lanes : (lane : ℕ) → lane_in lane frames ≡ lane_in lane given
   pub ended : (lane : ℕ) → ends lane frames ≡ ends lane given
@@ -30,4 +30,4 @@ pub record Carries (written : Written) (given : List Frame) : Type 0 where
 -- each mux was given something
 pub record IsMux (written : Written) : Type 0 where
   pub given : List Frame
-  pub carries : Carries written given
+  pub carries : MuxCarries written given

@@ -1,14 +1,14 @@
 -- What the bytes of a stream are: whole frames and less than one more, or the first fault behind whole
 -- frames. Ours.
 use Rattle.std.specs.Prelude.{◌≡◌, ◌≢◌, ℕ, ◌<◌, min, true, List, [], ◌∷◌, ◌++◌, length}
-use Rattle.strm_frames.specs.Frames.{Frame, named, spelled, IsFrame, spelling, ends, AreFrames}
+use Rattle.strm_frames.specs.Frames.{Frame, lane_named, spelled, IsFrame, encoding, ends, AreFrames}
 use Rattle.strm_frames.specs.declared.errors.Fault.{Fault}
 use Rattle.strm_frames.specs.declared.errors.Fault.TheVariants.{BadKind, EmptyFrame, AfterEnd}
 
 -- the bytes are whole frames, one after the other
 pub record AreWhole (bytes : List ℕ) : Type 0 where
   pub frames : List Frame
-  pub spelled : bytes ≡ spelling frames
+  pub spelled : bytes ≡ encoding frames
   pub are : AreFrames frames
 
 -- a proper prefix of a frame
@@ -21,7 +21,7 @@ pub record IsPartOfFrame (rest : List ℕ) : Type 0 where
 
 -- the bytes are these whole frames, and then less than a whole one
 pub record Splits (bytes : List ℕ) (frames : List Frame) (rest : List ℕ) : Type 0 where
-  pub whole : bytes ≡ spelling frames ++ rest
+  pub whole : bytes ≡ encoding frames ++ rest
   pub are : AreFrames frames
   pub part : IsPartOfFrame rest
 
@@ -41,22 +41,22 @@ pub record NamesEnded (frames : List Frame) (next : List ℕ) : Type 0 where
   pub more : List ℕ
   pub is : IsFrame frame
   pub begins : next ≡ spelled frame ++ more
-  pub ended : ends (named frame) frames ≡ true
+  pub ended : ends (lane_named frame) frames ≡ true
 
 -- the place of a byte, as far as a number of 64 bits tells it
-abbrev pub placed : ℕ → ℕ
-placed n = min n 18446744073709551615
+abbrev pub place_told : ℕ → ℕ
+place_told n = min n 18446744073709551615
 
 -- behind these frames, at this place, comes this fault
-abbrev pub IsFault : List Frame → ℕ → List ℕ → Fault → Type 0
-IsFault frames place next (BadKind at) = (at ≡ placed place) × HasBadKind next
-IsFault frames place next (EmptyFrame at) = (at ≡ placed place) × HasNoBytes next
-IsFault frames place next (AfterEnd at) = (at ≡ placed place) × NamesEnded frames next
+abbrev pub IsFrameFault : List Frame → ℕ → List ℕ → Fault → Type 0
+IsFrameFault frames place next (BadKind at) = (at ≡ place_told place) × HasBadKind next
+IsFrameFault frames place next (EmptyFrame at) = (at ≡ place_told place) × HasNoBytes next
+IsFrameFault frames place next (AfterEnd at) = (at ≡ place_told place) × NamesEnded frames next
 
 -- the bytes have this first fault, at the place of its frame's first byte
 pub record Faults (bytes : List ℕ) (fault : Fault) : Type 0 where
   pub frames : List Frame
   pub next : List ℕ
-  pub whole : bytes ≡ spelling frames ++ next
+  pub whole : bytes ≡ encoding frames ++ next
   pub are : AreFrames frames
-  pub is : IsFault frames (length (spelling frames)) next fault
+  pub is : IsFrameFault frames (length (encoding frames)) next fault

@@ -4,7 +4,7 @@
 
 ghost use Rattle.std.specs.Prelude.{◌≡◌, ◌≢◌, ◌<◌, ◌++◌, ◌⊎◌, ◌≤◌, ℕ, List, [], false, length, drop, slice_index_or, Option, Some, None, Err, OnOk, All};
 ghost use Rattle.strm_frames.specs.Streams.{Faults};
-ghost use Rattle.strm_frames.specs.Demuxes.{Heard, IsFed, error_of};
+ghost use Rattle.strm_frames.specs.Demuxes.{LanesHeard, IsDemuxFed, error_of};
 ghost use Rattle.strm_frames.specs.declared.errors.Fault.{Fault};
 
 use crate::errors::{Fault, MuxError};
@@ -26,10 +26,10 @@ pub struct Demux {
 
 impl Model for Demux {
     ghost use Rattle.std.specs.Prelude.{map};
-    ghost use Rattle.strm_frames.specs.Demuxes.{Heard};
+    ghost use Rattle.strm_frames.specs.Demuxes.{LanesHeard};
     ghost use Rattle.strm_frames.specs.Streams.{IsPartOfFrame};
 
-    ghost Value = { Heard };
+    ghost Value = { LanesHeard };
 
     ghost view = { λ d. record {
       lanes = map (λ v. v.items) d.lanes;
@@ -45,7 +45,7 @@ impl Model for Demux {
 impl Demux {
     /// A demux that has heard nothing. It takes no memory.
     pub fn new(alloc: Global) -> Demux
-        ensures fed { IsFed result [] }
+        ensures fed { IsDemuxFed result [] }
         ensures well { result.fault ≡ None }
     {
         Demux {
@@ -61,14 +61,14 @@ impl Demux {
     /// each later feed answers it again; running out of memory changes nothing.
     pub fn feed(&mut self, piece: &[u8]) -> Result<(), MuxError>
         // However the stream was cut: what was fed is all pieces together.
-        ensures ok { OnOk result ((bytes : List ℕ) → IsFed self.old bytes → IsFed self.new (bytes ++ piece.now)) }
+        ensures ok { OnOk result ((bytes : List ℕ) → IsDemuxFed self.old bytes → IsDemuxFed self.new (bytes ++ piece.now)) }
         ensures well { OnOk result ((self.old.fault ≡ None) × (self.new.fault ≡ None)) }
 
         // A fault comes exactly where the stream so far has it, and nothing but that changes.
         ensures fault { (fault : Fault) → self.old.fault ≡ None → result ≡ Err (error_of fault) →
             (self.new ≡ record self.old { fault = Some fault })
-            × ((bytes : List ℕ) → IsFed self.old bytes → Faults (bytes ++ piece.now) fault) }
-        ensures exact { (bytes : List ℕ) (fault : Fault) → self.old.fault ≡ None → IsFed self.old bytes →
+            × ((bytes : List ℕ) → IsDemuxFed self.old bytes → Faults (bytes ++ piece.now) fault) }
+        ensures exact { (bytes : List ℕ) (fault : Fault) → self.old.fault ≡ None → IsDemuxFed self.old bytes →
             Faults (bytes ++ piece.now) fault →
             (result ≡ Err (error_of fault)) ⊎ (result ≡ Err MuxError.OutOfMemory) }
         ensures again { (fault : Fault) → self.old.fault ≡ Some fault →
@@ -82,13 +82,13 @@ impl Demux {
     // The same, of which `feed` says more.
     fn take_piece(&mut self, piece: &[u8]) -> Result<(), MuxError>
         // However the stream was cut: what was fed is all pieces together.
-        ensures ok { OnOk result ((bytes : List ℕ) → IsFed self.old bytes → IsFed self.new (bytes ++ piece.now)) }
+        ensures ok { OnOk result ((bytes : List ℕ) → IsDemuxFed self.old bytes → IsDemuxFed self.new (bytes ++ piece.now)) }
         ensures well { OnOk result ((self.old.fault ≡ None) × (self.new.fault ≡ None)) }
 
         // A fault comes exactly where the stream so far has it, and nothing but that changes.
         ensures fault { (fault : Fault) → self.old.fault ≡ None → result ≡ Err (error_of fault) →
             (self.new ≡ record self.old { fault = Some fault })
-            × ((bytes : List ℕ) → IsFed self.old bytes → Faults (bytes ++ piece.now) fault) }
+            × ((bytes : List ℕ) → IsDemuxFed self.old bytes → Faults (bytes ++ piece.now) fault) }
         ensures again { (fault : Fault) → self.old.fault ≡ Some fault →
             (result ≡ Err (error_of fault)) × (self.new ≡ self.old) }
         ensures memory { result ≡ Err MuxError.OutOfMemory → self.new ≡ self.old }

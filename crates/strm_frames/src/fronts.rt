@@ -1,7 +1,7 @@
 //! What stands at the front of bytes.
 
 ghost use Rattle.std.specs.Prelude.{◌≡◌};
-ghost use Rattle.strm_frames.specs.Fronts.{HasKind, seen, front_of};
+ghost use Rattle.strm_frames.specs.Fronts.{HasKind, front_seen, front_of};
 
 // The next frame and what follows it, or why there is none.
 #[derive(Clone, Copy)]
@@ -28,7 +28,7 @@ pub(crate) enum Front<'a> {
 // The front of these bytes.
 #[inline(always)]
 pub(crate) fn next_front(bytes: &[u8]) -> Front<'_>
-    ensures { seen result ≡ front_of bytes.now }
+    ensures { front_seen result ≡ front_of bytes.now }
 {
     if bytes.is_empty() {
         return Front::Part;
@@ -47,7 +47,7 @@ pub(crate) fn next_front(bytes: &[u8]) -> Front<'_>
 #[inline(always)]
 fn data_front(bytes: &[u8]) -> Front<'_>
     requires { HasKind 0 bytes.now }
-    ensures { seen result ≡ front_of bytes.now }
+    ensures { front_seen result ≡ front_of bytes.now }
 {
     if bytes.len() < 3 {
         return Front::Part;
@@ -72,7 +72,7 @@ fn data_front(bytes: &[u8]) -> Front<'_>
 #[inline(always)]
 fn end_front(bytes: &[u8]) -> Front<'_>
     requires { HasKind 1 bytes.now }
-    ensures { seen result ≡ front_of bytes.now }
+    ensures { front_seen result ≡ front_of bytes.now }
 {
     if bytes.len() < 2 {
         return Front::Part;

@@ -4,9 +4,9 @@
 
 ghost use Rattle.std.specs.Prelude.{◌≡◌, ◌≢◌, ◌<◌, ◌++◌, ◌∷◌, ◌≤◌, ◌↔◌, ◌⊎◌, ℕ, List, [], true, false, length, take, drop, slice_index_or, slice_set, Err, OnOk, OnErr, IsTrue, IsErr};
 ghost use Rattle.strm_frames.specs.Demuxes.{are_unset};
-ghost use Rattle.strm_frames.specs.Frames.{Frame, Data, End, spelled, spelling};
+ghost use Rattle.strm_frames.specs.Frames.{Frame, Data, End, spelled, encoding};
 ghost use Rattle.strm_frames.specs.Streams.{AreWhole};
-ghost use Rattle.strm_frames.specs.Muxes.{Written, pieces_of, Carries};
+ghost use Rattle.strm_frames.specs.Muxes.{Written, pieces_of, MuxCarries};
 
 use crate::errors::MuxError;
 use std::alloc::Global;
@@ -42,7 +42,7 @@ impl Mux {
     /// A mux that was given nothing. It takes no memory.
     pub fn new(alloc: Global) -> Mux
         ensures bytes { result.bytes ≡ [] }
-        ensures carries { Carries result [] }
+        ensures carries { MuxCarries result [] }
     {
         Mux {
             bytes: Vec::new(alloc),
@@ -52,8 +52,8 @@ impl Mux {
 
     /// Puts bytes on a lane, in data frames of 255 bytes and one for the rest; none for no bytes.
     pub fn put(&mut self, lane: u8, bytes: &[u8]) -> Result<(), MuxError>
-        ensures ok { OnOk result (self.new ≡ record self.old { bytes = self.old.bytes ++ spelling (pieces_of lane bytes.now) }) }
-        ensures carries { (given : List Frame) → Carries self.old given → OnOk result (Carries self.new (given ++ Data lane bytes.now ∷ [])) }
+        ensures ok { OnOk result (self.new ≡ record self.old { bytes = self.old.bytes ++ encoding (pieces_of lane bytes.now) }) }
+        ensures carries { (given : List Frame) → MuxCarries self.old given → OnOk result (MuxCarries self.new (given ++ Data lane bytes.now ∷ [])) }
         ensures ended { (result ≡ Err (MuxError.Ended lane)) ↔ (slice_index_or self.old.ended lane false ≡ true) }
         ensures known { IsErr result → (result ≡ Err (MuxError.Ended lane)) ⊎ (result ≡ Err MuxError.OutOfMemory) }
         ensures takes_no_memory { bytes.now ≡ [] → result ≢ Err MuxError.OutOfMemory }
@@ -73,7 +73,7 @@ impl Mux {
     /// Ends a lane.
     pub fn end(&mut self, lane: u8) -> Result<(), MuxError>
         ensures ok { OnOk result (self.new ≡ record { bytes = self.old.bytes ++ spelled (End lane); ended = slice_set self.old.ended lane true }) }
-        ensures carries { (given : List Frame) → Carries self.old given → OnOk result (Carries self.new (given ++ End lane ∷ [])) }
+        ensures carries { (given : List Frame) → MuxCarries self.old given → OnOk result (MuxCarries self.new (given ++ End lane ∷ [])) }
         ensures ended { (result ≡ Err (MuxError.Ended lane)) ↔ (slice_index_or self.old.ended lane false ≡ true) }
         ensures known { IsErr result → (result ≡ Err (MuxError.Ended lane)) ⊎ (result ≡ Err MuxError.OutOfMemory) }
         ensures err { OnErr result (self.new ≡ self.old) }
@@ -121,7 +121,7 @@ fn push_frame(out: &mut Vec<u8>, lane: u8, bytes: &[u8]) -> bool
 
 // The data frames of bytes at the end; where memory is wanting, a part of them.
 fn push_frames(out: &mut Vec<u8>, lane: u8, bytes: &[u8]) -> bool
-    ensures ok { IsTrue result → out.new.items ≡ out.old.items ++ spelling (pieces_of lane bytes.now) }
+    ensures ok { IsTrue result → out.new.items ≡ out.old.items ++ encoding (pieces_of lane bytes.now) }
     ensures none { bytes.now ≡ [] → IsTrue result }
     ensures err { result ≡ false → (more : List ℕ) × (out.new.items ≡ out.old.items ++ more) }
 {

@@ -8,7 +8,7 @@
 
 ghost use Rattle.std.specs.Prelude.{◌≡◌, ◌-◌, ◌+◌, ◌<◌, ◌≤◌, ◌++◌, [], ℕ, None, false, length, map, slice_set, slice_index_or, take, drop, IfOk, IfErr, OnOk, OnErr, IfSome, IsTrue, if◌then◌else◌};
 ghost use Rattle.strm_frames.specs.Streams.{IsPartOfFrame};
-ghost use Rattle.strm_frames.specs.Taking.{Surveys, SurveysFault, Appends, AppendsSome, Counts, Retracts, StopsAtFrame, IsBegun, AreSpelled};
+ghost use Rattle.strm_frames.specs.Taking.{Surveys, SurveysFault, Appends, AppendsSome, Counts, Retracts, StopsAtFrame, IsFrameBegun, AreSpelled};
 
 use crate::errors::{Fault, MuxError};
 use crate::fronts::{Front, next_front};
@@ -55,7 +55,7 @@ fn add(kept: &mut Vec<u8>, bytes: &[u8]) -> Result<(), MuxError>
 #[inline(always)]
 pub(crate) fn complete(rest: &mut Vec<u8>, piece: &[u8]) -> Result<Option<usize>, MuxError>
     requires { IsPartOfFrame rest.old.items }
-    ensures ok { IfOk result (IsBegun rest.old.items rest.new.items piece.now) }
+    ensures ok { IfOk result (IsFrameBegun rest.old.items rest.new.items piece.now) }
     ensures err { OnErr result (rest.new.items ≡ rest.old.items) }
     ensures memory { IfErr result (λ error. error ≡ MuxError.OutOfMemory) }
 {

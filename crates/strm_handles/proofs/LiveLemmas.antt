@@ -10,7 +10,7 @@ use Rattle.strm_handles.specs.Changes.{Inserts, Removes}
 use Rattle.strm_handles.specs.Counters.{Counter, counted, uncounted}
 use Rattle.strm_handles.specs.Handles.{Handles, TableOf, Table, entry_at, with_entry, occupied, lends_of, live_of, IsTable}
 use Rattle.strm_handles.specs.Live.{CountsAlike, CountsOccupied}
-use Rattle.strm_handles.specs.Lookups.{◌>>=◌, typed, typed_rep, stream_in, stream_of, future_in, future_of, error_context_rep_in, subtask_rep_in, waitable_set_rep_in, guest_thread_rep_of}
+use Rattle.strm_handles.specs.Lookups.{◌>>=◌, end_typed, typed_rep, stream_end_in, stream_end_of, future_end_in, future_end_of, error_context_rep_in, subtask_rep_in, waitable_set_rep_in, guest_thread_rep_of}
 use Rattle.strm_handles.specs.Lends.{own_lend, resource_lend_in, resource_undo_lend_in, remove_resource_in, HasLend, lent_in, returned_in}
 use Rattle.strm_handles.proofs.HandleLemmas.{occupied-inserted, occupied-removed, live_of-inserted, live_of-removed, live_of-with_entry}
 use Rattle.strm_handles.proofs.LookupLemmas.{entry-stream_of, entry-future_of}
@@ -54,14 +54,14 @@ counts-thread_removed old new before after n most r = by (entry_at old.handles n
         rw (ok, live) (omega (arith, occupied-removed old.handles n rep is))
 
 -- what each removal takes has no open lend
-pub unlent-stream : {A : Type 0} (ty : Payload) (o : Option Entry) (next : TransmitEnd → Result A HandleError) → OnOk (stream_in ty o >>= next) (IsUnlent o)
+pub unlent-stream : {A : Type 0} (ty : Payload) (o : Option Entry) (next : TransmitEnd → Result A HandleError) → OnOk (stream_end_in ty o >>= next) (IsUnlent o)
 unlent-stream ty None next = tt
-unlent-stream ty (Some (Stream end)) next = on_ok (typed ty end >>= next) (Stream end, (refl, refl))
+unlent-stream ty (Some (Stream end)) next = on_ok (end_typed ty end >>= next) (Stream end, (refl, refl))
 unlent-stream ty (Some _) next = tt
 
-pub unlent-future : {A : Type 0} (ty : Payload) (o : Option Entry) (next : TransmitEnd → Result A HandleError) → OnOk (future_in ty o >>= next) (IsUnlent o)
+pub unlent-future : {A : Type 0} (ty : Payload) (o : Option Entry) (next : TransmitEnd → Result A HandleError) → OnOk (future_end_in ty o >>= next) (IsUnlent o)
 unlent-future ty None next = tt
-unlent-future ty (Some (Future end)) next = on_ok (typed ty end >>= next) (Future end, (refl, refl))
+unlent-future ty (Some (Future end)) next = on_ok (end_typed ty end >>= next) (Future end, (refl, refl))
 unlent-future ty (Some _) next = tt
 
 pub unlent-error_context : (o : Option Entry) → OnOk (error_context_rep_in o) (IsUnlent o)
@@ -133,16 +133,16 @@ counts-returned h counter n (Some _) most is lend = tt
 
 -- ---- states
 
-pub live_of-stream_set : (h : Handles) (ty : Payload) (n : ℕ) (state : TransmitLocalState) → IfOk (stream_of h ty n) (λ end. live_of (with_entry h n (Stream (record end { state = state }))) ≡ live_of h)
-live_of-stream_set h ty n state = by (stream_of h ty n) refl
+pub live_of-stream_set : (h : Handles) (ty : Payload) (n : ℕ) (state : TransmitLocalState) → IfOk (stream_end_of h ty n) (λ end. live_of (with_entry h n (Stream (record end { state = state }))) ≡ live_of h)
+live_of-stream_set h ty n state = by (stream_end_of h ty n) refl
   where
-    by : (r : Result TransmitEnd HandleError) → stream_of h ty n ≡ r → IfOk r (λ end. live_of (with_entry h n (Stream (record end { state = state }))) ≡ live_of h)
+    by : (r : Result TransmitEnd HandleError) → stream_end_of h ty n ≡ r → IfOk r (λ end. live_of (with_entry h n (Stream (record end { state = state }))) ≡ live_of h)
     by (Err x) is = tt
     by (Ok end) is = omega (arith, live_of-with_entry h n (Stream end) (Stream (record end { state = state })) (entry-stream_of h ty n end is).0)
 
-pub live_of-future_set : (h : Handles) (ty : Payload) (n : ℕ) (state : TransmitLocalState) → IfOk (future_of h ty n) (λ end. live_of (with_entry h n (Future (record end { state = state }))) ≡ live_of h)
-live_of-future_set h ty n state = by (future_of h ty n) refl
+pub live_of-future_set : (h : Handles) (ty : Payload) (n : ℕ) (state : TransmitLocalState) → IfOk (future_end_of h ty n) (λ end. live_of (with_entry h n (Future (record end { state = state }))) ≡ live_of h)
+live_of-future_set h ty n state = by (future_end_of h ty n) refl
   where
-    by : (r : Result TransmitEnd HandleError) → future_of h ty n ≡ r → IfOk r (λ end. live_of (with_entry h n (Future (record end { state = state }))) ≡ live_of h)
+    by : (r : Result TransmitEnd HandleError) → future_end_of h ty n ≡ r → IfOk r (λ end. live_of (with_entry h n (Future (record end { state = state }))) ≡ live_of h)
     by (Err x) is = tt
     by (Ok end) is = omega (arith, live_of-with_entry h n (Future end) (Future (record end { state = state })) (entry-future_of h ty n end is).0)

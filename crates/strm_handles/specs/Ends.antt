@@ -5,7 +5,7 @@ use Rattle.strm_handles.specs.Words.{Payload, TransmitEnd, TransmitLocalState, H
 use Rattle.strm_handles.specs.declared.entries.TransmitLocalState.TheVariants as state
 use Rattle.strm_handles.specs.declared.errors.HandleError.TheVariants.{WrongEnd, Busy}
 use Rattle.strm_handles.specs.Handles.{Handles}
-use Rattle.strm_handles.specs.Lookups.{◌>>=◌, stream_of, future_of}
+use Rattle.strm_handles.specs.Lookups.{◌>>=◌, stream_end_of, future_end_of}
 
 -- a new read end
 abbrev pub read_end : Payload → ℕ → TransmitEnd
@@ -43,27 +43,27 @@ without_value (Err e) = Err e
 -- what the removal of a stream's read end answers: the stream's number, and whether it is done
 abbrev pub stream_readable_of : Handles → Payload → ℕ → Result (ℕ × Bool) HandleError
 stream_readable_of h ty idx = do
-  end ← stream_of h ty idx
+  end ← stream_end_of h ty idx
   done ← readable end.state
   Ok (end.rep, done)
 
 -- what the removal of a stream's write end answers: the stream's number
 abbrev pub stream_writable_of : Handles → Payload → ℕ → Result ℕ HandleError
 stream_writable_of h ty idx = do
-  end ← stream_of h ty idx
+  end ← stream_end_of h ty idx
   done ← writable end.state
   Ok end.rep
 
 -- what the removal of a future's read end answers: the future's number, and whether it is done
 abbrev pub future_readable_of : Handles → Payload → ℕ → Result (ℕ × Bool) HandleError
 future_readable_of h ty idx = do
-  end ← future_of h ty idx
+  end ← future_end_of h ty idx
   done ← readable end.state
   Ok (end.rep, done)
 
 -- what the removal of a future's write end answers: the future's number, and whether it is done
 abbrev pub future_writable_of : Handles → Payload → ℕ → Result (ℕ × Bool) HandleError
 future_writable_of h ty idx = do
-  end ← future_of h ty idx
+  end ← future_end_of h ty idx
   done ← writable end.state
   Ok (end.rep, done)

@@ -15,39 +15,39 @@ Ok x >>= next = next x
 Err e >>= next = Err e
 
 -- the end of a stream or future, where its payload is this one
-abbrev pub typed : Payload → TransmitEnd → Result TransmitEnd HandleError
-typed ty end = if same_payload end.ty ty then Ok end else Err WrongType
+abbrev pub end_typed : Payload → TransmitEnd → Result TransmitEnd HandleError
+end_typed ty end = if same_payload end.ty ty then Ok end else Err WrongType
 
 -- the end of a stream of this payload
-abbrev pub stream_in : Payload → Option Entry → Result TransmitEnd HandleError
-stream_in ty None = Err UnknownHandle
-stream_in ty (Some (entry.Stream end)) = typed ty end
-stream_in ty (Some _) = Err WrongKind
+abbrev pub stream_end_in : Payload → Option Entry → Result TransmitEnd HandleError
+stream_end_in ty None = Err UnknownHandle
+stream_end_in ty (Some (entry.Stream end)) = end_typed ty end
+stream_end_in ty (Some _) = Err WrongKind
 
 -- the end of a stream of this payload that a number stands for
-abbrev pub stream_of : Handles → Payload → ℕ → Result TransmitEnd HandleError
-stream_of h ty idx = stream_in ty (entry_at h idx)
+abbrev pub stream_end_of : Handles → Payload → ℕ → Result TransmitEnd HandleError
+stream_end_of h ty idx = stream_end_in ty (entry_at h idx)
 
 -- the end of a future of this payload
-abbrev pub future_in : Payload → Option Entry → Result TransmitEnd HandleError
-future_in ty None = Err UnknownHandle
-future_in ty (Some (entry.Future end)) = typed ty end
-future_in ty (Some _) = Err WrongKind
+abbrev pub future_end_in : Payload → Option Entry → Result TransmitEnd HandleError
+future_end_in ty None = Err UnknownHandle
+future_end_in ty (Some (entry.Future end)) = end_typed ty end
+future_end_in ty (Some _) = Err WrongKind
 
 -- the end of a future of this payload that a number stands for
-abbrev pub future_of : Handles → Payload → ℕ → Result TransmitEnd HandleError
-future_of h ty idx = future_in ty (entry_at h idx)
+abbrev pub future_end_of : Handles → Payload → ℕ → Result TransmitEnd HandleError
+future_end_of h ty idx = future_end_in ty (entry_at h idx)
 
 -- a stream's number, and the state of its end
 abbrev pub stream_rep_of : Handles → Payload → ℕ → Result (ℕ × TransmitLocalState) HandleError
 stream_rep_of h ty idx = do
-  end ← stream_of h ty idx
+  end ← stream_end_of h ty idx
   Ok (end.rep, end.state)
 
 -- a future's number, and the state of its end
 abbrev pub future_rep_of : Handles → Payload → ℕ → Result (ℕ × TransmitLocalState) HandleError
 future_rep_of h ty idx = do
-  end ← future_of h ty idx
+  end ← future_end_of h ty idx
   Ok (end.rep, end.state)
 
 -- the number of a stream or future, whatever its payload, and the state of its end

@@ -114,7 +114,7 @@ pub struct TransmitEnd {
 
 impl TransmitEnd {
     ghost use Rattle.strm_handles.specs.Ends.{read_end, write_end};
-    ghost use Rattle.strm_handles.specs.Lookups.{typed};
+    ghost use Rattle.strm_handles.specs.Lookups.{end_typed};
 
     /// A new read end.
     #[inline(always)]
@@ -142,8 +142,8 @@ impl TransmitEnd {
 
     #[inline(always)]
     pub(crate) fn typed(&self, ty: &Payload) -> Result<&TransmitEnd, HandleError>
-        ensures ok { IfOk result (λ end. typed ty.now self.now ≡ Ok end.now) }
-        ensures err { IfErr result (λ e. typed ty.now self.now ≡ Err e) }
+        ensures ok { IfOk result (λ end. end_typed ty.now self.now ≡ Ok end.now) }
+        ensures err { IfErr result (λ e. end_typed ty.now self.now ≡ Err e) }
     {
         let same = match (&self.ty, ty) {
             (Payload::One(mine), Payload::One(other)) => mine == other,

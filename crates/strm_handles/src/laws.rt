@@ -10,7 +10,7 @@ ghost use Rattle.strm_handles.specs.Handles.{handle_limit, Handles, TableOf, Tab
 ghost use Rattle.strm_handles.specs.Changes.{Inserts, Removes};
 ghost use Rattle.strm_handles.specs.Counters.{Counter, counted, uncounted};
 ghost use Rattle.strm_handles.specs.Live.{CountsAlike, CountsOccupied};
-ghost use Rattle.strm_handles.specs.Lookups.{stream_of, future_of, error_context_rep_of, subtask_rep_of, waitable_set_rep_of, guest_thread_rep_of};
+ghost use Rattle.strm_handles.specs.Lookups.{stream_end_of, future_end_of, error_context_rep_of, subtask_rep_of, waitable_set_rep_of, guest_thread_rep_of};
 ghost use Rattle.strm_handles.specs.Ends.{stream_readable_of, stream_writable_of, future_readable_of, future_writable_of};
 ghost use Rattle.strm_handles.specs.Lends.{resource_lend_of, resource_undo_lend_of, remove_resource_of, HasLend, lent, returned};
 
@@ -63,9 +63,9 @@ pub fn live_is_counted()
 
     // Setting a state counts nothing.
     ensures set_state { (h : Handles) (ty : Payload) (n : ℕ) (state : TransmitLocalState) →
-        IfOk (stream_of h ty n) (λ end.
+        IfOk (stream_end_of h ty n) (λ end.
         live_of (with_entry h n (entry.Stream (record end { state = state }))) ≡ live_of h)
-        × IfOk (future_of h ty n) (λ end.
+        × IfOk (future_end_of h ty n) (λ end.
         live_of (with_entry h n (entry.Future (record end { state = state }))) ≡ live_of h) }
     ensures insert_thread { (old new : TableOf ℕ) (before after : Counter) (rep : ℕ)
         (result : Result ℕ HandleError) → IsTable old.handles →
@@ -93,8 +93,8 @@ pub fn inserts_are_refused_exactly()
 pub fn wrong_types_are_other_payloads()
     ensures stream { (h : Handles) (ty : Payload) (n : ℕ) (end : TransmitEnd) →
         entry_at h n ≡ Some (entry.Stream end) →
-        (stream_of h ty n ≡ Err WrongType) ↔ (end.ty ≢ ty) }
+        (stream_end_of h ty n ≡ Err WrongType) ↔ (end.ty ≢ ty) }
     ensures future { (h : Handles) (ty : Payload) (n : ℕ) (end : TransmitEnd) →
         entry_at h n ≡ Some (entry.Future end) →
-        (future_of h ty n ≡ Err WrongType) ↔ (end.ty ≢ ty) }
+        (future_end_of h ty n ≡ Err WrongType) ↔ (end.ty ≢ ty) }
 {}

@@ -12,10 +12,10 @@ use Rattle.strm_buffers.specs.declared.answers.Turn.{Turn}
 use Rattle.strm_buffers.specs.declared.answers.Turn.TheVariants.{Pending, Ready, Failed, NoMemory}
 use Rattle.strm_buffers.specs.Said.{IfAnswered, turn_of}
 use Rattle.strm_buffers.specs.Offers.{Offered, items_lent, good_lent, IsOffer, IsBadNext}
-use Rattle.strm_buffers.specs.Tells.{ReaderTells, PollsReader, Rises, SameOffer, reader_record, first_lent}
+use Rattle.strm_buffers.specs.Tells.{ReaderTells, PollsReader, RisesOnFailed, SameOffer, reader_record, first_lent}
 use Rattle.strm_buffers.proofs.OfferLemmas.{good_most, first_good, length-first_lent}
-use Rattle.strm_host.specs.Consuming.{Offering, ConsumerPlan, offering_of, with_taken}
-use Rattle.strm_host.specs.FutureConsuming.{FutureConsumerPlan, KeepsTaking, is_spent, stream_turn, taking_of, consumer_plan, IsSettled}
+use Rattle.strm_host.specs.Consuming.{ItemOffer, ConsumerPlan, offering_of, took_more}
+use Rattle.strm_host.specs.FutureConsuming.{FutureConsumerPlan, KeepsTaking, is_used_up, stream_turn, taking_of, consumer_plan, IsSettled}
 
 -- what is known of an offer that came back, said of the one that was lent
 module _ (o p : Offered) (same : SameOffer o p) (s : IsOffer p.payload p.source p.taken p.bad) where
@@ -33,8 +33,8 @@ module _ (o p : Offered) (same : SameOffer o p) (s : IsOffer p.payload p.source 
   -- what a poll of the consumer leaves
   pub record Consumed (old new : ReaderTells) (finish : Bool) (answer : Answer) : Type 0 where
     pub said : new.said ≡ old.said ++ reader_record o p finish answer ∷ []
-    pub took : new.holds ≡ with_taken old.holds p.taken (offering_of o)
-    pub failed : Rises answer old.faults new.faults
+    pub took : new.holds ≡ took_more old.holds p.taken (offering_of o)
+    pub failed : RisesOnFailed answer old.faults new.faults
     pub closed : new.closed ≡ old.closed
     pub heard : new.heard ≡ old.heard
     pub kind : new.kind ≡ old.kind
@@ -67,7 +67,7 @@ at_answer turn a P e p = answered_by a P (subst (λ t. IfAnswered t P) e p)
 -- FUTURES
 
 -- nothing is left where all that was offered is taken
-pub spent_left : (o : Offered) (n : ℕ) → n ≤ length (good_lent (scalars_of o.payload) o.source) → ((items_lent o.source - n) == 0) ≡ is_spent (offering_of o) n
+pub spent_left : (o : Offered) (n : ℕ) → n ≤ length (good_lent (scalars_of o.payload) o.source) → ((items_lent o.source - n) == 0) ≡ is_used_up (offering_of o) n
 spent_left o n h =
     let g : ℕ = length (good_lent (scalars_of o.payload) o.source) in
     decided (nat_lt g (items_lent o.source)) refl (nat_le g n) refl
@@ -87,12 +87,12 @@ spent_left o n h =
         grind (arith, nat_tests)
 
 -- a poll is what was planned
-abbrev KeepsPlan : ConsumerPlan → Offering → Bool → ℕ → Turn StreamResult → Type 0
+abbrev KeepsPlan : ConsumerPlan → ItemOffer → Bool → ℕ → Turn StreamResult → Type 0
 KeepsPlan plan offering finish taken turn =
     IfSome plan (λ next. IfAnswered turn (λ a. next offering finish ≡ record { taken = taken; answer = a }))
 
 -- a poll that is the future's plan is the stream's
-pub stream_taken : (plan : FutureConsumerPlan) (offering : Offering) (finish : Bool) (taken : ℕ) (turn : Turn (Unit {0})) (spent : Bool) → spent ≡ is_spent offering taken → KeepsTaking plan offering finish taken turn
+pub stream_taken : (plan : FutureConsumerPlan) (offering : ItemOffer) (finish : Bool) (taken : ℕ) (turn : Turn (Unit {0})) (spent : Bool) → spent ≡ is_used_up offering taken → KeepsTaking plan offering finish taken turn
     → KeepsPlan (consumer_plan plan) offering finish taken (stream_turn turn spent)
 stream_taken None offering finish taken turn spent s k = tt
 stream_taken (Some next) offering finish taken Pending spent s k = ap (taking_of offering) k

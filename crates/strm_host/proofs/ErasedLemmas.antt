@@ -11,7 +11,7 @@ use Rattle.strm_buffers.specs.Said.{WriterSaid, in_room, past_room, turn_of, IfA
 use Rattle.strm_buffers.specs.declared.answers.Turn.{Turn}
 use Rattle.strm_buffers.proofs.EndLemmas.{IfAnswered-turn_of}
 use Rattle.strm_host.specs.Producing.{Plan}
-use Rattle.strm_buffers.specs.Tells.{WriterTells, PollsWriter, Rises, writer_record}
+use Rattle.strm_buffers.specs.Tells.{WriterTells, PollsWriter, RisesOnFailed, writer_record}
 use Rattle.strm_buffers.specs.declared.answers.Answer.{Answer}
 
 -- what there is room for and what there is not are all
@@ -29,7 +29,7 @@ pub record Did (old new : WriterTells) (window after : Lent) (finish : Bool) (it
   pub marked : after.marked ≡ in_room (room_of window.place) items
   pub held : new.holds ≡ past_room (room_of window.place) items
   pub fit : AreItems (scalars_of old.payload) items
-  pub failed : Rises answer old.faults new.faults
+  pub failed : RisesOnFailed answer old.faults new.faults
   pub closed : new.closed ≡ old.closed
   pub heard : new.heard ≡ old.heard
   pub kind : new.kind ≡ old.kind

@@ -5,8 +5,8 @@ use Rattle.strm_buffers.specs.Buffers.{option_items}
 use Rattle.strm_buffers.specs.Listing.{Item}
 use Rattle.strm_buffers.specs.Said.{IfAnswered}
 use Rattle.strm_buffers.specs.declared.answers.Turn.{Turn}
-use Rattle.strm_host.specs.Producing.{Poll, polled}
-use Rattle.strm_host.specs.Futures.{FuturePlan, poll_of, stream_plan}
+use Rattle.strm_host.specs.Producing.{ProducerPoll, polled}
+use Rattle.strm_host.specs.Futures.{FuturePlan, future_poll, stream_plan}
 
 module _ {A : Type 0} where
   pub one_at_most : (buffer : Option A) → length (option_items buffer) < 4294967295
@@ -15,10 +15,10 @@ module _ {A : Type 0} where
 
   module _ (item : A → Item) (turn : Turn StreamResult) (buffer : Option A) where
     -- the turn and what it left in the buffer are this poll
-    abbrev pub IsPoll : Poll → Type 0
+    abbrev pub IsPoll : ProducerPoll → Type 0
     IsPoll poll = IfAnswered turn (λ answer. poll ≡ polled item [] (option_items buffer) answer)
 
     -- a poll that is the future's plan is the stream's
-    pub stream_planned : (plan : Option (FuturePlan A)) (room : Option ℕ) (finish : Bool) → IfSome plan (λ next. IsPoll (poll_of item (next finish))) → IfSome (stream_plan item plan) (λ next. IsPoll (next room finish))
+    pub stream_planned : (plan : Option (FuturePlan A)) (room : Option ℕ) (finish : Bool) → IfSome plan (λ next. IsPoll (future_poll item (next finish))) → IfSome (stream_plan item plan) (λ next. IsPoll (next room finish))
     stream_planned None room finish planned = tt
     stream_planned (Some next) room finish planned = planned

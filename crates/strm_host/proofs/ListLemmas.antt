@@ -3,7 +3,7 @@ use Rattle.std.proofs.Common.{◌≡◌, ◌<◌, ◌≤◌, List, [], length, a
 use Rattle.std.proofs.lemmas.Grind.{common_steps}
 use Rattle.strm_buffers.specs.Listing.{Item}
 use Rattle.strm_buffers.specs.Said.{IfAnswered}
-use Rattle.strm_buffers.specs.Tells.{Rises}
+use Rattle.strm_buffers.specs.Tells.{RisesOnFailed}
 use Rattle.strm_host.specs.Producing.{polled}
 use Rattle.strm_host.specs.Lists.{list_faults, list_turn, list_gives, list_keeps, list_poll}
 
@@ -11,7 +11,7 @@ module _ {T : Type 0} (items : List T) where
   pub few_given : length (list_gives items) < 4294967295
   few_given = grind (arith, common_steps)
 
-  pub failed_aloud : IfAnswered (list_turn items) (λ answer. Rises answer (list_faults items) (list_faults (list_keeps items)))
+  pub failed_aloud : IfAnswered (list_turn items) (λ answer. RisesOnFailed answer (list_faults items) (list_faults (list_keeps items)))
   failed_aloud = grind (arith, common_steps)
 
   pub more_faults : list_faults items ≤ list_faults (list_keeps items)

@@ -7,7 +7,7 @@ use Rattle.strm_buffers.specs.Listing.{Item}
 use Rattle.strm_buffers.specs.declared.answers.Answer.TheVariants as answer
 use Rattle.strm_buffers.specs.declared.answers.Turn.{Turn}
 use Rattle.strm_buffers.specs.declared.answers.Turn.TheVariants.{Pending, Ready, Failed, NoMemory}
-use Rattle.strm_host.specs.Producing.{Poll, Plan}
+use Rattle.strm_host.specs.Producing.{ProducerPoll, Plan}
 
 -- what a poll answers, asked to finish or not
 abbrev pub FuturePlan : Type 0 → Type 0
@@ -31,16 +31,16 @@ IsPlanned (Some plan) finish turn = IfPolled turn (turn ≡ plan finish)
 -- AS A STREAM
 
 -- a value is one item and Completed, none is Cancelled; running out of memory is no poll, and is passed on
-abbrev pub poll_of : {A : Type 0} → (A → Item) → Turn (Option A) → Poll
-poll_of item Pending = record { items = []; answer = answer.Pending }
-poll_of item (Ready (Some value)) = record { items = item value ∷ []; answer = answer.Completed }
-poll_of item (Ready None) = record { items = []; answer = answer.Cancelled }
-poll_of item Failed = record { items = []; answer = answer.Failed }
-poll_of item NoMemory = record { items = []; answer = answer.Pending }
+abbrev pub future_poll : {A : Type 0} → (A → Item) → Turn (Option A) → ProducerPoll
+future_poll item Pending = record { items = []; answer = answer.Pending }
+future_poll item (Ready (Some value)) = record { items = item value ∷ []; answer = answer.Completed }
+future_poll item (Ready None) = record { items = []; answer = answer.Cancelled }
+future_poll item Failed = record { items = []; answer = answer.Failed }
+future_poll item NoMemory = record { items = []; answer = answer.Pending }
 
 -- the plan that follows from a future's
 abbrev pub stream_plan : {A : Type 0} → (A → Item) → Option (FuturePlan A) → Plan
-stream_plan item plan = option_map (λ next room finish. poll_of item (next finish)) plan
+stream_plan item plan = option_map (λ next room finish. future_poll item (next finish)) plan
 
 -- Completed comes with a value, no other answer does, and Dropped never comes
 abbrev pub IsValued : {A : Type 0} → Turn StreamResult → Option A → Type 0

@@ -7,7 +7,7 @@ use Rattle.strm_buffers.specs.declared.answers.Answer.TheVariants as answer
 use Rattle.strm_buffers.specs.declared.answers.Turn.{Turn}
 use Rattle.strm_buffers.specs.declared.answers.Turn.TheVariants.{Ready, Failed}
 use Rattle.strm_buffers.specs.Listing.{Item}
-use Rattle.strm_host.specs.Producing.{Poll, Plan}
+use Rattle.strm_host.specs.Producing.{ProducerPoll, Plan}
 
 module _ {T : Type 0} where
   -- more items than one poll may produce
@@ -31,7 +31,7 @@ module _ {T : Type 0} where
   list_keeps items = if is_too_long items then items else []
 
   -- the poll that does so
-  abbrev pub list_poll : (T → Item) → List T → Poll
+  abbrev pub list_poll : (T → Item) → List T → ProducerPoll
   list_poll item items =
       if is_too_long items
       then record { items = []; answer = answer.Failed }

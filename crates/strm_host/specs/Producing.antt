@@ -8,17 +8,17 @@ use Rattle.strm_buffers.specs.Listing.{Item}
 use Rattle.strm_buffers.specs.Windows.{Lent, stored_in}
 
 -- one poll: all items that it produces, and its answer
-pub record Poll : Type 0 where
+pub record ProducerPoll : Type 0 where
   pub items : List Item
   pub answer : Answer
 
 -- the next poll of a producer, by how many items there is room for (None: as many as it likes) and
 -- whether it is asked to finish; none where the producer doesn't tell
 abbrev pub Plan : Type 0
-Plan = Option (Option ℕ → Bool → Poll)
+Plan = Option (Option ℕ → Bool → ProducerPoll)
 
 -- the poll that marked these items and left those in its buffer
-abbrev pub polled : {T : Type 0} → (T → Item) → List Item → List T → Answer → Poll
+abbrev pub polled : {T : Type 0} → (T → Item) → List Item → List T → Answer → ProducerPoll
 polled item marked buffered answer = record { items = marked ++ map item buffered; answer = answer }
 
 -- the window after these bytes were written at the front of its unmarked ones, and marked

@@ -20,7 +20,7 @@ use Rattle.strm_machine.specs.declared.acts.Act.TheVariants.{OnHost}
 use Rattle.strm_machine.specs.declared.acts.HostAct.TheVariants as host_acts
 use Rattle.strm_machine.specs.declared.replies.Reply.TheVariants as replies
 use Rattle.strm_machine.specs.declared.steps.Step.TheVariants as steps
-use Rattle.strm_transmit.specs.Meets.{replied, Meets}
+use Rattle.strm_transmit.specs.Meets.{as_reply, Meets}
 use Rattle.strm_transmit.specs.Hosted.{MeetsHosted}
 use Rattle.strm_transmit.specs.declared.errors.StoreError.{StoreError}
 use Rattle.strm_transmit.specs.declared.errors.StoreError.TheVariants.{OutOfMemory}
@@ -29,16 +29,16 @@ use Rattle.strm_host.specs.declared.reader_errors.ReaderError.{ReaderError}
 use Rattle.strm_host.specs.declared.reader_errors.ReaderError.TheVariants.{AlreadyClosed, ForeignReader, TypeMismatch, KindMismatch, Store}
 
 -- the loose read end of this stream of the store with this tag
-abbrev pub read_end : ℕ → ℕ → ReadEnd
-read_end tag stream = record { tag = tag; id = stream }
+abbrev pub loose_read_end : ℕ → ℕ → ReadEnd
+loose_read_end tag stream = record { tag = tag; id = stream }
 
 -- one that was used: no stream has its number
-abbrev pub used : ReadEnd → ReadEnd
-used end = record end { id = 4294967295 }
+abbrev pub used_read_end : ReadEnd → ReadEnd
+used_read_end end = record end { id = 4294967295 }
 
 -- memory was wanting
-abbrev pub no_memory : ReaderError
-no_memory = Store OutOfMemory
+abbrev pub reader_no_memory : ReaderError
+reader_no_memory = Store OutOfMemory
 
 -- BEFORE THE STORE IS ASKED
 
@@ -76,9 +76,9 @@ as_reader f (Ok value) = Ok (f value)
 as_reader f (Err error) = Err (Store error)
 
 -- a call of a read end: it is refused and nothing has changed, or it is the store's
-abbrev pub Calls : {A B : Type 0} → Option ReaderError → Type 0 → (A → B) → (Result A StoreError → Type 0) → Result B ReaderError → Type 0
-Calls (Some error) Same f Meets result = (result ≡ Err error) × Same
-Calls {A} None Same f Meets result = (answer : Result A StoreError) × (result ≡ as_reader f answer) × Meets answer
+abbrev pub CallsReadEnd : {A B : Type 0} → Option ReaderError → Type 0 → (A → B) → (Result A StoreError → Type 0) → Result B ReaderError → Type 0
+CallsReadEnd (Some error) Same f Meets result = (result ≡ Err error) × Same
+CallsReadEnd {A} None Same f Meets result = (answer : Result A StoreError) × (result ≡ as_reader f answer) × Meets answer
 
 -- a conversion: what is asked for, or what was given with the reason of the refusal
 abbrev pub converted : {A B : Type 0} → Option ReaderError → A → B → Result A (B × ReaderError)
@@ -95,26 +95,26 @@ refused_only (Err back) = Err (back.1)
 -- a stream of a host writer is made, of this type, and its read end is had
 abbrev pub Makes : State → State → Tells → ℕ → TransmitIndex → Result ReadEnd ReaderError → Type 0
 Makes old new tells writer ty result =
-    Calls (host_tested old tells writer ty) (new ≡ old) (read_end old.tag)
-    (λ answer. MeetsHosted old new tells tells (replied replies.Number answer) (OnHost writer host_acts.New)) result
+    CallsReadEnd (host_tested old tells writer ty) (new ≡ old) (loose_read_end old.tag)
+    (λ answer. MeetsHosted old new tells tells (as_reply replies.Number answer) (OnHost writer host_acts.New)) result
 
 -- the read end of a guest is taken out of it
 abbrev pub Lifts : State → State → ℕ → TransmitIndex → ℕ → Result ReadEnd ReaderError → Type 0
 Lifts old new guest ty handle result =
-    Calls None (new ≡ old) (read_end old.tag)
-    (λ answer. Meets old new (replied replies.Number answer) (react old (steps.Lift guest ty handle))) result
+    CallsReadEnd None (new ≡ old) (loose_read_end old.tag)
+    (λ answer. Meets old new (as_reply replies.Number answer) (react old (steps.Lift guest ty handle))) result
 
 -- a guest is given the read end
-abbrev pub Lowers : ReadEnd → State → State → ℕ → TransmitIndex → Result ℕ ReaderError → Type 0
-Lowers end old new guest ty result =
-    Calls (tested end old.tag) (new ≡ old) (λ handle. handle)
-    (λ answer. Meets old new (replied replies.Number answer) (react old (steps.Lower end.id guest ty))) result
+abbrev pub LowersReadEnd : ReadEnd → State → State → ℕ → TransmitIndex → Result ℕ ReaderError → Type 0
+LowersReadEnd end old new guest ty result =
+    CallsReadEnd (tested end old.tag) (new ≡ old) (λ handle. handle)
+    (λ answer. Meets old new (as_reply replies.Number answer) (react old (steps.Lower end.id guest ty))) result
 
 -- a call among host ends that answers nothing
 abbrev pub CallsAmong : ReadEnd → State → State → Tells → Tells → Act → Result (Unit {0}) ReaderError → Type 0
 CallsAmong end old new tells told act result =
-    Calls (tested end old.tag) ((new ≡ old) × (told ≡ tells)) (λ done. done)
-    (λ answer. MeetsHosted old new tells told (replied (λ _. replies.Done) answer) act) result
+    CallsReadEnd (tested end old.tag) ((new ≡ old) × (told ≡ tells)) (λ done. done)
+    (λ answer. MeetsHosted old new tells told (as_reply (λ _. replies.Done) answer) act) result
 
 -- the read end is given to host reader r
 abbrev pub PipesTo : ReadEnd → State → State → Tells → Tells → ℕ → Result (Unit {0}) ReaderError → Type 0
@@ -135,7 +135,7 @@ Releases end old new result = ReleasesBy (tested end old.tag) end.id old new res
 
 -- the read end then: it is used where it was released
 abbrev pub left_by : Result (Option ℕ) ReaderError → ReadEnd → ReadEnd
-left_by (Ok (Some number)) end = used end
+left_by (Ok (Some number)) end = used_read_end end
 left_by _ end = end
 
 -- HOW IT PRINTS

@@ -13,8 +13,8 @@ use strm_memory::payloaded::Payloaded;
 pub trait StreamConsumer: Drop {
     ghost use Rattle.std.specs.Prelude.{ℕ, Bool, None, ⊤};
     ghost use Rattle.strm_buffers.specs.Said.{IfAnswered, IfNoMemory};
-    ghost use Rattle.strm_buffers.specs.Tells.{SameOffer, Rises};
-    ghost use Rattle.strm_host.specs.Consuming.{Offering, ConsumerPlan, Took, offering_of, with_taken};
+    ghost use Rattle.strm_buffers.specs.Tells.{SameOffer, RisesOnFailed};
+    ghost use Rattle.strm_host.specs.Consuming.{ItemOffer, ConsumerPlan, Took, offering_of, took_more};
 
     /// One item.
     type Item: Payloaded;
@@ -30,7 +30,7 @@ pub trait StreamConsumer: Drop {
 
     // What a poll that answers leaves of it: the consumer before, what it is offered, whether it is
     // asked to finish, and the consumer after.
-    ghost leaves: { Self → Offering → Bool → Self → Type 0 } = { λ _ _ _ _. ⊤ };
+    ghost leaves: { Self → ItemOffer → Bool → Self → Type 0 } = { λ _ _ _ _. ⊤ };
 
     /// Takes items off the source's front. Where it answers `NoMemory`, it took none. Each item that was
     /// read from the source, or marked as read, counts as taken, whatever the answer.
@@ -86,9 +86,9 @@ pub trait StreamConsumer: Drop {
         ensures same { SameOffer source.entry.offer.now source.exit.0.now }
         ensures untaken { IfNoMemory result (source.exit.0.now.taken ≡ 0) }
         ensures failed { IfAnswered result
-            (λ answer. Rises answer (faults self.old) (faults self.new)) }
+            (λ answer. RisesOnFailed answer (faults self.old) (faults self.new)) }
         ensures faults { faults self.old ≤ faults self.new }
-        ensures took { IfAnswered result (λ _. took self.new ≡ with_taken (took self.old)
+        ensures took { IfAnswered result (λ _. took self.new ≡ took_more (took self.old)
             source.exit.0.now.taken (offering_of source.entry.offer.now)) }
         ensures kept { IfNoMemory result (took self.new ≡ took self.old) }
         ensures plan { IfSome (plan self.old) (λ next. IfAnswered result (λ answer.

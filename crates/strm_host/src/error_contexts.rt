@@ -9,7 +9,7 @@ ghost use Rattle.strm_machine.specs.Reactions.{lowers_context};
 ghost use Rattle.strm_machine.specs.Refusals.{first_of, context_reasons};
 ghost use Rattle.strm_machine.specs.declared.replies.Reply.TheVariants as replies;
 ghost use Rattle.strm_transmit.specs.Hosted.{StillFits};
-ghost use Rattle.strm_transmit.specs.Meets.{replied, Meets, admitted, or_found};
+ghost use Rattle.strm_transmit.specs.Meets.{as_reply, Meets, admitted, or_found};
 ghost use Rattle.strm_host.specs.ErrorContexts.{rep_of};
 
 use strm_codes::vals::{ErrorContextAny, Val};
@@ -63,7 +63,7 @@ impl ErrorContext {
 
     /// Gives a guest a handle to it (`Store::error_context_lower`).
     pub fn lower(&self, store: &mut Store, guest: u32) -> Result<u32, StoreError>
-        ensures meets { Meets store.old store.new (replied replies.Number result)
+        ensures meets { Meets store.old store.new (as_reply replies.Number result)
             (lowers_context store.old self.now.rep guest) }
         ensures fits { StillFits store.old store.new }
     {

@@ -6,8 +6,8 @@
 ghost use Rattle.std.specs.Prelude.{◌≡◌, ◌==◌, ◌≤◌, false, IfSome};
 ghost use Rattle.strm_buffers.specs.Tells.{SameOffer, Rose};
 ghost use Rattle.strm_host.specs.Futures.{IfFailed, IfPolled};
-ghost use Rattle.strm_host.specs.Consuming.{offering_of, with_taken};
-ghost use Rattle.strm_host.specs.FutureConsuming.{KeepsTaking, IfWanting, stream_turn};
+ghost use Rattle.strm_host.specs.Consuming.{offering_of, took_more};
+ghost use Rattle.strm_host.specs.FutureConsuming.{KeepsTaking, IfTurnWanting, stream_turn};
 
 use crate::consumers::StreamConsumer;
 use crate::sources::Source;
@@ -17,7 +17,7 @@ use strm_memory::payloaded::Payloaded;
 /// A sink of one value, which is polled until it is done.
 pub trait FutureConsumer: Drop {
     ghost use Rattle.std.specs.Prelude.{ℕ, Bool, None, ⊤};
-    ghost use Rattle.strm_host.specs.Consuming.{Offering, Took};
+    ghost use Rattle.strm_host.specs.Consuming.{ItemOffer, Took};
     ghost use Rattle.strm_host.specs.FutureConsuming.{FutureConsumerPlan};
 
     /// The type of the value.
@@ -34,7 +34,7 @@ pub trait FutureConsumer: Drop {
 
     // What a poll leaves of it, unless memory was wanting: the consumer before, what it is offered,
     // whether it is asked to finish, and the consumer after.
-    ghost leaves: { Self → Offering → Bool → Self → Type 0 } = { λ _ _ _ _. ⊤ };
+    ghost leaves: { Self → ItemOffer → Bool → Self → Type 0 } = { λ _ _ _ _. ⊤ };
 
     /// Takes the value, or answers `Pending`. It is done with the value taken, or without it where it
     /// was asked to finish. Where it answers `NoMemory`, it took none.
@@ -62,12 +62,12 @@ pub trait FutureConsumer: Drop {
         requires nothing_taken { source.offer.now.taken ≡ 0 }
         requires not_bad { source.offer.now.bad ≡ false }
         ensures same { SameOffer source.entry.offer.now source.exit.0.now }
-        ensures untaken { IfWanting result (source.exit.0.now.taken ≡ 0) }
+        ensures untaken { IfTurnWanting result (source.exit.0.now.taken ≡ 0) }
         ensures later { faults self.old ≤ faults self.new }
         ensures failed { IfFailed result (Rose (faults self.old) (faults self.new)) }
-        ensures took { IfPolled result (took self.new ≡ with_taken (took self.old)
+        ensures took { IfPolled result (took self.new ≡ took_more (took self.old)
             source.exit.0.now.taken (offering_of source.entry.offer.now)) }
-        ensures kept { IfWanting result (took self.new ≡ took self.old) }
+        ensures kept { IfTurnWanting result (took self.new ≡ took self.old) }
         ensures planned { KeepsTaking (plan self.old) (offering_of source.entry.offer.now) finish
             source.exit.0.now.taken result }
         ensures leaves { IfPolled result
@@ -93,7 +93,7 @@ impl<F: FutureConsumer> StreamConsumer for Consumer<F> {
     ghost use Rattle.std.specs.Prelude.{◌-◌};
     ghost use Rattle.strm_buffers.specs.Offers.{items_lent};
     ghost use Rattle.strm_buffers.specs.Said.{IfAnswered, IfNoMemory};
-    ghost use Rattle.strm_buffers.specs.Tells.{Rises};
+    ghost use Rattle.strm_buffers.specs.Tells.{RisesOnFailed};
     ghost use Rattle.strm_host.specs.Consuming.{ConsumerPlan};
     ghost use Rattle.strm_host.specs.FutureConsuming.{consumer_plan, IsSettled};
 
@@ -114,9 +114,9 @@ impl<F: FutureConsumer> StreamConsumer for Consumer<F> {
         ensures same { SameOffer source.entry.offer.now source.exit.0.now }
         ensures untaken { IfNoMemory result (source.exit.0.now.taken ≡ 0) }
         ensures failed { IfAnswered result
-            (λ answer. Rises answer (F.faults self.old.future) (F.faults self.new.future)) }
+            (λ answer. RisesOnFailed answer (F.faults self.old.future) (F.faults self.new.future)) }
         ensures faults { F.faults self.old.future ≤ F.faults self.new.future }
-        ensures took { IfAnswered result (λ _. F.took self.new.future ≡ with_taken
+        ensures took { IfAnswered result (λ _. F.took self.new.future ≡ took_more
             (F.took self.old.future) source.exit.0.now.taken (offering_of source.entry.offer.now)) }
         ensures kept { IfNoMemory result (F.took self.new.future ≡ F.took self.old.future) }
         ensures plan { IfSome (consumer_plan (F.plan self.old.future)) (λ next. IfAnswered result

@@ -8,7 +8,7 @@ ghost use Rattle.std.specs.Prelude.{◌≡◌, ◌≢◌, Err, OnOk, OnErr, IfEr
 ghost use Rattle.strm_codes.specs.declared.codes.TransmitIndex.TheVariants.{Future};
 ghost use Rattle.strm_host_machine.specs.Does.{Fits};
 ghost use Rattle.strm_transmit.specs.Hosted.{StillFits};
-ghost use Rattle.strm_host.specs.ReadEnds.{used, no_memory, tested, any_tested, converted, refused_only, Makes, Lifts, Lowers, PipesTo, Closes};
+ghost use Rattle.strm_host.specs.ReadEnds.{used_read_end, reader_no_memory, tested, any_tested, converted, refused_only, Makes, Lifts, LowersReadEnd, PipesTo, Closes};
 
 use crate::read_ends::ReadEnd;
 use crate::reader_errors::ReaderError;
@@ -81,7 +81,7 @@ impl<T: Payloaded> FutureReader<T> {
     pub fn lift(store: &mut Store, guest: u32, handle: u32) -> Result<FutureReader<T>, ReaderError>
         ensures calls { Lifts store.old store.new guest (Future T.payload) handle result }
         ensures fits { StillFits store.old store.new }
-        ensures takes_no_memory { result ≢ Err no_memory }
+        ensures takes_no_memory { result ≢ Err reader_no_memory }
     {
         let end = ReadEnd::lift(store, guest, FutureReader::<T>::ty(), handle)?;
         Ok(FutureReader::of(end))
@@ -90,8 +90,8 @@ impl<T: Payloaded> FutureReader<T> {
     /// Gives a guest the read end (`Store::lower`): its handle. The reader is then used; an error leaves
     /// it.
     pub fn lower(&mut self, store: &mut Store, guest: u32) -> Result<u32, ReaderError>
-        ensures calls { Lowers self.old store.old store.new guest (Future T.payload) result }
-        ensures ok { OnOk result (self.new ≡ used self.old) }
+        ensures calls { LowersReadEnd self.old store.old store.new guest (Future T.payload) result }
+        ensures ok { OnOk result (self.new ≡ used_read_end self.old) }
         ensures err { OnErr result (self.new ≡ self.old) }
         ensures fits { StillFits store.old store.new }
     {
@@ -109,10 +109,10 @@ impl<T: Payloaded> FutureReader<T> {
         requires fits { Fits store.old (H.tells hosts.old) }
         ensures calls { PipesTo self.old store.old store.new (H.tells hosts.old) (H.tells hosts.new)
             reader result }
-        ensures ok { OnOk result (self.new ≡ used self.old) }
+        ensures ok { OnOk result (self.new ≡ used_read_end self.old) }
         ensures err { OnErr result (self.new ≡ self.old) }
         ensures fits { Fits store.new (H.tells hosts.new) }
-        ensures takes_no_memory { result ≢ Err no_memory }
+        ensures takes_no_memory { result ≢ Err reader_no_memory }
     {
         self.end.pipe(store, hosts, reader)
     }
@@ -126,10 +126,10 @@ impl<T: Payloaded> FutureReader<T> {
         requires fits { Fits store.old (H.tells hosts.old) }
         ensures calls { Closes self.old store.old store.new (H.tells hosts.old) (H.tells hosts.new)
             result }
-        ensures ok { OnOk result (self.new ≡ used self.old) }
+        ensures ok { OnOk result (self.new ≡ used_read_end self.old) }
         ensures err { OnErr result (self.new ≡ self.old) }
         ensures fits { Fits store.new (H.tells hosts.new) }
-        ensures takes_no_memory { result ≢ Err no_memory }
+        ensures takes_no_memory { result ≢ Err reader_no_memory }
     {
         self.end.close(store, hosts)
     }
@@ -213,7 +213,7 @@ impl<T: Payloaded> GuardedFutureReader<T> {
             (H.tells hosts.new) (refused_only result) }
         ensures back { IfErr result (λ back. back.0.reader ≡ self.reader) }
         ensures fits { Fits store.new (H.tells hosts.new) }
-        ensures takes_no_memory { refused_only result ≢ Err no_memory }
+        ensures takes_no_memory { refused_only result ≢ Err reader_no_memory }
     {
         let GuardedFutureReader { mut reader } = self;
         match reader.close(store, hosts) {
@@ -267,10 +267,10 @@ impl FutureAny {
         requires fits { Fits store.old (H.tells hosts.old) }
         ensures calls { Closes self.old.end store.old store.new (H.tells hosts.old)
             (H.tells hosts.new) result }
-        ensures ok { OnOk result (self.new ≡ record self.old { end = used self.old.end }) }
+        ensures ok { OnOk result (self.new ≡ record self.old { end = used_read_end self.old.end }) }
         ensures err { OnErr result (self.new ≡ self.old) }
         ensures fits { Fits store.new (H.tells hosts.new) }
-        ensures takes_no_memory { result ≢ Err no_memory }
+        ensures takes_no_memory { result ≢ Err reader_no_memory }
     {
         self.end.close(store, hosts)
     }

@@ -17,7 +17,7 @@ pub trait StreamProducer: Drop {
     ghost use Rattle.std.specs.Prelude.{ℕ, Bool, Option, None, ⊤};
     ghost use Rattle.strm_buffers.specs.Said.{IfAnswered};
     ghost use Rattle.strm_buffers.specs.Windows.{room_of};
-    ghost use Rattle.strm_buffers.specs.Tells.{Fills, Rises};
+    ghost use Rattle.strm_buffers.specs.Tells.{Fills, RisesOnFailed};
     ghost use Rattle.strm_host.specs.Producing.{Plan, polled};
 
     /// One item.
@@ -90,7 +90,7 @@ pub trait StreamProducer: Drop {
         ensures few { length destination.exit.0.now.window.marked
             + length (Self.Buffer.items destination.exit.0.now.buffer) < 4294967295 }
         ensures failed { IfAnswered result
-            (λ answer. Rises answer (faults self.old) (faults self.new)) }
+            (λ answer. RisesOnFailed answer (faults self.old) (faults self.new)) }
         ensures faults { faults self.old ≤ faults self.new }
         ensures plan { IfSome (plan self.old) (λ next. IfAnswered result (λ answer.
             next (room_of destination.entry.produced.now.window.place) finish

@@ -7,7 +7,7 @@ ghost use Rattle.strm_codes.specs.Layout.{scalars_of};
 ghost use Rattle.strm_memory.specs.Items.{AreItems};
 ghost use Rattle.strm_buffers.specs.Windows.{room_of};
 ghost use Rattle.strm_buffers.specs.Said.{in_room, past_room};
-ghost use Rattle.strm_buffers.specs.Tells.{Fills, Rises};
+ghost use Rattle.strm_buffers.specs.Tells.{Fills, RisesOnFailed};
 
 use crate::destinations::{Destination, Produced};
 use crate::producers::StreamProducer;
@@ -48,7 +48,7 @@ pub(crate) fn fetch<P: StreamProducer>(
     ensures of { IfOk result (λ f. f.items.payload ≡ P.Item.payload) }
     ensures fit { IfOk result (λ f. AreItems (scalars_of P.Item.payload) f.items.items) }
     ensures failed { IfOk result
-        (λ f. Rises f.answer (P.faults producer.old) (P.faults producer.new)) }
+        (λ f. RisesOnFailed f.answer (P.faults producer.old) (P.faults producer.new)) }
     ensures faults { P.faults producer.old ≤ P.faults producer.new }
     ensures fills { Fills window.old window.new }
     ensures plan { IfSome (P.plan producer.old) (λ next. IfOk result
@@ -101,7 +101,7 @@ fn produce<P: StreamProducer>(
     ensures begun { IfOk result
         (λ done. window.new.marked ≡ take (length window.new.marked) done.1.items) }
     ensures failed { IfOk result
-        (λ done. Rises done.0 (P.faults producer.old) (P.faults producer.new)) }
+        (λ done. RisesOnFailed done.0 (P.faults producer.old) (P.faults producer.new)) }
     ensures faults { P.faults producer.old ≤ P.faults producer.new }
     ensures fills { Fills window.old window.new }
     ensures plan { IfSome (P.plan producer.old) (λ next. IfOk result

@@ -7,7 +7,7 @@
 ghost use Rattle.std.specs.Prelude.{◌≡◌, ◌≢◌, ◌==◌, Err, OnOk, OnErr};
 ghost use Rattle.strm_host_machine.specs.Does.{Fits};
 ghost use Rattle.strm_transmit.specs.Hosted.{StillFits, StillKnows};
-ghost use Rattle.strm_host.specs.ReadEnds.{read_end, used, no_memory, tested, host_tested, any_tested, Makes, Lifts, Lowers, PipesTo, Closes, Releases, left_by};
+ghost use Rattle.strm_host.specs.ReadEnds.{loose_read_end, used_read_end, reader_no_memory, tested, host_tested, any_tested, Makes, Lifts, LowersReadEnd, PipesTo, Closes, Releases, left_by};
 
 use crate::reader_errors::ReaderError;
 use strm_codes::codes::TransmitIndex;
@@ -29,7 +29,7 @@ pub struct ReadEnd {
 impl ReadEnd {
     // The read end of this stream of the store with this tag.
     fn of(tag: u64, stream: u32) -> ReadEnd
-        ensures { result ≡ read_end tag stream }
+        ensures { result ≡ loose_read_end tag stream }
     {
         ReadEnd {
             tag,
@@ -53,7 +53,7 @@ impl ReadEnd {
 
     // It is used from now on.
     fn use_up(&mut self)
-        ensures { self.new ≡ used self.old }
+        ensures { self.new ≡ used_read_end self.old }
     {
         self.id = TableId::new(USED);
     }
@@ -119,7 +119,7 @@ impl ReadEnd {
     ) -> Result<ReadEnd, ReaderError>
         ensures calls { Lifts store.old store.new guest ty handle result }
         ensures fits { StillFits store.old store.new }
-        ensures takes_no_memory { result ≢ Err no_memory }
+        ensures takes_no_memory { result ≢ Err reader_no_memory }
     {
         let tag = store.tag();
         let stream = store.lift(guest, ty, handle)?;
@@ -133,8 +133,8 @@ impl ReadEnd {
         guest: u32,
         ty: TransmitIndex,
     ) -> Result<u32, ReaderError>
-        ensures calls { Lowers self.old store.old store.new guest ty result }
-        ensures ok { OnOk result (self.new ≡ used self.old) }
+        ensures calls { LowersReadEnd self.old store.old store.new guest ty result }
+        ensures ok { OnOk result (self.new ≡ used_read_end self.old) }
         ensures err { OnErr result (self.new ≡ self.old) }
         ensures fits { StillFits store.old store.new }
     {
@@ -157,10 +157,10 @@ impl ReadEnd {
         requires fits { Fits store.old (H.tells hosts.old) }
         ensures calls { PipesTo self.old store.old store.new (H.tells hosts.old) (H.tells hosts.new)
             reader result }
-        ensures ok { OnOk result (self.new ≡ used self.old) }
+        ensures ok { OnOk result (self.new ≡ used_read_end self.old) }
         ensures err { OnErr result (self.new ≡ self.old) }
         ensures fits { Fits store.new (H.tells hosts.new) }
-        ensures takes_no_memory { result ≢ Err no_memory }
+        ensures takes_no_memory { result ≢ Err reader_no_memory }
     {
         match self.test(store) {
             Some(error) => return Err(error),
@@ -200,10 +200,10 @@ impl ReadEnd {
         requires fits { Fits store.old (H.tells hosts.old) }
         ensures calls { Closes self.old store.old store.new (H.tells hosts.old) (H.tells hosts.new)
             result }
-        ensures ok { OnOk result (self.new ≡ used self.old) }
+        ensures ok { OnOk result (self.new ≡ used_read_end self.old) }
         ensures err { OnErr result (self.new ≡ self.old) }
         ensures fits { Fits store.new (H.tells hosts.new) }
-        ensures takes_no_memory { result ≢ Err no_memory }
+        ensures takes_no_memory { result ≢ Err reader_no_memory }
     {
         match self.test(store) {
             Some(error) => return Err(error),

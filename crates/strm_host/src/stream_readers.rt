@@ -8,7 +8,7 @@ ghost use Rattle.std.specs.Prelude.{◌≡◌, ◌≢◌, Err, OnOk, OnErr, IfEr
 ghost use Rattle.strm_codes.specs.declared.codes.TransmitIndex.TheVariants.{Stream};
 ghost use Rattle.strm_host_machine.specs.Does.{Fits};
 ghost use Rattle.strm_transmit.specs.Hosted.{StillFits, StillKnows};
-ghost use Rattle.strm_host.specs.ReadEnds.{used, no_memory, tested, any_tested, converted, refused_only, Makes, Lifts, Lowers, PipesTo, Closes, Releases, left_by};
+ghost use Rattle.strm_host.specs.ReadEnds.{used_read_end, reader_no_memory, tested, any_tested, converted, refused_only, Makes, Lifts, LowersReadEnd, PipesTo, Closes, Releases, left_by};
 
 use crate::read_ends::ReadEnd;
 use crate::reader_errors::ReaderError;
@@ -81,7 +81,7 @@ impl<T: Payloaded> StreamReader<T> {
     pub fn lift(store: &mut Store, guest: u32, handle: u32) -> Result<StreamReader<T>, ReaderError>
         ensures calls { Lifts store.old store.new guest (Stream T.payload) handle result }
         ensures fits { StillFits store.old store.new }
-        ensures takes_no_memory { result ≢ Err no_memory }
+        ensures takes_no_memory { result ≢ Err reader_no_memory }
     {
         let end = ReadEnd::lift(store, guest, StreamReader::<T>::ty(), handle)?;
         Ok(StreamReader::of(end))
@@ -90,8 +90,8 @@ impl<T: Payloaded> StreamReader<T> {
     /// Gives a guest the read end (`Store::lower`): its handle. The reader is then used; an error leaves
     /// it.
     pub fn lower(&mut self, store: &mut Store, guest: u32) -> Result<u32, ReaderError>
-        ensures calls { Lowers self.old store.old store.new guest (Stream T.payload) result }
-        ensures ok { OnOk result (self.new ≡ used self.old) }
+        ensures calls { LowersReadEnd self.old store.old store.new guest (Stream T.payload) result }
+        ensures ok { OnOk result (self.new ≡ used_read_end self.old) }
         ensures err { OnErr result (self.new ≡ self.old) }
         ensures fits { StillFits store.old store.new }
     {
@@ -109,10 +109,10 @@ impl<T: Payloaded> StreamReader<T> {
         requires fits { Fits store.old (H.tells hosts.old) }
         ensures calls { PipesTo self.old store.old store.new (H.tells hosts.old) (H.tells hosts.new)
             reader result }
-        ensures ok { OnOk result (self.new ≡ used self.old) }
+        ensures ok { OnOk result (self.new ≡ used_read_end self.old) }
         ensures err { OnErr result (self.new ≡ self.old) }
         ensures fits { Fits store.new (H.tells hosts.new) }
-        ensures takes_no_memory { result ≢ Err no_memory }
+        ensures takes_no_memory { result ≢ Err reader_no_memory }
     {
         self.end.pipe(store, hosts, reader)
     }
@@ -126,10 +126,10 @@ impl<T: Payloaded> StreamReader<T> {
         requires fits { Fits store.old (H.tells hosts.old) }
         ensures calls { Closes self.old store.old store.new (H.tells hosts.old) (H.tells hosts.new)
             result }
-        ensures ok { OnOk result (self.new ≡ used self.old) }
+        ensures ok { OnOk result (self.new ≡ used_read_end self.old) }
         ensures err { OnErr result (self.new ≡ self.old) }
         ensures fits { Fits store.new (H.tells hosts.new) }
-        ensures takes_no_memory { result ≢ Err no_memory }
+        ensures takes_no_memory { result ≢ Err reader_no_memory }
     {
         self.end.close(store, hosts)
     }
@@ -225,7 +225,7 @@ impl<T: Payloaded> GuardedStreamReader<T> {
             (H.tells hosts.new) (refused_only result) }
         ensures back { IfErr result (λ back. back.0.reader ≡ self.reader) }
         ensures fits { Fits store.new (H.tells hosts.new) }
-        ensures takes_no_memory { refused_only result ≢ Err no_memory }
+        ensures takes_no_memory { refused_only result ≢ Err reader_no_memory }
     {
         let GuardedStreamReader { mut reader } = self;
         match reader.close(store, hosts) {
@@ -279,10 +279,10 @@ impl StreamAny {
         requires fits { Fits store.old (H.tells hosts.old) }
         ensures calls { Closes self.old.end store.old store.new (H.tells hosts.old)
             (H.tells hosts.new) result }
-        ensures ok { OnOk result (self.new ≡ record self.old { end = used self.old.end }) }
+        ensures ok { OnOk result (self.new ≡ record self.old { end = used_read_end self.old.end }) }
         ensures err { OnErr result (self.new ≡ self.old) }
         ensures fits { Fits store.new (H.tells hosts.new) }
-        ensures takes_no_memory { result ≢ Err no_memory }
+        ensures takes_no_memory { result ≢ Err reader_no_memory }
     {
         self.end.close(store, hosts)
     }

@@ -15,7 +15,7 @@ use Rattle.strm_machine.specs.declared.streams.Side.TheVariants.{Writing, Readin
 use Rattle.strm_machine.specs.declared.streams.Stream.{Stream}
 use Rattle.strm_host_machine.specs.Ends.{Writer, Reader, no_writer, no_reader, closed_writer, closed_reader}
 use Rattle.strm_host_machine.specs.World.{World, stream_in, writer_at, reader_at, with_producer, with_kept, with_consumer, with_writer, with_reader, leaves_writer, leaves_reader, with_stream_in}
-use Rattle.strm_host_laws.specs.Isolation.{Stays}
+use Rattle.strm_host_laws.specs.Isolation.{StreamStaysWhole}
 use Rattle.strm_host_laws.proofs.Goings.{with_state}
 use Rattle.strm_host_laws.proofs.HostsAgree.{one_stream}
 use Rattle.strm_host_laws.proofs.WrittenBack.{set_back}
@@ -172,7 +172,7 @@ pub served_once : (side : Side) (state : State) (s t n : ℕ) → HostsHold stat
 served_once side state s t n h e f = one_stream t s (sym ((h.serve side n t).serves f) ∙ (h.serve side n s).serves e)
 
 -- another stream stays
-pub stays-only : (s k : ℕ) (W R : ℕ → Type 0) (w v : World) → OnlyAt s W R w v → k ≢ s → ((n : ℕ) → WritesIt w k n → W n → ⊥) → ((r : ℕ) → ReadsIt w k r → R r → ⊥) → Stays k w v
+pub stays-only : (s k : ℕ) (W R : ℕ → Type 0) (w v : World) → OnlyAt s W R w v → k ≢ s → ((n : ℕ) → WritesIt w k n → W n → ⊥) → ((r : ℕ) → ReadsIt w k r → R r → ⊥) → StreamStaysWhole k w v
 stays-only s k W R w v h ne a b = record {
   stream = h.streams k ne;
   writer = λ n o. let same = h.writers n (a n o) in record {
@@ -187,7 +187,7 @@ stays-only s k W R w v h ne a b = record {
 }
 
 -- where the host ends that change are those of stream s
-pub stays-apart : (s k : ℕ) (w v : World) → HostsHold w.state → OnlyAt s (WritesIt w s) (ReadsIt w s) w v → k ≢ s → Stays k w v
+pub stays-apart : (s k : ℕ) (w v : World) → HostsHold w.state → OnlyAt s (WritesIt w s) (ReadsIt w s) w v → k ≢ s → StreamStaysWhole k w v
 stays-apart s k w v hosts h ne =
     stays-only s k (WritesIt w s) (ReadsIt w s) w v h ne
     (λ n o e. ne (served_once Writing w.state s k n hosts e o))

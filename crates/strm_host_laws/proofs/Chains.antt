@@ -13,10 +13,10 @@ use Rattle.strm_host_machine.specs.World.{World}
 use Rattle.strm_host_machine.specs.Outcomes.{Outcome, Goes, Stops, Stuck, stops, done, then_on}
 use Rattle.strm_host_machine.specs.Driving.{drive_turn, driven, round_of}
 use Rattle.strm_host_machine.specs.Steps.{performs_in, outcome}
-use Rattle.strm_host_machine.specs.HostPlays.{Ends, Halts, after_step, play}
+use Rattle.strm_host_machine.specs.HostPlays.{Ends, Halts, after_host_step, host_play}
 use Rattle.strm_host_machine.proofs.OutcomeLemmas.{outcome-trapped, outcome-performs, refusal_in-drive}
 use Rattle.strm_host_machine.proofs.DriveLemmas.{then_on-twice, then_on_same}
-use Rattle.strm_host_laws.specs.HostMoments.{Part, Acts, Turns, HostMoment, parts_of, parts_in, part_on, followed, acted, host_moments, first_moments, last_of}
+use Rattle.strm_host_laws.specs.HostMoments.{Part, Acts, Turns, HostMoment, parts_of, parts_in, part_on, followed, acted, host_moments, first_moments, end_world}
 
 -- THE MOMENTS FOLLOW EACH OTHER
 
@@ -118,19 +118,19 @@ pub record StopsAt (world : World) (stop : Stop) (writers : List Writer) (reader
   pub form : (is_part part ≡ true) ⊎ ((writers ≡ world.writers) × (readers ≡ world.readers))
 
 abbrev last_acted : World → List Part → Next → World
-last_acted world parts next = last_of world (acted world parts next)
+last_acted world parts next = end_world world (acted world parts next)
 
 -- after a part
 abbrev after_part : World → Part → Outcome → List Part → Next → World
-after_part world part o more next = last_of world (followed world part o (λ v. acted v more next))
+after_part world part o more next = end_world world (followed world part o (λ v. acted v more next))
 
 acted-goes : (world : World) (parts : List Part) (next : Next) (reply : Reply) (end : World) → parts_on world parts ≡ Goes reply end
-    → last_acted world parts next ≡ last_of end (next end)
+    → last_acted world parts next ≡ end_world end (next end)
 acted-goes world [] next reply end e =
-    let same : world ≡ end = cc in ap (λ w. last_of w (next w)) same
+    let same : world ≡ end = cc in ap (λ w. end_world w (next w)) same
 acted-goes world (part ∷ more) next reply end e = by (λ v f. acted-goes v more next reply end f) (part_on world part) e
   where
-    by : ((v : World) → parts_on v more ≡ Goes reply end → last_acted v more next ≡ last_of end (next end)) → (o : Outcome) → then_on o (λ v. parts_on v more) ≡ Goes reply end → after_part world part o more next ≡ last_of end (next end)
+    by : ((v : World) → parts_on v more ≡ Goes reply end → last_acted v more next ≡ end_world end (next end)) → (o : Outcome) → then_on o (λ v. parts_on v more) ≡ Goes reply end → after_part world part o more next ≡ end_world end (next end)
     by h (Goes r v) f = h v f
     by h (Stops stop writers readers) f = cc
     by h Stuck f = cc
@@ -138,14 +138,14 @@ acted-goes world (part ∷ more) next reply end e = by (λ v f. acted-goes v mor
 module _ (all : List Reply) (end : World) where
   -- the rest of a run ends so
   abbrev RestEnds : List Reply → List Step → Type 0
-  RestEnds told more = (reply : Reply) (v : World) → play (told ++ reply ∷ []) v more ≡ Ends all end → last_of v (host_moments v more) ≡ end
+  RestEnds told more = (reply : Reply) (v : World) → host_play (told ++ reply ∷ []) v more ≡ Ends all end → end_world v (host_moments v more) ≡ end
 
-  pub play-ends : (told : List Reply) (world : World) (run : List Step) → play told world run ≡ Ends all end → last_of world (host_moments world run) ≡ end
-  play-ends told world [] e = cc
-  play-ends told world (step ∷ more) e =
-      by (λ reply v f. play-ends (told ++ reply ∷ []) v more f) (outcome world (act_of step)) refl e
+  pub host_play-ends : (told : List Reply) (world : World) (run : List Step) → host_play told world run ≡ Ends all end → end_world world (host_moments world run) ≡ end
+  host_play-ends told world [] e = cc
+  host_play-ends told world (step ∷ more) e =
+      by (λ reply v f. host_play-ends (told ++ reply ∷ []) v more f) (outcome world (act_of step)) refl e
     where
-      by : RestEnds told more → (o : Outcome) → outcome world (act_of step) ≡ o → after_step told o (λ told' v. play told' v more) ≡ Ends all end
+      by : RestEnds told more → (o : Outcome) → outcome world (act_of step) ≡ o → after_host_step told o (λ told' v. host_play told' v more) ≡ Ends all end
           → last_acted world (parts_in world (act_of step)) (λ v. host_moments v more) ≡ end
       by h (Goes reply v) g f =
           acted-goes world (parts_in world (act_of step)) (λ w. host_moments w more) replies.Done v (outcome-parts world (act_of step) ∙ ap (λ o. then_on o done) g)
@@ -196,14 +196,14 @@ module _ (stop : Stop) (writers : List Writer) (readers : List Reader) where
   -- the rest of a run stops so
   abbrev RestHalts : List Reply → List Reply → List Step → Type 0
   RestHalts all told more =
-      (reply : Reply) (v : World) → play (told ++ reply ∷ []) v more ≡ Halts all stop writers readers → StopsIn (last_of v (host_moments v more))
+      (reply : Reply) (v : World) → host_play (told ++ reply ∷ []) v more ≡ Halts all stop writers readers → StopsIn (end_world v (host_moments v more))
 
-  pub play-halts : (told : List Reply) (world : World) (run : List Step) (all : List Reply) → play told world run ≡ Halts all stop writers readers → StopsIn (last_of world (host_moments world run))
-  play-halts told world [] all e = cc
-  play-halts told world (step ∷ more) all e =
-      by (λ reply v f. play-halts (told ++ reply ∷ []) v more all f) (outcome world (act_of step)) refl e
+  pub host_play-halts : (told : List Reply) (world : World) (run : List Step) (all : List Reply) → host_play told world run ≡ Halts all stop writers readers → StopsIn (end_world world (host_moments world run))
+  host_play-halts told world [] all e = cc
+  host_play-halts told world (step ∷ more) all e =
+      by (λ reply v f. host_play-halts (told ++ reply ∷ []) v more all f) (outcome world (act_of step)) refl e
     where
-      by : RestHalts all told more → (o : Outcome) → outcome world (act_of step) ≡ o → after_step told o (λ told' v. play told' v more) ≡ Halts all stop writers readers
+      by : RestHalts all told more → (o : Outcome) → outcome world (act_of step) ≡ o → after_host_step told o (λ told' v. host_play told' v more) ≡ Halts all stop writers readers
           → StopsIn (last_acted world (parts_in world (act_of step)) (λ v. host_moments v more))
       by h (Goes reply v) g f =
           subst StopsIn

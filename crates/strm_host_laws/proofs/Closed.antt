@@ -24,16 +24,16 @@ use Rattle.strm_machine.specs.declared.stops.Stop.{Stop}
 use Rattle.strm_machine.specs.declared.replies.Reply.{Reply}
 use Rattle.strm_machine.specs.Reactions.{reaction}
 use Rattle.strm_host_machine.specs.Ends.{Writer, Reader, no_writer, writer_in, polled_writer, given_writer, fed_writer, closed_writer, polled_reader, granted_reader}
-use Rattle.strm_host_machine.specs.Producing.{is_last}
-use Rattle.strm_host_machine.specs.Consuming.{with_taken}
+use Rattle.strm_host_machine.specs.WriterTurn.{is_last}
+use Rattle.strm_host_machine.specs.ReaderTurn.{reader_with_taken}
 use Rattle.strm_host_machine.specs.Attaching.{hosted_stream, has_items, new_producer, piped}
-use Rattle.strm_host_machine.specs.HostPlays.{Ends, Halts, play}
+use Rattle.strm_host_machine.specs.HostPlays.{Ends, Halts, host_play}
 use Rattle.strm_host_machine.specs.World.{World, stream_in, writer_at, reader_at, with_guests, with_kept, with_consumer, with_writer, with_reader, without_writer, leaves_writer, leaves_reader, with_stream_in}
 use Rattle.strm_host_machine.specs.HostRefusals.{is_unknown_host, is_used, refusal_in}
-use Rattle.strm_host_machine.specs.Does.{is_ended, saids, writers_from, start}
-use Rattle.strm_host_laws.specs.HostMoments.{Part, Acts, HostMoment, part_on, host_moments, first_moments, last_of}
+use Rattle.strm_host_machine.specs.Does.{is_ended, saids, writers_from, start_world}
+use Rattle.strm_host_laws.specs.HostMoments.{Part, Acts, HostMoment, part_on, host_moments, first_moments, end_world}
 use Rattle.strm_host_laws.specs.HostLaws.{ClosesExactly, EndsExactly}
-use Rattle.strm_host_laws.proofs.Chains.{is_part, Chain, moments-chain, first-chain, StopsAt, play-ends, play-halts}
+use Rattle.strm_host_laws.proofs.Chains.{is_part, Chain, moments-chain, first-chain, StopsAt, host_play-ends, host_play-halts}
 use Rattle.strm_host_laws.proofs.Goings.{with_state, with_passed, LeftBy, Begins, Stopping, hosted, Rules, Halted, Comes, with_stream_in-same, part-comes, feed-comes, grant-comes}
 use Rattle.strm_machine.proofs.Ways.{HostsFrom, HostsFromIn, set-from}
 use Rattle.strm_machine.proofs.ShapeLemmas.{reaction-producers, reaction-from}
@@ -309,7 +309,7 @@ module _ (first : World) where
     };
     reacts = λ w act. Stands-still w (with_state w (reaction w.state act).state) refl (reaction-producers w.state act) (reaction-from w.state act);
     lowers = λ w guests. Stands-still w (with_guests w guests) refl refl (from_same w.state.streams);
-    counts = λ w r answer taken. Stands-still w (with_taken w r answer taken) refl refl (from_same w.state.streams);
+    counts = λ w r answer taken. Stands-still w (reader_with_taken w r answer taken) refl refl (from_same w.state.streams);
     rests = λ w r answer taken. Stands-still w (with_passed w r answer taken) refl refl (from_same w.state.streams);
     leaves = λ w s stream l. Stands-stream w s stream (left_from (stream_in w s) stream l);
     hosts = λ w n e. new_stands w n (is_new w n e);
@@ -362,7 +362,7 @@ module _ (first : World) where
       (λ e. Stands-still first w (with_reader w r (granted_reader (reader_at w r) count)) refl refl (from_same first w.state.streams))
   part-closes w part p = part-comes (Kept first) SameClosed (rules first) stopping w part p refl
 
-  chain-closes : (w : World) (all : List HostMoment) → Chain w all → Stands first w → Stands first (last_of w all)
+  chain-closes : (w : World) (all : List HostMoment) → Chain w all → Stands first w → Stands first (end_world w all)
   chain-closes w [] c h = h
   chain-closes w (m ∷ more) c h =
       let f = c.0 in
@@ -406,9 +406,9 @@ pub or-false : (b : Bool) → (b || false) ≡ b
 or-false true = refl
 or-false false = refl
 
-pub Stands-start : (tag : ℕ) (limits : Limits) (old new : Tells) → Stands (start tag limits old new) (start tag limits old new)
+pub Stands-start : (tag : ℕ) (limits : Limits) (old new : Tells) → Stands (start_world tag limits old new) (start_world tag limits old new)
 Stands-start tag limits old new =
-    let first = start tag limits old new in
+    let first = start_world tag limits old new in
     record {
       kept = length-replicate {A = Producer} host_limit no_producer;
       there = λ s n e. absurd (no_host s n e);
@@ -421,23 +421,23 @@ Stands-start tag limits old new =
 
 module _ (tag : ℕ) (limits : Limits) (old new : Tells) (run : List Step) where
   abbrev at_first : World
-  at_first = start tag limits old new
+  at_first = start_world tag limits old new
 
-  run-stands : Stands at_first (last_of at_first (host_moments at_first run))
+  run-stands : Stands at_first (end_world at_first (host_moments at_first run))
   run-stands = chain-closes at_first at_first (host_moments at_first run) (moments-chain at_first run) (Stands-start tag limits old new)
 
-  pub moments-close : (count : ℕ) → ClosesExactly at_first (last_of at_first (first_moments count at_first run)).state (last_of at_first (first_moments count at_first run)).writers
+  pub moments-close : (count : ℕ) → ClosesExactly at_first (end_world at_first (first_moments count at_first run)).state (end_world at_first (first_moments count at_first run)).writers
   moments-close count = (chain-closes at_first at_first (first_moments count at_first run) (first-chain count at_first run) (Stands-start tag limits old new)).closes
 
-  pub runs-close : (all : List Reply) (end : World) → play [] at_first run ≡ Ends all end → ClosesExactly at_first end.state end.writers
-  runs-close all end e = subst (λ w. ClosesExactly at_first w.state w.writers) (play-ends all end [] at_first run e) run-stands.closes
+  pub runs-close : (all : List Reply) (end : World) → host_play [] at_first run ≡ Ends all end → ClosesExactly at_first end.state end.writers
+  runs-close all end e = subst (λ w. ClosesExactly at_first w.state w.writers) (host_play-ends all end [] at_first run e) run-stands.closes
 
-  module _ (all : List Reply) (stop : Stop) (writers : List Writer) (readers : List Reader) (e : play [] at_first run ≡ Halts all stop writers readers) where
+  module _ (all : List Reply) (stop : Stop) (writers : List Writer) (readers : List Reader) (e : host_play [] at_first run ≡ Halts all stop writers readers) where
     abbrev before : World
-    before = last_of at_first (host_moments at_first run)
+    before = end_world at_first (host_moments at_first run)
 
     stopped : Stopped at_first before writers
-    stopped = stop-closes at_first before stop writers readers (play-halts stop writers readers [] at_first run all e) run-stands
+    stopped = stop-closes at_first before stop writers readers (host_play-halts stop writers readers [] at_first run all e) run-stands
 
     pub stops-close : ClosesExactly at_first before.state writers
     stops-close = stopped.closes

@@ -17,8 +17,8 @@ use Rattle.strm_machine.proofs.StreamSteps.{reaction_streams}
 use Rattle.strm_host_machine.specs.World.{World, stream_in, writer_at}
 use Rattle.strm_host_machine.specs.Outcomes.{Outcome, Goes, Stops, Stuck}
 use Rattle.strm_host_machine.specs.Attaching.{forsaken, hosted_stream}
-use Rattle.strm_host_machine.specs.Producing.{producer_turn}
-use Rattle.strm_host_machine.specs.Consuming.{consumer_turn}
+use Rattle.strm_host_machine.specs.WriterTurn.{writer_turn}
+use Rattle.strm_host_machine.specs.ReaderTurn.{reader_turn}
 use Rattle.strm_host_machine.specs.Driving.{if_open, driven_by, drive_turn, numbers_from, round_of}
 use Rattle.strm_host_machine.proofs.OutcomeLemmas.{outcome-trapped}
 use Rattle.strm_host_laws.specs.HostMoments.{Part, Acts, Turns, HostMoment, parts_of, part_on, followed, acted, host_moments, first_moments}
@@ -91,8 +91,8 @@ module _ (w : World) (s : ℕ) (holds : Holds w.state) where
 
   driven_makes_none : (stream : Stream) (writer reader : Owner) → (stream_in w s).writer.owner ≡ writer → MakesNone (driven_by w s stream writer reader)
   driven_makes_none stream (Host n) (Host r) e = round_makes_none n r e
-  driven_makes_none stream (Host n) _ e = open_makes_none Reading n stream.reader.operation (producer_turn w s n) (turn_is w s n)
-  driven_makes_none stream _ (Host r) e = open_makes_none Writing r stream.writer.operation (consumer_turn w s r) (taking_is w s r)
+  driven_makes_none stream (Host n) _ e = open_makes_none Reading n stream.reader.operation (writer_turn w s n) (turn_is w s n)
+  driven_makes_none stream _ (Host r) e = open_makes_none Writing r stream.writer.operation (reader_turn w s r) (taking_is w s r)
   driven_makes_none stream _ _ e = refl
 
   turn_makes_none : MakesNone (drive_turn w s)

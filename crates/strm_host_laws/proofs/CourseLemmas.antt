@@ -25,8 +25,8 @@ use Rattle.strm_machine.specs.declared.streams.Side.TheVariants.{Writing, Readin
 use Rattle.strm_machine.specs.declared.streams.Stream.{Stream}
 use Rattle.strm_codes.specs.declared.payloads.Payload.{Payload}
 use Rattle.strm_host_machine.specs.Attaching.{withdrawn, piped, forsaken}
-use Rattle.strm_host_machine.specs.Settling.{went, settled, with_some_received, let_go, moved_on}
-use Rattle.strm_host_machine.specs.Courses.{Holder, AGuest, NoGuest, AHost, NoMore, Poll, Progress, CourseEnd, Course, Reached, reaches, end_on, with_end_on, held_by, is_no_more, is_a_host, report_at, hearing_end, hears, cancels, begins, meets_by, called_by, Calls, course_by}
+use Rattle.strm_host_machine.specs.Settling.{went, operation_settled, with_some_received, let_go, moved_on}
+use Rattle.strm_host_machine.specs.Courses.{Holder, AGuest, NoGuest, AHost, NoMore, CoursePoll, Progress, CourseEnd, Course, Reached, reaches, end_on, with_end_on, with_holder, is_no_more, is_a_host, report_at, hearing_end, hears, course_cancels, begins, meets_by, called_by, Calls, course_by}
 use Rattle.strm_host_machine.specs.Courses as courses
 use Rattle.strm_host_laws.proofs.Tracing.{holder_of, progress_of, seen_end, seen}
 
@@ -92,7 +92,7 @@ module _ (held : ℕ) (over : Bool) where
       ∙ ap (reaches (report_on side stream)) (told-seen side stream (report_on side stream))
 
   -- another owner, of an end that no host has
-  pub owner-seen : (side : Side) (stream : Stream) (o : Owner) → held_by side (seen stream held over) (holder_of o) ≡ seen (with_owner side stream o) held over
+  pub owner-seen : (side : Side) (stream : Stream) (o : Owner) → with_holder side (seen stream held over) (holder_of o) ≡ seen (with_owner side stream o) held over
   owner-seen Writing stream o = refl
   owner-seen Reading stream o = refl
 
@@ -129,16 +129,16 @@ module _ (held : ℕ) (over : Bool) where
     abbrev meets_so : Side → Reached
     meets_so side = meets_by (courses.meeting side (progress_of mine) (progress_of theirs)) side course (progress_of mine) (progress_of theirs)
 
-    open-seen : (side : Side) (b : Bool) → SeenAs stream (cond b (meets_so side) (courses.waits side course (progress_of mine))) (cond b (rendezvous side guests stream mine theirs) (finds side guests stream mine None))
+    open-seen : (side : Side) (b : Bool) → SeenAs stream (cond b (meets_so side) (courses.course_waits side course (progress_of mine))) (cond b (rendezvous side guests stream mine theirs) (finds side guests stream mine None))
     open-seen side true some = ap (λ m. meets_by m side course (progress_of mine) (progress_of theirs)) (meeting-seen side) ∙ rendezvous-seen _ side some
     open-seen Writing false some = refl
     open-seen Reading false some = refl
 
   module _ (side : Side) (guests : List Guest) (stream : Stream) (mine : Operation) where
-    finds-seen : (o : Option Operation) → SeenAs stream (courses.finds side (seen stream held over) (progress_of mine) (option_map progress_of o)) (finds side guests stream mine o)
+    finds-seen : (o : Option Operation) → SeenAs stream (courses.course_finds side (seen stream held over) (progress_of mine) (option_map progress_of o)) (finds side guests stream mine o)
     finds-seen None some = waits-by side
       where
-        waits-by : (side : Side) → courses.waits side (seen stream held over) (progress_of mine) ≡ reaches (finds side guests stream mine None).code (seen (finds side guests stream mine None).stream held over)
+        waits-by : (side : Side) → courses.course_waits side (seen stream held over) (progress_of mine) ≡ reaches (finds side guests stream mine None).code (seen (finds side guests stream mine None).stream held over)
         waits-by Writing = refl
         waits-by Reading = refl
     finds-seen (Some theirs) some = open-seen guests stream mine theirs side theirs.is_open some
@@ -156,16 +156,16 @@ module _ (held : ℕ) (over : Bool) where
     across = (end_of (opposite side) stream).operation
 
     abbrev finds_so : Reached
-    finds_so = courses.finds side (seen stream held over) (begins mine.left) (end_on (opposite side) (seen stream held over)).progress
+    finds_so = courses.course_finds side (seen stream held over) (begins mine.left) (end_on (opposite side) (seen stream held over)).progress
 
-    found-seen : (polls : List Poll) → progress_of mine ≡ begins mine.left → SeenAs stream finds_so (finds side guests stream mine across)
+    found-seen : (polls : List CoursePoll) → progress_of mine ≡ begins mine.left → SeenAs stream finds_so (finds side guests stream mine across)
     found-seen polls b some =
-        ap (courses.finds side (seen stream held over) (begins mine.left)) (across-seen side)
-        ∙ ap (λ p. courses.finds side (seen stream held over) p (option_map progress_of (end_of (opposite side) stream).operation)) (sym b)
+        ap (courses.course_finds side (seen stream held over) (begins mine.left)) (across-seen side)
+        ∙ ap (λ p. courses.course_finds side (seen stream held over) p (option_map progress_of (end_of (opposite side) stream).operation)) (sym b)
         ∙ finds-seen (end_of (opposite side) stream).operation some
 
     -- by the owner of the end across, where that is no host end
-    called-seen : (polls : List Poll) (o : Owner) → is_host o ≡ false → progress_of mine ≡ begins mine.left
+    called-seen : (polls : List CoursePoll) (o : Owner) → is_host o ≡ false → progress_of mine ≡ begins mine.left
         → SeenAs stream (called_by (holder_of o) side (seen stream held over) mine.left polls) (cond (is_gone o) (learns side guests stream) (finds side guests stream mine across))
     called-seen polls Gone e b some = ap (reaches (Some (codes.Dropped 0))) (learns-seen side)
     called-seen polls (Held g handle) e b some = found-seen polls b some
@@ -176,7 +176,7 @@ module _ (held : ℕ) (over : Bool) where
     holder-across = ap (λ (x : CourseEnd). x.holder) (end-seen (opposite side) stream)
 
     -- a read or write of an end whose other end is no host's: what is answered, and what becomes of the stream
-    pub turn-seen : (polls : List Poll) → is_host (end_of (opposite side) stream).owner ≡ false → progress_of mine ≡ begins mine.left
+    pub turn-seen : (polls : List CoursePoll) → is_host (end_of (opposite side) stream).owner ≡ false → progress_of mine ≡ begins mine.left
         → SeenAs stream (course_by (Calls side mine.left polls) (seen stream held over)) (turn side guests stream mine)
     unfolding turn course_by
     turn-seen polls e b some =
@@ -217,17 +217,17 @@ module _ (held : ℕ) (over : Bool) where
       let code = cond waits codes.Blocked (cancel_answer stream.kind report) in
       reaches (Some code) (seen (with_end side stream (cancelled_end waits code (end_of side stream))) held over)
 
-  cancels-by : (side : Side) (stream : Stream) (waits : Bool) (report : Option ReturnCode) → cancels_of side stream waits report ≡ cancelled_so side stream waits report
-  cancels-by side stream true report = ap (reaches (Some codes.Blocked)) (asks-seen side stream)
-  cancels-by side stream false report = ap (reaches (Some (cancel_answer stream.kind report))) (told-seen side stream (Some (cancel_answer stream.kind report)))
+  course_cancels-by : (side : Side) (stream : Stream) (waits : Bool) (report : Option ReturnCode) → cancels_of side stream waits report ≡ cancelled_so side stream waits report
+  course_cancels-by side stream true report = ap (reaches (Some codes.Blocked)) (asks-seen side stream)
+  course_cancels-by side stream false report = ap (reaches (Some (cancel_answer stream.kind report))) (told-seen side stream (Some (cancel_answer stream.kind report)))
 
   -- a cancel
-  pub cancelled-seen : (side : Side) (stream : Stream) → cancels side (seen stream held over) ≡ reaches (Some (code_of_cancel side stream)) (seen (cancelled side stream) held over)
+  pub cancelled-seen : (side : Side) (stream : Stream) → course_cancels side (seen stream held over) ≡ reaches (Some (code_of_cancel side stream)) (seen (cancelled side stream) held over)
   unfolding cancelled
   cancelled-seen side stream =
       ap (λ report. cancels_of side stream (is_a_host (end_on (opposite side) (seen stream held over)).holder && not (is_some report)) report) (report-seen side stream)
       ∙ ap (λ host. cancels_of side stream (host && not (is_some (report_on side stream))) (report_on side stream)) (host-across side stream)
-      ∙ cancels-by side stream (waits_for_host side stream) (report_on side stream)
+      ∙ course_cancels-by side stream (waits_for_host side stream) (report_on side stream)
 
 -- ## Turns of a host writer
 
@@ -235,12 +235,12 @@ some-seen : (held : ℕ) (over : Bool) (stream : Stream) (n : ℕ) (b : Bool) �
 some-seen held over stream n true = refl
 some-seen held over stream n false = refl
 
-pub with_items-seen : (held : ℕ) (over : Bool) (stream : Stream) (n : ℕ) → courses.with_items (seen stream held over) n ≡ seen (with_some_received stream n) held over
+pub with_items-seen : (held : ℕ) (over : Bool) (stream : Stream) (n : ℕ) → courses.course_with_items (seen stream held over) n ≡ seen (with_some_received stream n) held over
 with_items-seen held over stream n = some-seen held over stream n (n == 0)
 
-settled-seen : (payload : Payload) (result : Option StreamResult) (o : Operation) (n : ℕ) → courses.settled result (courses.went_on (progress_of o) n) ≡ progress_of (settled result (went payload o n))
-settled-seen payload None o n = refl
-settled-seen payload (Some result) o n = refl
+operation_settled-seen : (payload : Payload) (result : Option StreamResult) (o : Operation) (n : ℕ) → courses.progress_settled result (courses.went_on (progress_of o) n) ≡ progress_of (operation_settled result (went payload o n))
+operation_settled-seen payload None o n = refl
+operation_settled-seen payload (Some result) o n = refl
 
 -- what is held and whether it is over, once the writer is gone or stays
 abbrev pub held_if : Option StreamResult → ℕ → ℕ
@@ -269,9 +269,9 @@ pub moved_on-seen : (held : ℕ) (over : Bool) (stream : Stream) (read : Operati
     ≡ seen (moved_on Reading stream read n result) (held_if result held) (over_if result over)
 unfolding moved_on
 moved_on-seen held over stream read n result =
-    ap (λ c. courses.let_go Writing result (courses.with_progress Reading c (courses.settled result (courses.went_on (progress_of read) n)))) (with_items-seen held over stream n)
-    ∙ ap (λ p. courses.let_go Writing result (courses.with_progress Reading (seen (with_some_received stream n) held over) p)) (settled-seen stream.payload result read n)
-    ∙ let_go-seen held over result (with_operation Reading (with_some_received stream n) (settled result (went stream.payload read n)))
+    ap (λ c. courses.let_go Writing result (courses.with_progress Reading c (courses.progress_settled result (courses.went_on (progress_of read) n)))) (with_items-seen held over stream n)
+    ∙ ap (λ p. courses.let_go Writing result (courses.with_progress Reading (seen (with_some_received stream n) held over) p)) (operation_settled-seen stream.payload result read n)
+    ∙ let_go-seen held over result (with_operation Reading (with_some_received stream n) (operation_settled result (went stream.payload read n)))
 
 -- and of an open write went to the host reader
 pub taken-seen : (held : ℕ) (over : Bool) (stream : Stream) (write : Operation) (n : ℕ) (result : Option StreamResult)
@@ -279,9 +279,9 @@ pub taken-seen : (held : ℕ) (over : Bool) (stream : Stream) (write : Operation
     ≡ seen (moved_on Writing stream write n result) held over
 unfolding moved_on
 taken-seen held over stream write n result =
-    ap (λ c. courses.let_go Reading result (courses.with_progress Writing c (courses.settled result (courses.went_on (progress_of write) n)))) (with_items-seen held over stream n)
-    ∙ ap (λ p. courses.let_go Reading result (courses.with_progress Writing (seen (with_some_received stream n) held over) p)) (settled-seen stream.payload result write n)
-    ∙ let_go_reader-seen held over result (with_operation Writing (with_some_received stream n) (settled result (went stream.payload write n)))
+    ap (λ c. courses.let_go Reading result (courses.with_progress Writing c (courses.progress_settled result (courses.went_on (progress_of write) n)))) (with_items-seen held over stream n)
+    ∙ ap (λ p. courses.let_go Reading result (courses.with_progress Writing (seen (with_some_received stream n) held over) p)) (operation_settled-seen stream.payload result write n)
+    ∙ let_go_reader-seen held over result (with_operation Writing (with_some_received stream n) (operation_settled result (went stream.payload write n)))
 
 -- an operation opens
 pub opened-seen : (held : ℕ) (over : Bool) (side : Side) (stream : Stream) (operation : Operation) → courses.with_progress side (seen stream held over) (progress_of operation) ≡ seen (with_operation side stream operation) held over
@@ -323,6 +323,6 @@ withdrawn-seen (Some o) = by o.is_open
     by false = refl
 
 pub piped-seen : (held : ℕ) (over : Bool) (stream : Stream) (r : ℕ)
-    → record (held_by Reading (seen stream held over) AHost) { writer = record (seen_end stream.writer) { progress = option_map courses.withdrawn (option_map progress_of stream.writer.operation) } }
+    → record (with_holder Reading (seen stream held over) AHost) { writer = record (seen_end stream.writer) { progress = option_map courses.withdrawn (option_map progress_of stream.writer.operation) } }
     ≡ seen (piped stream r) held over
 piped-seen held over stream r = ap (λ p. record (seen (piped stream r) held over) { writer = record (seen_end stream.writer) { progress = p } }) (withdrawn-seen stream.writer.operation)

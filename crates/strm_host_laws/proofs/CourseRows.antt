@@ -6,9 +6,9 @@ use Rattle.strm_codes.specs.declared.codes.TransmitKind.TheVariants.{Stream as A
 use Rattle.strm_buffers.specs.declared.answers.Answer.{Answer}
 use Rattle.strm_buffers.specs.declared.answers.Answer.TheVariants as answers
 use Rattle.strm_machine.specs.declared.streams.Side.TheVariants.{Writing, Reading}
-use Rattle.strm_host_machine.specs.Courses.{AGuest, NoGuest, AHost, Poll, Begins, Calls, Hears, Cancels, Drops, Moves, Turns, course_by, codes_of}
+use Rattle.strm_host_machine.specs.Courses.{AGuest, NoGuest, AHost, CoursePoll, Begins, Calls, Hears, Cancels, Drops, Moves, Turns, course_by, codes_of}
 
-abbrev poll : ℕ → Answer → Poll
+abbrev poll : ℕ → Answer → CoursePoll
 poll n answer = record { items = n; answer = answer }
 
 row-1 : codes_of AStream

@@ -4,9 +4,9 @@ use Rattle.std.proofs.Common.{◌≡◌, ℕ, ◌<◌, ◌≤◌, List, [], ◌�
 use Rattle.std.proofs.lemmas.Bool.{cases_lt}
 use Rattle.std.proofs.lemmas.List.{append_assoc}
 use Rattle.strm_host_machine.specs.World.{World, stream_in}
-use Rattle.strm_host_laws.specs.HostMoments.{HostMoment, last_of}
+use Rattle.strm_host_laws.specs.HostMoments.{HostMoment, end_world}
 use Rattle.strm_host_machine.specs.Courses.{StreamEvent, Course, fresh_course, answers_of, course_by, codes_from, codes_of}
-use Rattle.strm_host_laws.specs.StreamEvents.{events_in, events, answered_in, answered}
+use Rattle.strm_host_laws.specs.StreamEvents.{events_in, events, answered_in, codes_answered}
 use Rattle.strm_host_laws.proofs.Tracing.{course_of}
 use Rattle.strm_host_laws.specs.Isolation.{AnswersByItself}
 
@@ -59,14 +59,14 @@ codes_from-append c (x ∷ xs) ys =
 module _ (s : ℕ) where
   -- of a stream that was made
   abbrev MadeRuns : World → List HostMoment → Type 0
-  MadeRuns world all = (answered s all ≡ codes_from (course_of s world) (events s all)) × ((stream_in (last_of world all) s).kind ≡ (stream_in world s).kind)
+  MadeRuns world all = (codes_answered s all ≡ codes_from (course_of s world) (events s all)) × ((stream_in (end_world world all) s).kind ≡ (stream_in world s).kind)
 
   pub made-runs : (world : World) (all : List HostMoment) → s < streams_in world → AllBySelf s world all → MadeRuns world all
   made-runs world [] l h = (refl, refl)
   made-runs world (m ∷ more) l h =
       let step = h.1.made (subst (λ (w : World). s < streams_in w) (sym h.0) l) in
       let rest = made-runs m.after more step.made h.2 in (
-        ap (λ xs. xs ++ answered s more) (step.answers)
+        ap (λ xs. xs ++ codes_answered s more) (step.answers)
             ∙ ap (λ ys. codes_from (course_of s m.before) (events_in s m) ++ ys) (rest.0 ∙ ap (λ c. codes_from c (events s more)) step.course)
             ∙ sym (codes_from-append (course_of s m.before) (events_in s m) (events s more))
             ∙ ap (λ w. codes_from (course_of s w) (events_in s m ++ events s more)) h.0,
@@ -74,7 +74,7 @@ module _ (s : ℕ) where
       )
 
   -- of one that is yet to be made
-  pub unmade-runs : (world : World) (all : List HostMoment) → streams_in world ≤ s → AllBySelf s world all → AnswersByItself s all (last_of world all)
+  pub unmade-runs : (world : World) (all : List HostMoment) → streams_in world ≤ s → AllBySelf s world all → AnswersByItself s all (end_world world all)
   unmade-runs world [] l h = refl
   unmade-runs world (m ∷ more) l h =
       let before : streams_in m.before ≤ s = subst (λ (w : World). streams_in w ≤ s) (sym h.0) l in
@@ -82,8 +82,8 @@ module _ (s : ℕ) where
         | inl now ↦
             let step = h.1.making before now in
             let rest = made-runs m.after more now h.2 in
-            let kind : (stream_in (last_of m.after more) s).kind ≡ (stream_in m.after s).kind = rest.1 in
-            ap (λ xs. xs ++ answered s more) step.answers
+            let kind : (stream_in (end_world m.after more) s).kind ≡ (stream_in m.after s).kind = rest.1 in
+            ap (λ xs. xs ++ codes_answered s more) step.answers
             ∙ rest.0
             ∙ ap (λ c. codes_from c (events s more)) step.course
             ∙ ap (λ xs. xs ++ codes_from (course_after (fresh_course (stream_in m.after s).kind) (events_in s m)) (events s more)) (sym step.unanswered)
@@ -91,7 +91,7 @@ module _ (s : ℕ) where
             ∙ ap (λ k. codes_of k (events_in s m ++ events s more)) (sym kind)
         | inr later ↦
             let step = h.1.unmade before later in
-            ap (λ xs. xs ++ answered s more) step.answers
+            ap (λ xs. xs ++ codes_answered s more) step.answers
             ∙ unmade-runs m.after more later h.2
-            ∙ ap (λ xs. codes_of (stream_in (last_of m.after more) s).kind (xs ++ events s more)) (sym step.nothing)
+            ∙ ap (λ xs. codes_of (stream_in (end_world m.after more) s).kind (xs ++ events s more)) (sym step.nothing)
       ]

@@ -24,12 +24,12 @@ use Rattle.strm_machine.specs.declared.replies.Reply.{Reply}
 use Rattle.strm_machine.specs.declared.replies.Reply.TheVariants as replies
 use Rattle.strm_buffers.specs.Tells.{Tells}
 use Rattle.strm_machine.specs.declared.steps.Step.{Step}
-use Rattle.strm_host_machine.specs.Does.{start}
+use Rattle.strm_host_machine.specs.Does.{start_world}
 use Rattle.strm_host_machine.specs.World.{World, stream_in, writer_at, held_of, with_consumer, with_stream_in}
 use Rattle.strm_host_machine.specs.Settling.{result_of}
 use Rattle.strm_host_machine.specs.Attaching.{piped, without_ends, forsaken, hosted_stream}
-use Rattle.strm_host_laws.specs.HostMoments.{Part, Acts, HostMoment, first_moments, last_of}
-use Rattle.strm_host_laws.specs.HostLaws.{used_in, items_of, made_of, produced_by, produced_in, produced, host_got_in, host_got, is_made_by, is_hosted, is_piped_in, is_piped, held_by, held_first, DeliversAll}
+use Rattle.strm_host_laws.specs.HostMoments.{Part, Acts, HostMoment, first_moments, end_world}
+use Rattle.strm_host_laws.specs.HostLaws.{used_in, items_of_records, made_of, produced_by, produced_in, produced_on, host_got_in, host_got, is_made_by, is_hosted, is_piped_in, was_piped, held_for_owner, held_first, DeliversAll}
 use Rattle.strm_host_laws.proofs.Chains.{Follows, Chain, first-chain}
 use Rattle.strm_host_laws.proofs.Closed.{Stands-start}
 use Rattle.strm_host_laws.proofs.Counted.{first_few}
@@ -210,9 +210,9 @@ or_both true b e f = e
 or_both false b e f = f
 
 -- of what was produced in a moment and after it, where no stream of this number is made
-produced_split : (s : ℕ) (m : HostMoment) (more : List HostMoment) → made_of s m.before m.part m.reply ≡ [] → (xs : List Item) → produced_in s m ≡ xs → produced s (m ∷ more) ≡ xs ++ produced s more
+produced_split : (s : ℕ) (m : HostMoment) (more : List HostMoment) → made_of s m.before m.part m.reply ≡ [] → (xs : List Item) → produced_in s m ≡ xs → produced_on s (m ∷ more) ≡ xs ++ produced_on s more
 produced_split s m more e xs f =
-    ap (λ ys. ys ++ (produced_in s m ++ produced s more)) e ∙ ap (λ ys. ys ++ produced s more) f
+    ap (λ ys. ys ++ (produced_in s m ++ produced_on s more)) e ∙ ap (λ ys. ys ++ produced_on s more) f
 
 module _ (first : World) where
   -- what a moment that follows is
@@ -229,11 +229,11 @@ module _ (first : World) where
 
   record GoneRun (s : ℕ) (w : World) (all : List HostMoment) : Type 0 where
     got : host_got s all ≡ []
-    made : produced s all ≡ []
-    count : received s (last_of w all).state ≡ received s w.state
-    owner : (stream_in (last_of w all) s).writer.owner ≡ Gone
+    made : produced_on s all ≡ []
+    count : received s (end_world w all).state ≡ received s w.state
+    owner : (stream_in (end_world w all) s).writer.owner ≡ Gone
     unhosted : is_hosted s all ≡ false
-    kind : (stream_in (last_of w all) s).kind ≡ (stream_in w s).kind
+    kind : (stream_in (end_world w all) s).kind ≡ (stream_in w s).kind
 
   gone_stays : (s : ℕ) (m : HostMoment) → (stream_in m.before s).writer.owner ≡ Gone → Touch s m.before m.part m.after
       → ((stream_in m.after s).writer.owner ≡ Gone) × (received s m.after.state ≡ received s m.before.state)
@@ -274,13 +274,13 @@ module _ (first : World) where
 
   record HostedRun (s n : ℕ) (w : World) (all : List HostMoment) : Type 0 where
     rest : List Item
-    balance : map Some (held_of w n ++ produced s all) ≡ host_got s all ++ map Some rest
-    count : received s (last_of w all).state ≡ capped (received s w.state + length (host_got s all))
-    exact : is_host (stream_in w s).reader.owner ≡ false → is_piped s all ≡ false → received s (last_of w all).state ≡ received s w.state + length (host_got s all)
-    ends : is_host (stream_in (last_of w all) s).writer.owner ≡ true → rest ≡ held_by (last_of w all) (stream_in (last_of w all) s).writer.owner
+    balance : map Some (held_of w n ++ produced_on s all) ≡ host_got s all ++ map Some rest
+    count : received s (end_world w all).state ≡ capped (received s w.state + length (host_got s all))
+    exact : is_host (stream_in w s).reader.owner ≡ false → was_piped s all ≡ false → received s (end_world w all).state ≡ received s w.state + length (host_got s all)
+    ends : is_host (stream_in (end_world w all) s).writer.owner ≡ true → rest ≡ held_for_owner (end_world w all) (stream_in (end_world w all) s).writer.owner
     unhosted : is_hosted s all ≡ false
-    kind : (stream_in (last_of w all) s).kind ≡ (stream_in w s).kind
-    one : (stream_in w s).kind ≡ Future → OneWritten w s n → received s (last_of w all).state ≤ 1
+    kind : (stream_in (end_world w all) s).kind ≡ (stream_in w s).kind
+    one : (stream_in w s).kind ≡ Future → OneWritten w s n → received s (end_world w all).state ≤ 1
 
   -- counts are in their type, and have room for the items of these moments, unless a host reader has, or had, the
   -- read end
@@ -320,7 +320,7 @@ module _ (first : World) where
       let d = touch_delivers first m l s n o room.bound (room_here room.room) form touch in
       let live = moment_lives m f l in
       let effect = follows_effect m.before m l.holds.hosts f in
-      let here : produced s (m ∷ more) ≡ items_of (used_in n m) ++ produced s more = produced_split s m more not.made (items_of (used_in n m)) (ap (produced_by m) o) in
+      let here : produced_on s (m ∷ more) ≡ items_of_records (used_in n m) ++ produced_on s more = produced_split s m more not.made (items_of_records (used_in n m)) (ap (produced_by m) o) in
       let kinds = effect_kind m.before.state m.after.state m.part m.reply s l.holds made effect in
       let g = host_got_in s m in
       elim d.ends [
@@ -330,7 +330,7 @@ module _ (first : World) where
             record {
               rest = d.rest;
               balance =
-                  ap (λ xs. map Some (holds_before n m ++ xs)) (here ∙ ap (λ xs. items_of (used_in n m) ++ xs) k.made ∙ append-nil (items_of (used_in n m)))
+                  ap (λ xs. map Some (holds_before n m ++ xs)) (here ∙ ap (λ xs. items_of_records (used_in n m) ++ xs) k.made ∙ append-nil (items_of_records (used_in n m)))
                   ∙ d.balance
                   ∙ ap (λ xs. xs ++ map Some d.rest) (sym (append-nil g) ∙ ap (λ xs. g ++ xs) (sym k.got));
               count = k.count ∙ d.count ∙ ap (λ j. capped (received s m.before.state + j)) (sym left);
@@ -347,10 +347,10 @@ module _ (first : World) where
               rest = k.rest;
               balance =
                   ap (λ xs. map Some (holds_before n m ++ xs)) here
-                  ∙ balance_both (holds_before n m) (items_of (used_in n m)) (produced s more) d.rest k.rest (held_of m.after n) g (host_got s more) d.balance (sym stays.1) k.balance;
-              count = twice_capped (received s m.before.state) (received s m.after.state) (received s (last_of m.after more).state) (length g) (length (host_got s more)) d.count k.count ∙ ap (λ j. capped (received s m.before.state + j)) (sym long);
+                  ∙ balance_both (holds_before n m) (items_of_records (used_in n m)) (produced_on s more) d.rest k.rest (held_of m.after n) g (host_got s more) d.balance (sym stays.1) k.balance;
+              count = twice_capped (received s m.before.state) (received s m.after.state) (received s (end_world m.after more).state) (length g) (length (host_got s more)) d.count k.count ∙ ap (λ j. capped (received s m.before.state + j)) (sym long);
               exact = λ u v. (
-                  let parts = or_parts (is_piped_in s m.part m.reply) (is_piped s more) v in
+                  let parts = or_parts (is_piped_in s m.part m.reply) (was_piped s more) v in
                   let once = (d.exact u).counted in
                   let rest = k.exact (effect_unread_by m.before.state m.after.state m.part m.reply s l.holds live.holds effect u parts.0) parts.1 in
                   omega (arith, once, rest, long));
@@ -385,7 +385,7 @@ module _ (first : World) where
     balance = ap (map Some) (append-nil (held_of w n));
     count = (let bound = room.bound in omega (arith, bound));
     exact = λ u v. omega arith;
-    ends = λ h. ap (held_by w) (sym o);
+    ends = λ h. ap (held_for_owner w) (sym o);
     unhosted = refl;
     kind = refl;
     one = λ future h. one_most w s n h;
@@ -400,7 +400,7 @@ module _ (first : World) where
 
   record OtherRun (s : ℕ) (w : World) (all : List HostMoment) : Type 0 where
     unhosted : is_hosted s all ≡ false
-    owner : IsUnhosted s (last_of w all)
+    owner : IsUnhosted s (end_world w all)
 
   other_run : (s : ℕ) (w : World) (all : List HostMoment) → Chain w all → Lives first w → IsUnhosted s w → s < length w.state.streams → OtherRun s w all
   other_run s w [] c l u made = record { unhosted = refl; owner = u }
@@ -419,14 +419,14 @@ module _ (first : World) where
   -- what was produced, and then a rest
   record Shares (s : ℕ) (all : List HostMoment) : Type 0 where
     rest : List Item
-    balance : map Some (produced s all) ≡ host_got s all ++ map Some rest
+    balance : map Some (produced_on s all) ≡ host_got s all ++ map Some rest
 
   record NewRun (s : ℕ) (w : World) (all : List HostMoment) : Type 0 where
-    there : is_host (stream_in (last_of w all) s).writer.owner ≡ true → map Some (produced s all) ≡ host_got s all ++ map Some (held_by (last_of w all) (stream_in (last_of w all) s).writer.owner)
+    there : is_host (stream_in (end_world w all) s).writer.owner ≡ true → map Some (produced_on s all) ≡ host_got s all ++ map Some (held_for_owner (end_world w all) (stream_in (end_world w all) s).writer.owner)
     shares : is_hosted s all ≡ true → Shares s all
-    count : is_hosted s all ≡ true → is_piped s all ≡ false → length (host_got s all) ≡ received s (last_of w all).state
-    capped_count : is_hosted s all ≡ true → received s (last_of w all).state ≡ capped (length (host_got s all))
-    one : is_hosted s all ≡ true → (stream_in (last_of w all) s).kind ≡ Future → length (held_first s all) ≤ 1 → received s (last_of w all).state ≤ 1
+    count : is_hosted s all ≡ true → was_piped s all ≡ false → length (host_got s all) ≡ received s (end_world w all).state
+    capped_count : is_hosted s all ≡ true → received s (end_world w all).state ≡ capped (length (host_got s all))
+    one : is_hosted s all ≡ true → (stream_in (end_world w all) s).kind ≡ Future → length (held_first s all) ≤ 1 → received s (end_world w all).state ≤ 1
 
   -- nothing stands past the last stream
   past : (s : ℕ) (w : World) → length w.state.streams ≤ s → stream_in w s ≡ no_stream
@@ -491,14 +491,14 @@ module _ (first : World) where
         let unwritten : produced_in s m ≡ [] = ap (λ (x : Stream). produced_by m x.writer.owner) (past s w le) in
         let held : held_of m.after n ≡ (writer_at w n).holds =
         ap (λ ks. ks ++ (writer_at m.after n).holds) (nothing_kept m.after.state s n live.holds.hosts own unread) ∙ ap (λ x. (writer_at x n).holds) h.is in
-        let all_made : produced s (m ∷ more) ≡ held_of m.after n ++ produced s more = ap (λ xs. xs ++ (produced_in s m ++ produced s more)) (made ∙ sym held) ∙ ap (λ xs. held_of m.after n ++ (xs ++ produced s more)) unwritten in
+        let all_made : produced_on s (m ∷ more) ≡ held_of m.after n ++ produced_on s more = ap (λ xs. xs ++ (produced_in s m ++ produced_on s more)) (made ∙ sym held) ∙ ap (λ xs. held_of m.after n ++ (xs ++ produced_on s more)) unwritten in
         let all_got : host_got s (m ∷ more) ≡ host_got s more = ap (λ xs. xs ++ host_got s more) nothing in
-        let balance : map Some (produced s (m ∷ more)) ≡ host_got s (m ∷ more) ++ map Some k.rest = ap (map Some) all_made ∙ k.balance ∙ ap (λ xs. xs ++ map Some k.rest) (sym all_got) in
+        let balance : map Some (produced_on s (m ∷ more)) ≡ host_got s (m ∷ more) ++ map Some k.rest = ap (map Some) all_made ∙ k.balance ∙ ap (λ xs. xs ++ map Some k.rest) (sym all_got) in
         let long = ap length all_got in
         record {
           there = λ q. balance ∙ ap (λ xs. host_got s (m ∷ more) ++ map Some xs) (k.ends q);
           shares = λ q. record { rest = k.rest; balance = balance };
-          count = λ q v. (let rest = k.exact unread (or_parts (is_piped_in s m.part m.reply) (is_piped s more) v).1 in omega (arith, rest, none, long));
+          count = λ q v. (let rest = k.exact unread (or_parts (is_piped_in s m.part m.reply) (was_piped s more) v).1 in omega (arith, rest, none, long));
           capped_count = λ q. omega (arith, k.count, none, long);
           one = λ q future few. (
               let passed : (stream_in m.after s).passed ≡ false = ap (λ (x : Stream). x.passed) now in
@@ -534,13 +534,13 @@ module _ (first : World) where
               let same : received s m.after.state ≡ received s m.before.state = ap (λ (x : Stream). x.received) (past s m.after after ∙ sym (past s m.before le)) in
               let nothing = nothing_unhosted s m same (past_unhosted s m.before le) (stream_in m.before s).reader.owner in
               let all_got : host_got s (m ∷ more) ≡ host_got s more = ap (λ xs. xs ++ host_got s more) nothing in
-              let all_made : produced s (m ∷ more) ≡ produced s more = produced_split s m more not.made [] (ap (λ (x : Stream). produced_by m x.writer.owner) (past s m.before le)) in
+              let all_made : produced_on s (m ∷ more) ≡ produced_on s more = produced_split s m more not.made [] (ap (λ (x : Stream). produced_by m x.writer.owner) (past s m.before le)) in
               let hosted_later : is_hosted s (m ∷ more) ≡ is_hosted s more = ap (λ b. b || is_hosted s more) not.by in
               let long = ap length all_got in
               record {
-                there = λ h. ap (map Some) all_made ∙ k.there h ∙ ap (λ xs. xs ++ map Some (held_by (last_of m.after more) (stream_in (last_of m.after more) s).writer.owner)) (sym all_got);
+                there = λ h. ap (map Some) all_made ∙ k.there h ∙ ap (λ xs. xs ++ map Some (held_for_owner (end_world m.after more) (stream_in (end_world m.after more) s).writer.owner)) (sym all_got);
                 shares = λ h. (let x = k.shares (sym hosted_later ∙ h) in record { rest = x.rest; balance = ap (map Some) all_made ∙ x.balance ∙ ap (λ xs. xs ++ map Some x.rest) (sym all_got) });
-                count = λ h v. long ∙ k.count (sym hosted_later ∙ h) (or_parts (is_piped_in s m.part m.reply) (is_piped s more) v).1;
+                count = λ h v. long ∙ k.count (sym hosted_later ∙ h) (or_parts (is_piped_in s m.part m.reply) (was_piped s more) v).1;
                 capped_count = λ h. k.capped_count (sym hosted_later ∙ h) ∙ ap capped (sym long);
                 one = λ h future few. k.one (sym hosted_later ∙ h) future (subst (λ xs. length (xs ++ held_first s more) ≤ 1) not.made few);
               })
@@ -571,12 +571,12 @@ module _ (first : World) where
   first_of_all xs ys all e = sym (ap (take (length xs)) e ∙ take-front xs ys (length xs) refl)
 
   -- the law, of a stream that is made in these moments
-  pub delivers_from : (s : ℕ) (w : World) (all : List HostMoment) → Chain w all → Lives first w → length w.state.streams ≤ s → 2 ^ 28 * length all < 2 ^ 128 → DeliversAll s all (last_of w all)
+  pub delivers_from : (s : ℕ) (w : World) (all : List HostMoment) → Chain w all → Lives first w → length w.state.streams ≤ s → 2 ^ 28 * length all < 2 ^ 128 → DeliversAll s all (end_world w all)
   delivers_from s w all c l le room =
       let k = new_run s w all c l le room in
       record {
         there = k.there;
-        given_up = λ h. (let x = k.shares h in first_of_all (host_got s all) (map Some x.rest) (map Some (produced s all)) x.balance);
+        given_up = λ h. (let x = k.shares h in first_of_all (host_got s all) (map Some x.rest) (map Some (produced_on s all)) x.balance);
         count = k.count;
         capped = k.capped_count;
         one = λ h future few. (let most = k.one h future few in let counted = k.capped_count h in omega (arith, most, counted));
@@ -584,7 +584,7 @@ module _ (first : World) where
 
 -- RUNS FROM AN UNUSED STORE
 
-Lives-start : (tag : ℕ) (limits : Limits) (old new : Tells) → AllSupply (start tag limits old new) → Lives (start tag limits old new) (start tag limits old new)
+Lives-start : (tag : ℕ) (limits : Limits) (old new : Tells) → AllSupply (start_world tag limits old new) → Lives (start_world tag limits old new) (start_world tag limits old new)
 Lives-start tag limits old new h = record {
   holds = Holds-empty tag limits;
   stands = Stands-start tag limits old new;
@@ -593,12 +593,12 @@ Lives-start tag limits old new h = record {
 
 -- the law of stream s in these moments, from this world on
 abbrev DeliversIn : World → List HostMoment → ℕ → Type 0
-DeliversIn w all s = DeliversAll s all (last_of w all)
+DeliversIn w all s = DeliversAll s all (end_world w all)
 
-pub run-delivers : (tag : ℕ) (limits : Limits) (old new : Tells) (run : List Step) (count s : ℕ) → AllSupply (start tag limits old new) → length run ≤ 4294967295
-    → DeliversIn (start tag limits old new) (first_moments count (start tag limits old new) run) s
+pub run-delivers : (tag : ℕ) (limits : Limits) (old new : Tells) (run : List Step) (count s : ℕ) → AllSupply (start_world tag limits old new) → length run ≤ 4294967295
+    → DeliversIn (start_world tag limits old new) (first_moments count (start_world tag limits old new) run) s
 run-delivers tag limits old new run count s h few =
-    let first = start tag limits old new in
+    let first = start_world tag limits old new in
     let l = Lives-start tag limits old new h in
     let most = first_few first count first run l (omega (arith, few)) in
     delivers_from first s first (first_moments count first run) (first-chain count first run) l (omega arith) (omega (arith, few, most))

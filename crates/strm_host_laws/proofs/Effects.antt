@@ -34,9 +34,9 @@ use Rattle.strm_machine.specs.declared.replies.Reply.TheVariants as replies
 use Rattle.strm_machine.proofs.ReactionLemmas.{reaction-performs, reaction-refused}
 use Rattle.strm_host_machine.specs.World.{World, stream_in, writer_at, with_consumer, leaves_writer, leaves_reader, with_stream_in}
 use Rattle.strm_host_machine.specs.Outcomes.{Outcome, Goes, Stops, Stuck, then_on, of_reply}
-use Rattle.strm_host_machine.specs.Settling.{with_some_received, answered_with, answered}
-use Rattle.strm_host_machine.specs.Producing.{producer_turn}
-use Rattle.strm_host_machine.specs.Consuming.{consumer_turn}
+use Rattle.strm_host_machine.specs.Settling.{with_some_received, answered_with, turn_answered}
+use Rattle.strm_host_machine.specs.WriterTurn.{writer_turn}
+use Rattle.strm_host_machine.specs.ReaderTurn.{reader_turn}
 use Rattle.strm_host_machine.specs.Attaching.{hosted_stream, has_items, hosts_new, piped, is_dry, without_ends, pipes, forsaken, forsakes}
 use Rattle.strm_host_machine.specs.Piping.{both_gone, pipe_round}
 use Rattle.strm_host_machine.specs.Driving.{if_open, driven_by, drive_turn}
@@ -297,8 +297,8 @@ passing_effect w s n r h e f = by (pipe_round w s n r) (round_is w s n r (writte
 
 driven_effect : (w : World) (s : ℕ) → HostsHold w.state → (writer reader : Owner) → (stream_in w s).writer.owner ≡ writer → (stream_in w s).reader.owner ≡ reader → Going (EffectIn w (Turns s)) (driven_by w s (stream_in w s) writer reader)
 driven_effect w s h (Host n) (Host r) e f = passing_effect w s n r h e f
-driven_effect w s h (Host n) _ e f = open_effect w s n Reading (stream_in w s).reader.operation (producer_turn w s n) (λ read. turn_done s n read w e) e refl
-driven_effect w s h _ (Host r) e f = open_effect w s r Writing (stream_in w s).writer.operation (consumer_turn w s r) (λ write. taking_done s r write w f) f refl
+driven_effect w s h (Host n) _ e f = open_effect w s n Reading (stream_in w s).reader.operation (writer_turn w s n) (λ read. turn_done s n read w e) e refl
+driven_effect w s h _ (Host r) e f = open_effect w s r Writing (stream_in w s).writer.operation (reader_turn w s r) (λ write. taking_done s r write w f) f refl
 driven_effect w s h _ _ e f = rests w s
 
 drive_effect : (w : World) (s : ℕ) → HostsHold w.state → Going (EffectIn w (Turns s)) (drive_turn w s)
@@ -360,7 +360,7 @@ module _ (side : Side) (w : World) (end : NamedEnd) (address count n : ℕ) wher
       is = sym (told-nothing v.state at_end side e);
     })
 
-    then_answers : (o : Outcome) → Going (TurnsDone side at_end n operation open_world) o → Going (EffectIn w calling) (then_on o (λ after. answered after at_end side))
+    then_answers : (o : Outcome) → Going (TurnsDone side at_end n operation open_world) o → Going (EffectIn w calling) (then_on o (λ after. turn_answered after at_end side))
     then_answers (Goes reply v) t =
         let stream = with_operation side (stream_in w at_end) operation in
         let is : open_world.state ≡ opened_by side w.state at_end operation = with_stream_in-kept w at_end stream (with_end-owners side (stream_in w at_end) (record (end_of side (stream_in w at_end)) { operation = Some operation }) refl) in
@@ -395,12 +395,12 @@ module _ (w : World) (end : NamedEnd) (address count : ℕ) where
   reads_effect : (n : ℕ) → refusal w.state (call Reading) ≡ None → (stream_in w its_stream).writer.owner ≡ Host n → Going (EffectIn w (Acts (call Reading))) (reads_from w its_stream n begins)
   reads_effect n r o =
       let v = with_stream_in w its_stream (with_operation Reading (stream_in w its_stream) begins) in
-      then_answers Reading w end address count n r o (producer_turn v its_stream n begins) (turn_done its_stream n begins v (owned_then Reading w end address count n o))
+      then_answers Reading w end address count n r o (writer_turn v its_stream n begins) (turn_done its_stream n begins v (owned_then Reading w end address count n o))
 
   writes_effect : (r : ℕ) → refusal w.state (call Writing) ≡ None → (stream_in w its_stream).reader.owner ≡ Host r → Going (EffectIn w (Acts (call Writing))) (writes_to w its_stream r begins)
   writes_effect r u o =
       let v = with_stream_in w its_stream (with_operation Writing (stream_in w its_stream) begins) in
-      then_answers Writing w end address count r u o (consumer_turn v its_stream r begins) (taking_done its_stream r begins v (owned_then Writing w end address count r o))
+      then_answers Writing w end address count r u o (reader_turn v its_stream r begins) (taking_done its_stream r begins v (owned_then Writing w end address count r o))
 
   operates_effect : (side : Side) (owner : Owner) → refusal w.state (call side) ≡ None → (end_of (opposite side) (stream_in w its_stream)).owner ≡ owner → Going (EffectIn w (Acts (call side))) (operates_by w side end address count owner)
   operates_effect Reading (Host n) r e = reads_effect n r e

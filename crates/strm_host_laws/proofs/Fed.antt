@@ -24,8 +24,8 @@ use Rattle.strm_host_machine.specs.Attaching.{piped}
 use Rattle.strm_host_machine.specs.Outcomes.{Goes}
 use Rattle.strm_host_machine.specs.HostRefusals.{is_unknown_host, refusal_in}
 use Rattle.strm_host_machine.specs.Steps.{performs_in, unless_refused_in, outcome}
-use Rattle.strm_host_laws.specs.HostMoments.{Part, Acts, HostMoment, part_on, first_moments, last_of}
-use Rattle.strm_host_laws.specs.HostLaws.{used, used_in, all_used, fed_in, all_fed, WriterGoesOn}
+use Rattle.strm_host_laws.specs.HostMoments.{Part, Acts, HostMoment, part_on, first_moments, end_world}
+use Rattle.strm_host_laws.specs.HostLaws.{used_records, used_in, all_used, fed_in, all_fed, WriterGoesOn}
 use Rattle.strm_host_laws.proofs.Chains.{is_part, Follows, Chain, first-chain}
 use Rattle.strm_host_laws.proofs.Goings.{Begins, Stopping, Rules, Comes, IfGoes, is_passing, part-comes, grant-comes}
 use Rattle.strm_machine.proofs.RefusalLemmas.{not_refused, not_le}
@@ -153,7 +153,7 @@ take-front (x ∷ xs) ys zero e = absurd (omega (arith, e))
 take-front (x ∷ xs) ys (suc n) e = ap (λ zs. x ∷ zs) (take-front xs ys n (omega (arith, e)))
 
 -- those that left the front are those used
-pub used_are : {A : Type 0} (before after said : List A) → before ≡ said ++ after → used before after ≡ said
+pub used_are : {A : Type 0} (before after said : List A) → before ≡ said ++ after → used_records before after ≡ said
 used_are before after said e =
     let l = length-append said after in
     ap (λ xs. take (length xs - length after) xs) e
@@ -258,15 +258,15 @@ pub heard_both : {A : Type 0} (x : Option (List A)) (f g : List A) → option_ma
 heard_both None f g = refl
 heard_both (Some xs) f g = ap Some (append_assoc xs f g)
 
-chain-goes_on : (n : ℕ) (w : World) (all : List HostMoment) → Chain w all → WriterGoesOn n all (writer_at w n) (writer_at (last_of w all) n)
+chain-goes_on : (n : ℕ) (w : World) (all : List HostMoment) → Chain w all → WriterGoesOn n all (writer_at w n) (writer_at (end_world w all) n)
 chain-goes_on n w [] c = record { records = refl; spoken = omega arith; heard = heard_none (writer_at w n).heard; kind = refl; payload = refl }
 chain-goes_on n w (m ∷ more) c =
     let h = moment-moves w m c.0 n in
     let rest = chain-goes_on n m.after more c.1 in
     let a = writer_at w n in
-    let last = writer_at (last_of m.after more) n in
+    let last = writer_at (end_world m.after more) n in
     let same : writer_at m.before n ≡ a = ap (λ v. writer_at v n) c.0.begins in
-    let used_here : used_in n m ≡ h.said = ap (λ (x : Writer). used x.coming (writer_at m.after n).coming) same ∙ used_are a.coming (writer_at m.after n).coming h.said h.records in
+    let used_here : used_in n m ≡ h.said = ap (λ (x : Writer). used_records x.coming (writer_at m.after n).coming) same ∙ used_are a.coming (writer_at m.after n).coming h.said h.records in
     let fed_here : fed_in n (writer_at m.before n).spoken m.part m.reply ≡ fed_in n a.spoken m.part m.reply = ap (λ (x : Writer). fed_in n x.spoken m.part m.reply) same in
     let l = length-append (used_in n m) (all_used n more) in
     let k = ap length used_here in
@@ -286,5 +286,5 @@ chain-goes_on n w (m ∷ more) c =
       payload = rest.payload ∙ h.payload;
     }
 
-pub run-goes_on : (first : World) (run : List Step) (count n : ℕ) → WriterGoesOn n (first_moments count first run) (writer_at first n) (writer_at (last_of first (first_moments count first run)) n)
+pub run-goes_on : (first : World) (run : List Step) (count n : ℕ) → WriterGoesOn n (first_moments count first run) (writer_at first n) (writer_at (end_world first (first_moments count first run)) n)
 run-goes_on first run count n = chain-goes_on n first (first_moments count first run) (first-chain count first run)

@@ -26,9 +26,9 @@ use Rattle.strm_machine.specs.declared.replies.Reply.TheVariants as replies
 use Rattle.strm_host_machine.specs.Ends.{fed_writer, granted_reader}
 use Rattle.strm_host_machine.specs.World.{World, stream_in, writer_at, reader_at, with_consumer, with_writer, with_reader, with_stream_in}
 use Rattle.strm_host_machine.specs.Outcomes.{Outcome, Goes, Stops, Stuck, then_on, of_reply}
-use Rattle.strm_host_machine.specs.Settling.{answered_with, answered}
-use Rattle.strm_host_machine.specs.Producing.{producer_turn}
-use Rattle.strm_host_machine.specs.Consuming.{consumer_turn}
+use Rattle.strm_host_machine.specs.Settling.{answered_with, turn_answered}
+use Rattle.strm_host_machine.specs.WriterTurn.{writer_turn}
+use Rattle.strm_host_machine.specs.ReaderTurn.{reader_turn}
 use Rattle.strm_host_machine.specs.Attaching.{hosts_new, piped, is_dry, without_ends, pipes, forsaken, forsakes}
 use Rattle.strm_host_machine.specs.Driving.{if_open, driven_by, drive_turn}
 use Rattle.strm_host_machine.proofs.TouchLemmas.{names_none, touch-by}
@@ -177,8 +177,8 @@ module _ (w : World) (h : Holds w.state) where
 
   driven-formed : (s : ℕ) (writer reader : Owner) → (stream_in w s).writer.owner ≡ writer → (stream_in w s).reader.owner ≡ reader → Formed (Turns s) (driven_by w s (stream_in w s) writer reader)
   driven-formed s (Host n) (Host r) e f = round-formed s n r e f
-  driven-formed s (Host n) _ e f = open-formed s n Reading (stream_in w s).reader.operation (producer_turn w s n) (λ read. turn_is w s n read) e refl
-  driven-formed s _ (Host r) e f = open-formed s r Writing (stream_in w s).writer.operation (consumer_turn w s r) (λ write. taking_is w s r write) f refl
+  driven-formed s (Host n) _ e f = open-formed s n Reading (stream_in w s).reader.operation (writer_turn w s n) (λ read. turn_is w s n read) e refl
+  driven-formed s _ (Host r) e f = open-formed s r Writing (stream_in w s).writer.operation (reader_turn w s r) (λ write. taking_is w s r write) f refl
   driven-formed s _ _ e f = BySame refl refl
 
   drive-formed : (s : ℕ) → Formed (Turns s) (drive_turn w s)
@@ -201,7 +201,7 @@ module _ (w : World) (h : Holds w.state) where
     answers-formed u (Some code) t = ByCalling side end address count n refl (record { part_is = refl; begun = o; owner = e; mid = u; turned = t; told = inr refl })
     answers-formed u None t = ByCalling side end address count n refl (record { part_is = refl; begun = o; owner = e; mid = u; turned = t; told = inl refl })
 
-    then-formed : (x : Outcome) → IfGoes x (λ reply u. HasTurned side open_world here n (called end address count) u) → Formed calling (then_on x (λ after. answered after here side))
+    then-formed : (x : Outcome) → IfGoes x (λ reply u. HasTurned side open_world here n (called end address count) u) → Formed calling (then_on x (λ after. turn_answered after here side))
     then-formed (Goes reply u) t = answers-formed u (report_on side (stream_in u here)) t
     then-formed (Stops stop writers readers) t = tt
     then-formed Stuck t = tt
@@ -209,12 +209,12 @@ module _ (w : World) (h : Holds w.state) where
   reads-formed : (end : NamedEnd) (address count n : ℕ) → Begun Reading w.state end address count → (stream_in w (stream_of w end)).writer.owner ≡ Host n → Formed (Acts (OnEnd Reading end (Operate address count))) (reads_from w (stream_of w end) n (called end address count))
   reads-formed end address count n o e =
       let v = opened Reading w (stream_of w end) (called end address count) in
-      then-formed Reading end address count n o e (producer_turn v (stream_of w end) n (called end address count)) (turn_is v (stream_of w end) n (called end address count))
+      then-formed Reading end address count n o e (writer_turn v (stream_of w end) n (called end address count)) (turn_is v (stream_of w end) n (called end address count))
 
   writes-formed : (end : NamedEnd) (address count r : ℕ) → Begun Writing w.state end address count → (stream_in w (stream_of w end)).reader.owner ≡ Host r → Formed (Acts (OnEnd Writing end (Operate address count))) (writes_to w (stream_of w end) r (called end address count))
   writes-formed end address count r o e =
       let v = opened Writing w (stream_of w end) (called end address count) in
-      then-formed Writing end address count r o e (consumer_turn v (stream_of w end) r (called end address count)) (taking_is v (stream_of w end) r (called end address count))
+      then-formed Writing end address count r o e (reader_turn v (stream_of w end) r (called end address count)) (taking_is v (stream_of w end) r (called end address count))
 
   -- a read or write at an end
   module _ (end : NamedEnd) (address count : ℕ) where

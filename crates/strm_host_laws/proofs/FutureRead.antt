@@ -38,7 +38,7 @@ use Rattle.strm_machine.proofs.HostLemmas.{no_host}
 use Rattle.strm_machine.proofs.TallyLemmas.{begins_by}
 use Rattle.strm_machine.proofs.Shapes.{stream_on, begun_on, turn_on, Operates, Shape, ByTurn, BySetting, ByOwner, ByTable, ByPair, ByGuest, ByPut, ByRest as ByRestShape}
 use Rattle.strm_machine.proofs.ShapeLemmas.{reaction-shape, reaction-consumers}
-use Rattle.strm_host_machine.specs.Settling.{result_of, went, settled, since_after}
+use Rattle.strm_host_machine.specs.Settling.{result_of, went, operation_settled, since_after}
 use Rattle.strm_host_machine.proofs.SettleLemmas.{is_done_with}
 use Rattle.strm_host_laws.proofs.HostTurns.{since_of, turned_stream, Turned}
 use Rattle.strm_host_laws.proofs.PartsSeen.{IsTaken}
@@ -280,7 +280,7 @@ module _ (payload : Payload) (o : Operation) (passed : Bool) (since count : ℕ)
           ]
 
   -- it is settled
-  closed : (result : StreamResult) (later : ℕ) → later ≡ 0 → count_reported Future (outcome_code Future result (o.moved + count)) ≡ o.moved + count → TookOne (settled (Some result) (went payload o count)) now later
+  closed : (result : StreamResult) (later : ℕ) → later ≡ 0 → count_reported Future (outcome_code Future result (o.moved + count)) ≡ o.moved + count → TookOne (operation_settled (Some result) (went payload o count)) now later
   closed result later is counts = record {
     told = record { done = λ e. counts; waiting = λ e f. cc };
     waits = λ e. cc;
@@ -288,7 +288,7 @@ module _ (payload : Payload) (o : Operation) (passed : Bool) (since count : ℕ)
   }
 
   -- by what the host reader answered
-  answered : (answer : Answer) (offered : ℕ) (finish : Bool) (later : ℕ) → reader_breaks Future answer offered since finish count ≡ false → later ≡ since_after answer since count → TookOne (settled (result_of answer) (went payload o count)) now later
+  answered : (answer : Answer) (offered : ℕ) (finish : Bool) (later : ℕ) → reader_breaks Future answer offered since finish count ≡ false → later ≡ since_after answer since count → TookOne (operation_settled (result_of answer) (went payload o count)) now later
   answered answers.Pending offered finish later kept is = left_open later is
   answered answers.Failed offered finish later kept is = left_open later is
   answered answers.Dropped offered finish later kept is = cc
@@ -334,10 +334,10 @@ module _ (old new : State) (s n : ℕ) (o : Operation) (t : Turned Writing old n
   opens : OpenOne o was.passed
   opens = subst (λ q. AreOpenOne q was.passed) is h.waits is_open
 
-  took : TookOne (settled t.result (went was.payload o t.count)) (now_passed was.passed t.count) (since_of t.ends n)
+  took : TookOne (operation_settled t.result (went was.payload o t.count)) (now_passed was.passed t.count) (since_of t.ends n)
   took =
       let a = t.obeys in
-      subst (λ r. TookOne (settled r (went was.payload o t.count)) (now_passed was.passed t.count) (since_of t.ends n)) (sym a.result_is)
+      subst (λ r. TookOne (operation_settled r (went was.payload o t.count)) (now_passed was.passed t.count) (since_of t.ends n)) (sym a.result_is)
       (answered was.payload o was.passed (since_of old n) t.count is_open opens (subst (λ q. AreToldOne q was.passed) is h.told) (subst (λ q. IsSince q was.passed (since_of old n)) is (h.since n own)) t.few a.answer a.offered a.finish (since_of t.ends n)
       (subst (λ k. reader_breaks k a.answer a.offered (since_of old n) a.finish t.count ≡ false) future a.kept) (a.since known))
 
@@ -351,7 +351,7 @@ module _ (old new : State) (s n : ℕ) (o : Operation) (t : Turned Writing old n
       or_true true = refl
       or_true false = refl
 
-  operation_now : (stream_at new s).writer.operation ≡ Some (settled t.result (went was.payload o t.count))
+  operation_now : (stream_at new s).writer.operation ≡ Some (operation_settled t.result (went was.payload o t.count))
   operation_now = ap (λ (x : Stream). x.writer.operation) here ∙ ap (λ (x : End). x.operation) moves.mine
 
   count_now : (stream_at new s).received ≡ (if (stream_at new s).passed then 1 else 0)
@@ -381,7 +381,7 @@ module _ (old new : State) (s n : ℕ) (o : Operation) (t : Turned Writing old n
         let since : since_of new r ≡ since_of t.ends n = ap (λ (x : State). since_of x r) t.is ∙ ap (since_of t.ends) same in
         subst (λ p. IsSince (stream_at new s).writer.operation p (since_of new r)) (sym passed_now)
         (subst (λ q. IsSince q (now_passed was.passed t.count) (since_of new r)) (sym operation_now)
-        (subst (IsSince (Some (settled t.result (went was.payload o t.count))) (now_passed was.passed t.count)) (sym since) took.since));
+        (subst (IsSince (Some (operation_settled t.result (went was.payload o t.count))) (now_passed was.passed t.count)) (sym since) took.since));
   }
     where
       one_host : (a b : ℕ) → Host a ≡ Host b → a ≡ b

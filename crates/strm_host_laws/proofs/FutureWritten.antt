@@ -44,10 +44,10 @@ use Rattle.strm_host_machine.specs.Attaching.{hosted_stream, piped, without_ends
 use Rattle.strm_host_machine.specs.Ends.{Writer}
 use Rattle.strm_host_machine.specs.HostRefusals.{is_used}
 use Rattle.strm_host_machine.specs.Piping.{both_gone}
-use Rattle.strm_host_machine.specs.Settling.{went, settled, with_some_received}
+use Rattle.strm_host_machine.specs.Settling.{went, operation_settled, with_some_received}
 use Rattle.strm_host_machine.specs.World.{World, stream_in, writer_at, held_of, with_consumer, leaves_writer, leaves_reader, with_stream_in}
 use Rattle.strm_host_laws.specs.HostMoments.{Part, HostMoment}
-use Rattle.strm_host_laws.specs.HostLaws.{items_of}
+use Rattle.strm_host_laws.specs.HostLaws.{items_of_records}
 use Rattle.strm_host_laws.proofs.Closed.{is_new_reader}
 use Rattle.strm_host_laws.proofs.Effects.{loose_made}
 use Rattle.strm_host_laws.proofs.Fed.{set-relates}
@@ -546,7 +546,7 @@ module _ (x : World) (s n : ℕ) (read : Operation) (y : World) (t : Turned x s 
   reader_owner = ap (λ (z : Stream). z.reader.owner) here ∙ ap (λ (e : End). e.owner) moves.mine
 
   -- a read that is open yet got none
-  open_yet : (result : Option StreamResult) → t.result ≡ result → ReadsOne (Some (settled result (went (stream_in x s).payload read m))) (stream_in y s).passed
+  open_yet : (result : Option StreamResult) → t.result ≡ result → ReadsOne (Some (operation_settled result (went (stream_in x s).payload read m))) (stream_in y s).passed
   open_yet None e = λ f. (
       let none : m ≡ 0 = ap length (t.none e) in
       let left = asks.left in
@@ -585,21 +585,21 @@ module _ (w : World) (part : Part) (s n r : ℕ) (v : World) (i : IsRound w part
   round_few : (b : Bool) → (stream_in w s).passed ≡ b → length p.items + length (held_of p.but n) ≤ (if b then 0 else 1)
   round_few b e =
       let all = ap length p.balance in
-      let left = length-append (held_of w n) (items_of p.said) in
+      let left = length-append (held_of w n) (items_of_records p.said) in
       let right = length-append p.items (held_of p.but n) in
-      by b e (length (held_of w n)) (length (items_of p.said)) refl refl (omega (arith, all, left, right))
+      by b e (length (held_of w n)) (length (items_of_records p.said)) refl refl (omega (arith, all, left, right))
     where
-      by : (b : Bool) → (stream_in w s).passed ≡ b → (a c : ℕ) → length (held_of w n) ≡ a → length (items_of p.said) ≡ c → length p.items + length (held_of p.but n) ≡ a + c → length p.items + length (held_of p.but n) ≤ (if b then 0 else 1)
+      by : (b : Bool) → (stream_in w s).passed ≡ b → (a c : ℕ) → length (held_of w n) ≡ a → length (items_of_records p.said) ≡ c → length p.items + length (held_of p.but n) ≡ a + c → length p.items + length (held_of p.but n) ≤ (if b then 0 else 1)
       by false e a c f g sum =
           let held = h.held e in
           elim p.wants.none [
-            | inl none ↦ (let zero_said = ap (λ xs. length (items_of xs)) none in omega (arith, held, f, g, sum, zero_said))
+            | inl none ↦ (let zero_said = ap (λ xs. length (items_of_records xs)) none in omega (arith, held, f, g, sum, zero_said))
             | inr q ↦ (let one = p.wants.one future in let none = ap length q.0 in omega (arith, one, f, g, sum, none))
           ]
       by true e a c f g sum =
           let rests = h.rests r i.read e in
           elim p.wants.none [
-            | inl none ↦ (let zero_said = ap (λ xs. length (items_of xs)) none in let zero_held = ap length rests.none in omega (arith, f, g, sum, zero_said, zero_held))
+            | inl none ↦ (let zero_said = ap (λ xs. length (items_of_records xs)) none in let zero_held = ap length rests.none in omega (arith, f, g, sum, zero_said, zero_held))
             | inr q ↦ absurd (true≢false (sym rests.resting ∙ q.1))
           ]
 

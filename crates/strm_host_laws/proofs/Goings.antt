@@ -37,9 +37,9 @@ use Rattle.strm_host_machine.specs.Ends.{Writer, Reader, polled_writer, fed_writ
 use Rattle.strm_host_machine.specs.World.{World, stream_in, writer_at, reader_at, held_of, with_guests, with_producer, with_kept, with_consumer, with_writer, with_reader, leaves_writer, leaves_reader, with_stream_in}
 use Rattle.strm_host_machine.specs.Outcomes.{Outcome, Goes, Stops, Stuck, then_on, done, of_reply}
 use Rattle.strm_host_machine.specs.Polls.{AfterWriter, is_failed, is_writer_poll, writer_says, is_reader_poll, tells_truly, reader_says}
-use Rattle.strm_host_machine.specs.Settling.{result_of, with_some_received, moved_on, since_after, answered_with, answered}
-use Rattle.strm_host_machine.specs.Producing.{lowered, receives, with_answer, produced_result, hands_out, hands_over, produces, producer_turn}
-use Rattle.strm_host_machine.specs.Consuming.{lifted, with_taken, gives_up, consumer_turn}
+use Rattle.strm_host_machine.specs.Settling.{result_of, with_some_received, moved_on, since_after, answered_with, turn_answered}
+use Rattle.strm_host_machine.specs.WriterTurn.{lowered_items, receives, with_answer, produced_result, hands_out, hands_over, produces, writer_turn}
+use Rattle.strm_host_machine.specs.ReaderTurn.{lifted_items, reader_with_taken, gives_up, reader_turn}
 use Rattle.strm_host_machine.specs.Attaching.{hosted_stream, with_new_stream, new_producer, hosts_new, piped, has_items, is_dry, without_ends, pipes, forsaken, forsakes}
 use Rattle.strm_host_machine.specs.Piping.{wants_items, fetches, gathered, is_resting, passed_on, offers, is_done_with, is_run_dry, both_gone, ends_if_done, pipe_round}
 use Rattle.strm_machine.specs.Turns.{with_received}
@@ -62,7 +62,7 @@ with_state w state = record w { state = state }
 
 -- the world after a turn of host reader r at stream s, by what it told
 abbrev pub gave_up : ℕ → ℕ → Operation → World → ReaderSaid → World
-gave_up s r write after said = gives_up (with_taken after r said.answer said.taken) s write said.taken said.answer
+gave_up s r write after said = gives_up (reader_with_taken after r said.answer said.taken) s write said.taken said.answer
 
 -- what is kept of host reader r after its answer in the round of a pipe, and after so many items that it took
 abbrev pub with_passed : World → ℕ → Answer → ℕ → World
@@ -112,7 +112,7 @@ pub record Rules (R : World → World → Type 0) : Type 0 where
   pub begins : Begins R
   pub reacts : (w : World) (act : Act) → R w (with_state w (reaction w.state act).state)
   pub lowers : (w : World) (guests : List Guest) → R w (with_guests w guests)
-  pub counts : (w : World) (r : ℕ) (answer : Answer) (taken : ℕ) → R w (with_taken w r answer taken)
+  pub counts : (w : World) (r : ℕ) (answer : Answer) (taken : ℕ) → R w (reader_with_taken w r answer taken)
   pub rests : (w : World) (r : ℕ) (answer : Answer) (taken : ℕ) → R w (with_passed w r answer taken)
   pub leaves : (w : World) (s : ℕ) (stream : Stream) → LeftBy (stream_in w s) stream → R w (with_stream_in w s stream)
   pub hosts : (w : World) (n : ℕ) → refusal_in w (OnHost n New) ≡ None → R w (hosted w n)
@@ -275,12 +275,12 @@ module _ (R K : World → World → Type 0) (begins : Begins R) (stopping : Stop
   fetched-comes w s n (said ∷ more) e =
       let after = with_writer w n (polled_writer (writer_at w n) None said more) in
       let halted : Halted K w after.writers after.readers = record { at = after; kept = stopping.polls w n None said more e; is = refl; read = refl } in
-      let answered = with_answer after n said.answer [] in
-      let kept = with_kept answered n said.items in
+      let turn_answered = with_answer after n said.answer [] in
+      let kept = with_kept turn_answered n said.items in
       cond_both (is_writer_poll None false said) _ _ (Comes R K w)
       (λ f. cond_both (is_failed said.answer) _ _ (Comes R K w) (λ g. halted)
       (λ g. cond_both (breaks_as_writer (stream_in w s).kind said) _ _ (Comes R K w) (λ k. halted)
-      (λ k. begins.joins w answered kept (begins.says w n None said more e) (begins.keeps answered n said.items))))
+      (λ k. begins.joins w turn_answered kept (begins.says w n None said more e) (begins.keeps turn_answered n said.items))))
       (λ f. tt)
 
   pub fetches-comes : (w : World) (s n r : ℕ) → Comes R K w (fetches w s n r)
@@ -324,9 +324,9 @@ module _ (R K : World → World → Type 0) (rules : Rules R) (stopping : Stoppi
   receives-comes : (w : World) (s : ℕ) (read : Operation) (items : List Item) (result : Option StreamResult) → R w (receives w s read items result)
   receives-comes w s read items result =
       let stream = stream_in w s in
-      let v = with_guests w (lowered w.state.guests stream.payload read items) in
+      let v = with_guests w (lowered_items w.state.guests stream.payload read items) in
       let now = moved_on Reading stream read (length items) result in
-      joined w v (with_stream_in v s now) (rules.lowers w (lowered w.state.guests stream.payload read items))
+      joined w v (with_stream_in v s now) (rules.lowers w (lowered_items w.state.guests stream.payload read items))
       (rules.leaves v s now (moved_on-left Reading stream read (length items) result))
 
   -- whatever record host writer n has next, what is done after it holds
@@ -359,13 +359,13 @@ module _ (R K : World → World → Type 0) (rules : Rules R) (stopping : Stoppi
       refl
       (λ said more f.
       let after = with_writer w n (polled_writer (writer_at w n) (Some read.left) said more) in
-      let answered = with_answer after n said.answer (drop read.left said.items) in
+      let turn_answered = with_answer after n said.answer (drop read.left said.items) in
       let items = take read.left said.items in
       let result = produced_result said.answer (drop read.left said.items) in
-      joined w answered (receives answered s read items result) (rules.begins.says w n (Some read.left) said more f) (receives-comes answered s read items result)))
+      joined w turn_answered (receives turn_answered s read items result) (rules.begins.says w n (Some read.left) said more f) (receives-comes turn_answered s read items result)))
 
-  turn-comes : (w : World) (s n : ℕ) (read : Operation) → Is w (producer_turn w s n read)
-  unfolding producer_turn
+  turn-comes : (w : World) (s n : ℕ) (read : Operation) → Is w (writer_turn w s n read)
+  unfolding writer_turn
   turn-comes w s n read = produces-comes w s n read (writer_at w n).holds
 
   -- A TURN OF A HOST READER
@@ -380,7 +380,7 @@ module _ (R K : World → World → Type 0) (rules : Rules R) (stopping : Stoppi
   taken-comes w s r write finish first (said ∷ more) e =
       let after = with_reader w r (polled_reader (reader_at w r) (first said.taken) more) in
       let halted : Halted K w after.writers after.readers = record { at = after; kept = begins.takes w r (first said.taken) said more e; is = refl; read = refl } in
-      let counted = with_taken after r said.answer said.taken in
+      let counted = reader_with_taken after r said.answer said.taken in
       cond_both (is_reader_poll write.left (consumer_at w.state r).since finish said && tells_truly write.left first said) _ _ (Is w)
       (λ f. cond_both (is_failed said.answer) _ _ (Is w) (λ g. halted)
       (λ g. cond_both said.bad _ _ (Is w) (λ b. halted)
@@ -390,9 +390,9 @@ module _ (R K : World → World → Type 0) (rules : Rules R) (stopping : Stoppi
       (joined after counted (gives_up counted s write said.taken said.answer) (rules.counts after r said.answer said.taken) (gives_up-comes counted s write said.taken said.answer))))))
       (λ f. tt)
 
-  consumer-comes : (w : World) (s r : ℕ) (write : Operation) → Is w (consumer_turn w s r write)
-  unfolding consumer_turn
-  consumer-comes w s r write = taken-comes w s r write write.asked (lifted w.state.guests (stream_in w s).payload write) (reader_at w r).coming refl
+  consumer-comes : (w : World) (s r : ℕ) (write : Operation) → Is w (reader_turn w s r write)
+  unfolding reader_turn
+  consumer-comes w s r write = taken-comes w s r write write.asked (lifted_items w.state.guests (stream_in w s).payload write) (reader_at w r).coming refl
 
   -- THE ROUND OF A PIPE
 
@@ -458,8 +458,8 @@ module _ (R K : World → World → Type 0) (rules : Rules R) (stopping : Stoppi
 
   driven-comes : (w : World) (s : ℕ) (stream : Stream) (writer reader : Owner) → Is w (driven_by w s stream writer reader)
   driven-comes w s stream (Host n) (Host r) = round-comes w s n r
-  driven-comes w s stream (Host n) _ = open-comes w stream.reader.operation (producer_turn w s n) (turn-comes w s n)
-  driven-comes w s stream _ (Host r) = open-comes w stream.writer.operation (consumer_turn w s r) (consumer-comes w s r)
+  driven-comes w s stream (Host n) _ = open-comes w stream.reader.operation (writer_turn w s n) (turn-comes w s n)
+  driven-comes w s stream _ (Host r) = open-comes w stream.writer.operation (reader_turn w s r) (consumer-comes w s r)
   driven-comes w s stream _ _ = rules.begins.stays w
 
   drive-comes : (w : World) (s : ℕ) → Is w (drive_turn w s)
@@ -473,13 +473,13 @@ module _ (R K : World → World → Type 0) (rules : Rules R) (stopping : Stoppi
       rules.begins.opens w s (delivered side (stream_in w s)) (delivered-stays side (stream_in w s))
   answers-comes w s side None = rules.begins.stays w
 
-  answered-behind : (a b : World) (s : ℕ) (side : Side) (report : Option ReturnCode) → R a b → Is a (answered_with b s side report)
-  answered-behind a b s side (Some code) r = joined a b _ r (answers-comes b s side (Some code))
-  answered-behind a b s side None r = r
+  turn_answered-behind : (a b : World) (s : ℕ) (side : Side) (report : Option ReturnCode) → R a b → Is a (answered_with b s side report)
+  turn_answered-behind a b s side (Some code) r = joined a b _ r (answers-comes b s side (Some code))
+  turn_answered-behind a b s side None r = r
 
-  then-comes : (a b : World) (s : ℕ) (side : Side) (o : Outcome) → R a b → K a b → Is b o → Is a (then_on o (λ after. answered after s side))
+  then-comes : (a b : World) (s : ℕ) (side : Side) (o : Outcome) → R a b → K a b → Is b o → Is a (then_on o (λ after. turn_answered after s side))
   then-comes a b s side (Goes reply v) r k h =
-      answered-behind a v s side (report_on side (stream_in v s)) (joined a b v r h)
+      turn_answered-behind a v s side (report_on side (stream_in v s)) (joined a b v r h)
   then-comes a b s side (Stops stop writers readers) r k h = halts-behind a b writers readers k h
   then-comes a b s side Stuck r k h = tt
 
@@ -487,14 +487,14 @@ module _ (R K : World → World → Type 0) (rules : Rules R) (stopping : Stoppi
   reads-comes w s n read =
       let stream = with_operation Reading (stream_in w s) read in
       let opened = with_stream_in w s stream in
-      then-comes w opened s Reading (producer_turn opened s n read) (rules.begins.opens w s stream (with_operation-owned Reading (stream_in w s) read)) (begins.opens w s stream (with_operation-owned Reading (stream_in w s) read))
+      then-comes w opened s Reading (writer_turn opened s n read) (rules.begins.opens w s stream (with_operation-owned Reading (stream_in w s) read)) (begins.opens w s stream (with_operation-owned Reading (stream_in w s) read))
       (turn-comes opened s n read)
 
   writes-comes : (w : World) (s r : ℕ) (write : Operation) → Is w (writes_to w s r write)
   writes-comes w s r write =
       let stream = with_operation Writing (stream_in w s) write in
       let opened = with_stream_in w s stream in
-      then-comes w opened s Writing (consumer_turn opened s r write) (rules.begins.opens w s stream (with_operation-owned Writing (stream_in w s) write)) (begins.opens w s stream (with_operation-owned Writing (stream_in w s) write))
+      then-comes w opened s Writing (reader_turn opened s r write) (rules.begins.opens w s stream (with_operation-owned Writing (stream_in w s) write)) (begins.opens w s stream (with_operation-owned Writing (stream_in w s) write))
       (consumer-comes opened s r write)
 
   -- WHAT THE MACHINE DOES WITHOUT HOST ENDS

@@ -18,15 +18,15 @@ use Rattle.strm_machine.proofs.ArrivalLemmas.{AreBytes}
 use Rattle.strm_machine.proofs.TallyLemmas.{received_one}
 use Rattle.strm_buffers.specs.Tells.{Tells}
 use Rattle.strm_host_machine.specs.World.{World, stream_in}
-use Rattle.strm_host_machine.specs.Does.{start}
+use Rattle.strm_host_machine.specs.Does.{start_world}
 use Rattle.strm_laws.specs.Conservation.{calls, writes, got, all_reported}
-use Rattle.strm_laws.specs.Laws.{AreSteps, total, waiting, moved_at, Conserves, Stands}
+use Rattle.strm_laws.specs.Laws.{AreSteps, total_of_calls, waiting, moved_at, Conserves, Stands}
 use Rattle.strm_laws.proofs.Calls.{got-push}
 use Rattle.strm_laws.proofs.Handed.{length-all_handed}
 use Rattle.strm_laws.proofs.Kept.{kind_at}
 use Rattle.strm_laws.proofs.Conserved.{Kept-empty}
-use Rattle.strm_host_laws.specs.HostMoments.{Part, Acts, Turns, HostMoment, first_moments, last_of}
-use Rattle.strm_host_laws.specs.HostLaws.{plain, plains, is_made_by, is_hosted, is_piped_in, is_piped, host_taken_in, all_taken, host_got_in, host_got, ConservesAmong, MovesByHosts}
+use Rattle.strm_host_laws.specs.HostMoments.{Part, Acts, Turns, HostMoment, first_moments, end_world}
+use Rattle.strm_host_laws.specs.HostLaws.{plain, plains, is_made_by, is_hosted, is_piped_in, was_piped, host_taken_in, all_taken, host_got_in, host_got, ConservesAmong, MovesByHosts}
 use Rattle.strm_host_laws.proofs.Chains.{Chain, first-chain}
 use Rattle.strm_host_laws.proofs.StepsLeft.{left_after, Pays, Costs, first_cost}
 use Rattle.strm_host_laws.proofs.Effects.{Effect, follows_effect}
@@ -41,14 +41,14 @@ use Rattle.strm_host_laws.proofs.FutureRead.{FutureRead}
 use Rattle.strm_host_laws.proofs.FuturesSeen.{effect_future, enters_future}
 use Rattle.strm_host_laws.proofs.ReadSeen.{entering, IsRead, ReadIn, effect_read, effect_enters, effect_unread}
 use Rattle.strm_host_laws.proofs.TakenItems.{run_items}
-use Rattle.strm_host_laws.proofs.HostAccounts.{is_hosted-push, is_piped-push, plains-push, host_got-push, all_taken-push, all_front, all_back, taken_unread, HostAccount, account_guests, whole_read, account_writing, account_reading}
+use Rattle.strm_host_laws.proofs.HostAccounts.{is_hosted-push, was_piped-push, plains-push, host_got-push, all_taken-push, all_front, all_back, taken_unread, HostAccount, account_guests, whole_read, account_writing, account_reading}
 
 -- ## What holds of a run so far
 
 -- no host end had an end of stream s in these moments
 pub record IsUnhosted (s : ℕ) (all : List HostMoment) : Type 0 where
   pub unmade : is_hosted s all ≡ false
-  pub unpiped : is_piped s all ≡ false
+  pub unpiped : was_piped s all ≡ false
 
 -- of stream s after these moments, with so many steps to come
 pub record RunKeeps (s : ℕ) (all : List HostMoment) (state : State) (n : ℕ) : Type 0 where
@@ -56,9 +56,9 @@ pub record RunKeeps (s : ℕ) (all : List HostMoment) (state : State) (n : ℕ) 
   pub bytes : AreBytes state.guests
   pub room : is_hosted s all ≡ false → received s state + 2 ^ 28 * n < 2 ^ 128
   pub hosted : is_hosted s all ≡ true → IsTaken Writing state s
-  pub piped : is_piped s all ≡ true → IsTaken Reading state s
+  pub piped : was_piped s all ≡ true → IsTaken Reading state s
   pub guests : IsUnhosted s all → IsGuests state s
-  pub read : is_hosted s all ≡ false → is_piped s all ≡ true → IsRead state s
+  pub read : is_hosted s all ≡ false → was_piped s all ≡ true → IsRead state s
   pub accounts : is_hosted s all ≡ false → (side : Side) → HostAccount s side all state
   pub whole : is_hosted s all ≡ false → All IsSome (all_taken s all) → All IsSome (host_got s all)
   pub same : IsUnhosted s all → host_got s all ≡ got s (plains all)
@@ -79,18 +79,18 @@ module _ (s : ℕ) (all : List HostMoment) (m : HostMoment) (n : ℕ) (pays : Pa
   hosted_next true e f = effect_taken Writing old new m.part m.reply s k.holds effect (k.hosted e)
   hosted_next false e f = effect_makes old new m.part m.reply s effect f
 
-  piped_next : (b : Bool) → is_piped s all ≡ b → (b || is_piped_in s m.part m.reply) ≡ true → IsTaken Reading new s
+  piped_next : (b : Bool) → was_piped s all ≡ b → (b || is_piped_in s m.part m.reply) ≡ true → IsTaken Reading new s
   piped_next true e f = effect_taken Reading old new m.part m.reply s k.holds effect (k.piped e)
   piped_next false e f = effect_pipes old new m.part m.reply s k.holds effect f
 
-  piped_now : is_piped s (all ++ m ∷ []) ≡ true → IsTaken Reading new s
-  piped_now e = piped_next (is_piped s all) refl (sym (is_piped-push s all m) ∙ e)
+  piped_now : was_piped s (all ++ m ∷ []) ≡ true → IsTaken Reading new s
+  piped_now e = piped_next (was_piped s all) refl (sym (was_piped-push s all m) ∙ e)
 
   unmade_before : is_hosted s (all ++ m ∷ []) ≡ false → (is_hosted s all ≡ false) × (is_made_by s m.part m.reply ≡ false)
   unmade_before u = or_parts (is_hosted s all) (is_made_by s m.part m.reply) (sym (is_hosted-push s all m) ∙ u)
 
   -- no host end has it before or in this moment
-  module _ (unmade : is_hosted s (all ++ m ∷ []) ≡ false) (unpiped : is_piped s all ≡ false) where
+  module _ (unmade : is_hosted s (all ++ m ∷ []) ≡ false) (unpiped : was_piped s all ≡ false) where
     aside : IsUnhosted s all
     aside = record { unmade = (unmade_before unmade).0; unpiped = unpiped }
 
@@ -130,24 +130,24 @@ module _ (s : ℕ) (all : List HostMoment) (m : HostMoment) (n : ℕ) (pays : Pa
 
   -- which of them it is
   data Moving : Type 0 where
-    Aside : is_piped s all ≡ false → is_piped_in s m.part m.reply ≡ false → Moving
-    Reads : is_piped s (all ++ m ∷ []) ≡ true → (stream_at old s).reader.operation ≡ None → s < length old.streams → is_host (stream_in m.before s).writer.owner ≡ false → ReadIn old m.part m.reply new s → ((stream_at new s).kind ≡ Future → FutureRead new s) → Moving
+    Aside : was_piped s all ≡ false → is_piped_in s m.part m.reply ≡ false → Moving
+    Reads : was_piped s (all ++ m ∷ []) ≡ true → (stream_at old s).reader.operation ≡ None → s < length old.streams → is_host (stream_in m.before s).writer.owner ≡ false → ReadIn old m.part m.reply new s → ((stream_at new s).kind ≡ Future → FutureRead new s) → Moving
 
   moving : is_hosted s (all ++ m ∷ []) ≡ false → Moving
-  moving a = by (is_piped s all) (is_piped_in s m.part m.reply) refl refl
+  moving a = by (was_piped s all) (is_piped_in s m.part m.reply) refl refl
     where
       -- it was a future
       was : s < length old.streams → (stream_at new s).kind ≡ Future → (stream_at old s).kind ≡ Future
       was made e = sym (effect_kind old new m.part m.reply s k.holds made effect) ∙ e
 
-      by : (b c : Bool) → is_piped s all ≡ b → is_piped_in s m.part m.reply ≡ c → Moving
+      by : (b c : Bool) → was_piped s all ≡ b → is_piped_in s m.part m.reply ≡ c → Moving
       by true c e f =
-          let now : is_piped s (all ++ m ∷ []) ≡ true = is_piped-push s all m ∙ ap (λ b. b || is_piped_in s m.part m.reply) e in
+          let now : was_piped s (all ++ m ∷ []) ≡ true = was_piped-push s all m ∙ ap (λ b. b || is_piped_in s m.part m.reply) e in
           let read = k.read (unmade_before a).0 e in
           Reads now read.taken.idle read.taken.made read.unhosted (effect_read old new m.reply s k.holds read m.part (has_room s n old new m.reply k.holds (k.room (unmade_before a).0) m.part pays) k.bytes effect)
           (λ q. let future = was read.taken.made q in effect_future old new m.reply s k.holds read.taken future (read.one future) m.part read.unhosted effect)
       by false true e f =
-          let now : is_piped s (all ++ m ∷ []) ≡ true = is_piped-push s all m ∙ ap (λ b. b || is_piped_in s m.part m.reply) e ∙ f in
+          let now : was_piped s (all ++ m ∷ []) ≡ true = was_piped-push s all m ∙ ap (λ b. b || is_piped_in s m.part m.reply) e ∙ f in
           let g = k.guests (aside a e) in
           let x = entering old new m.part m.reply s effect f in
           Reads now (effect_unread old new m.part m.reply s k.holds effect f) x.pipes.made (g.unhosted Writing) (effect_enters old new m.part m.reply s k.holds g effect f)
@@ -170,15 +170,15 @@ module _ (s : ℕ) (all : List HostMoment) (m : HostMoment) (n : ℕ) (pays : Pa
     | Reads now was there unhosted x one ↦ read_whole (unmade_before a).0 (piped_now now) was there unhosted x h
   ]
 
-  read_next : is_hosted s (all ++ m ∷ []) ≡ false → is_piped s (all ++ m ∷ []) ≡ true → IsRead new s
+  read_next : is_hosted s (all ++ m ∷ []) ≡ false → was_piped s (all ++ m ∷ []) ≡ true → IsRead new s
   read_next a u = elim (moving a) [
-    | Aside e f ↦ absurd (let wrong : true ≡ false = sym u ∙ is_piped-push s all m ∙ ap (λ b. b || is_piped_in s m.part m.reply) e ∙ f in true≢false wrong)
+    | Aside e f ↦ absurd (let wrong : true ≡ false = sym u ∙ was_piped-push s all m ∙ ap (λ b. b || is_piped_in s m.part m.reply) e ∙ f in true≢false wrong)
     | Reads now was there unhosted x one ↦ read_read (unmade_before a).0 (piped_now now) was there unhosted x one
   ]
 
   module _ (u : IsUnhosted s (all ++ m ∷ [])) where
-    unpiped : (is_piped s all ≡ false) × (is_piped_in s m.part m.reply ≡ false)
-    unpiped = or_parts (is_piped s all) (is_piped_in s m.part m.reply) (sym (is_piped-push s all m) ∙ u.unpiped)
+    unpiped : (was_piped s all ≡ false) × (is_piped_in s m.part m.reply ≡ false)
+    unpiped = or_parts (was_piped s all) (is_piped_in s m.part m.reply) (sym (was_piped-push s all m) ∙ u.unpiped)
 
     same_next : host_got s (all ++ m ∷ []) ≡ got s (plains (all ++ m ∷ []))
     same_next =
@@ -196,9 +196,9 @@ module _ (s : ℕ) (all : List HostMoment) (m : HostMoment) (n : ℕ) (pays : Pa
 
   -- no host writer has its write end
   no_pipe : is_hosted s all ≡ false → NoPipe old s
-  no_pipe a n r e f = by (is_piped s all) refl
+  no_pipe a n r e f = by (was_piped s all) refl
     where
-      by : (b : Bool) → is_piped s all ≡ b → ⊥
+      by : (b : Bool) → was_piped s all ≡ b → ⊥
       by true p = no_host (stream_at old s).writer.owner n (k.read a p).unhosted e
       by false p = no_host (stream_at old s).writer.owner n ((k.guests (record { unmade = a; unpiped = p })).unhosted Writing) e
 
@@ -227,7 +227,7 @@ abbrev pub left_at : ℕ → List HostMoment → ℕ → ℕ
 left_at s [] n = n
 left_at s (m ∷ more) n = left_at s more (left_after s m.part n)
 
-keeps_from : (s : ℕ) (all : List HostMoment) (w : World) (more : List HostMoment) (n : ℕ) → Chain w more → Costs s more n → RunKeeps s all w.state n → RunKeeps s (all ++ more) (last_of w more).state (left_at s more n)
+keeps_from : (s : ℕ) (all : List HostMoment) (w : World) (more : List HostMoment) (n : ℕ) → Chain w more → Costs s more n → RunKeeps s all w.state n → RunKeeps s (all ++ more) (end_world w more).state (left_at s more n)
 keeps_from s all w [] n c p k = rw (append-nil all) k
 keeps_from s all w (m ∷ more) n c p k =
     let f = c.0 in
@@ -236,7 +236,7 @@ keeps_from s all w (m ∷ more) n c p k =
     let effect : Effect m.before.state m.part m.reply m.after.state =
     subst (λ (v : World). Effect v.state m.part m.reply m.after.state) (sym f.begins) (follows_effect w m k_hosts f) in
     let next = keeps_from s (all ++ m ∷ []) m.after more (left_after s m.part n) c.1 p.1 (keeps_next s all m n p.0 here effect) in
-    subst (λ l. RunKeeps s l (last_of m.after more).state (left_at s more (left_after s m.part n))) (append_assoc all (m ∷ []) more) next
+    subst (λ l. RunKeeps s l (end_world m.after more).state (left_at s more (left_after s m.part n))) (append_assoc all (m ∷ []) more) next
 
 -- ## At first
 
@@ -265,13 +265,13 @@ keeps_empty s tag limits run a = record {
 
 module _ (tag : ℕ) (limits : Limits) (tells told : Tells) (run : List Step) (front s : ℕ) (a : AreSteps run) where
   abbrev first : World
-  first = start tag limits tells told
+  first = start_world tag limits tells told
 
   abbrev all_moments : List HostMoment
   all_moments = first_moments front first run
 
   abbrev end_state : State
-  end_state = (last_of first all_moments).state
+  end_state = (end_world first all_moments).state
 
   run_keeps : RunKeeps s all_moments end_state (left_at s all_moments (length run))
   run_keeps = keeps_from s [] first all_moments (length run) (first-chain front first run) (first_cost s front first run a.bytes) (keeps_empty s tag limits run a)
@@ -285,9 +285,9 @@ module _ (tag : ℕ) (limits : Limits) (tells told : Tells) (run : List Step) (f
 
   -- no stream has an open write and an open read
   pub apart : both_open (stream_at end_state s) ≡ false
-  apart = by (is_hosted s all_moments) (is_piped s all_moments) refl refl
+  apart = by (is_hosted s all_moments) (was_piped s all_moments) refl refl
     where
-      by : (b c : Bool) → is_hosted s all_moments ≡ b → is_piped s all_moments ≡ c → both_open (stream_at end_state s) ≡ false
+      by : (b c : Bool) → is_hosted s all_moments ≡ b → was_piped s all_moments ≡ c → both_open (stream_at end_state s) ≡ false
       by true c e f = none_writes (stream_at end_state s) (run_keeps.hosted e).idle
       by false true e f = none_reads (stream_at end_state s) (run_keeps.piped f).idle
       by false false e f = (run_keeps.guests (record { unmade = e; unpiped = f })).apart
@@ -295,16 +295,16 @@ module _ (tag : ℕ) (limits : Limits) (tells told : Tells) (run : List Step) (f
   -- what has not met has moved nothing, unless a host end moves it
   pub moved_by_hosts : MovesByHosts (stream_at end_state s)
   moved_by_hosts = record {
-    writing = writes (is_hosted s all_moments) (is_piped s all_moments) refl refl;
-    reading = reads (is_hosted s all_moments) (is_piped s all_moments) refl refl;
+    writing = writes (is_hosted s all_moments) (was_piped s all_moments) refl refl;
+    reading = reads (is_hosted s all_moments) (was_piped s all_moments) refl refl;
   }
     where
-      writes : (b c : Bool) → is_hosted s all_moments ≡ b → is_piped s all_moments ≡ c → is_host (stream_at end_state s).reader.owner ≡ false → is_gone (stream_at end_state s).writer.owner ≡ false → IsUnmoved (stream_at end_state s).writer.operation
+      writes : (b c : Bool) → is_hosted s all_moments ≡ b → was_piped s all_moments ≡ c → is_host (stream_at end_state s).reader.owner ≡ false → is_gone (stream_at end_state s).writer.owner ≡ false → IsUnmoved (stream_at end_state s).writer.operation
       writes b true e f = (run_keeps.piped f).parted
       writes true false e f = λ u v. subst IsUnmoved (sym (run_keeps.hosted e).idle) tt
       writes false false e f = λ u v. (run_keeps.guests (record { unmade = e; unpiped = f })).tallies.writing
 
-      reads : (b c : Bool) → is_hosted s all_moments ≡ b → is_piped s all_moments ≡ c → is_host (stream_at end_state s).writer.owner ≡ false → is_gone (stream_at end_state s).reader.owner ≡ false → IsUnmoved (stream_at end_state s).reader.operation
+      reads : (b c : Bool) → is_hosted s all_moments ≡ b → was_piped s all_moments ≡ c → is_host (stream_at end_state s).writer.owner ≡ false → is_gone (stream_at end_state s).reader.owner ≡ false → IsUnmoved (stream_at end_state s).reader.operation
       reads true c e f = (run_keeps.hosted e).parted
       reads false true e f = λ u v. subst IsUnmoved (sym (run_keeps.piped f).idle) tt
       reads false false e f = λ u v. (run_keeps.guests (record { unmade = e; unpiped = f })).tallies.reading
@@ -318,7 +318,7 @@ module _ (tag : ℕ) (limits : Limits) (tells told : Tells) (run : List Step) (f
         let all = plains all_moments in
         let w = (accounts_there Writing).kept in
         let r = (accounts_there Reading).kept in
-        let long : length (host_got s all_moments) ≡ total (kind_at s end_state) (moved_at s Writing end_state) (writes s all) =
+        let long : length (host_got s all_moments) ≡ total_of_calls (kind_at s end_state) (moved_at s Writing end_state) (writes s all) =
         ap length (w.items refl) ∙ length-all_handed (kind_at s end_state) s all (moved_at s Writing end_state) 0 (writes s all) in
         let count : length (host_got s all_moments) ≡ received s end_state = omega (arith, long, w.count) in
         record {
@@ -337,17 +337,17 @@ module _ (tag : ℕ) (limits : Limits) (tells told : Tells) (run : List Step) (f
 
     -- a future passes at most one item, whoever reads it
     pub one_among : (stream_at end_state s).kind ≡ Future → length (host_got s all_moments) ≤ 1
-    one_among kind = let count = conserves_among.count in let most = by (is_piped s all_moments) refl in omega (arith, count, most)
+    one_among kind = let count = conserves_among.count in let most = by (was_piped s all_moments) refl in omega (arith, count, most)
       where
         at_most : (b : Bool) → received s end_state ≡ (if b then 1 else 0) → received s end_state ≤ 1
         at_most true e = omega (arith, e)
         at_most false e = omega (arith, e)
 
-        by : (b : Bool) → is_piped s all_moments ≡ b → received s end_state ≤ 1
+        by : (b : Bool) → was_piped s all_moments ≡ b → received s end_state ≤ 1
         by true e = at_most (stream_at end_state s).passed ((run_keeps.read g e).one kind).count
         by false e = received_one (stream_at end_state s) ((run_keeps.guests (record { unmade = g; unpiped = e })).tallies.one kind)
 
-  module _ (g : is_hosted s all_moments ≡ false) (p : is_piped s all_moments ≡ false) where
+  module _ (g : is_hosted s all_moments ≡ false) (p : was_piped s all_moments ≡ false) where
     none_had : IsUnhosted s all_moments
     none_had = record { unmade = g; unpiped = p }
 
@@ -393,5 +393,5 @@ module _ (tag : ℕ) (limits : Limits) (tells told : Tells) (run : List Step) (f
   pub idle : is_hosted s all_moments ≡ true → (stream_at end_state s).writer.operation ≡ None
   idle e = (run_keeps.hosted e).idle
 
-  pub unread : is_piped s all_moments ≡ true → (stream_at end_state s).reader.operation ≡ None
+  pub unread : was_piped s all_moments ≡ true → (stream_at end_state s).reader.operation ≡ None
   unread e = (run_keeps.piped e).idle

@@ -19,7 +19,7 @@ use Rattle.strm_machine.proofs.NamedEndLemmas.{NamesEnd, named_itself}
 use Rattle.strm_host_machine.specs.Courses.{StreamEvent, Course, Reached, reaches, fresh_course, is_answered, answers_of, course_by, codes_from}
 use Rattle.strm_host_machine.specs.World.{World, stream_in, writer_at}
 use Rattle.strm_host_laws.specs.HostMoments.{Part, Acts, HostMoment}
-use Rattle.strm_host_laws.specs.Isolation.{Stays, LeavesOthers}
+use Rattle.strm_host_laws.specs.Isolation.{StreamStaysWhole, LeavesOthers}
 use Rattle.strm_host_laws.specs.StreamEvents.{polls_across, by_name, events_at, events_by_number, events_in, code_answered, answered_at, answered_in}
 use Rattle.strm_host_laws.proofs.Tracing.{held_for, over_for, seen, course_of}
 use Rattle.strm_host_laws.proofs.CourseRuns.{streams_in, GoesOnBySelf, BeginsBySelf, Waits, BySelf, course_after}
@@ -45,7 +45,7 @@ silent-of k m e f a = record {
 
 -- and the stream stays
 abbrev pub Spares : ℕ → HostMoment → Type 0
-Spares k m = Silent k m × Stays k m.before m.after
+Spares k m = Silent k m × StreamStaysWhole k m.before m.after
 
 -- it is this event of stream s, which is answered so, and leads the stream where its course leads
 pub record Happens (s : ℕ) (m : HostMoment) : Type 0 where
@@ -68,7 +68,7 @@ pub data Happening (m : HostMoment) : Type 0 where
 
 -- ## Streams that stay
 
-pub course-stays : (k : ℕ) (w v : World) → Stays k w v → course_of k v ≡ course_of k w
+pub course-stays : (k : ℕ) (w v : World) → StreamStaysWhole k w v → course_of k v ≡ course_of k w
 course-stays k w v h =
     ap (λ (x : Stream). seen x (held_for v x.writer.owner) (over_for v x.writer.owner)) h.stream
     ∙ by (stream_in w k).writer.owner refl

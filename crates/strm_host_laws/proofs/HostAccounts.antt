@@ -18,13 +18,13 @@ use Rattle.strm_machine.proofs.Lawful.{StaysMade}
 use Rattle.strm_machine.proofs.MomentLemmas.{Untold, nothing_got}
 use Rattle.strm_host_machine.specs.World.{stream_in}
 use Rattle.strm_laws.specs.Conservation.{all_handed}
-use Rattle.strm_laws.specs.Laws.{total, waiting, moved_at, IsAsked}
+use Rattle.strm_laws.specs.Laws.{total_of_calls, waiting, moved_at, IsWithinAsked}
 use Rattle.strm_laws.proofs.Calls.{calls-push, all_reported-push}
 use Rattle.strm_laws.proofs.Kept.{kind_at, Received, Kept}
 use Rattle.strm_laws.proofs.KeptChanges.{keeps, keeps_taken}
 use Rattle.strm_laws.proofs.Conserved.{IsQuiet}
 use Rattle.strm_host_laws.specs.HostMoments.{HostMoment}
-use Rattle.strm_host_laws.specs.HostLaws.{plain, plains, is_made_by, is_hosted, is_piped_in, is_piped, taken_in, taken_from, taken_by, host_taken_in, all_taken, got_by, host_got_in, host_got}
+use Rattle.strm_host_laws.specs.HostLaws.{plain, plains, is_made_by, is_hosted, is_piped_in, was_piped, taken_in_moment, taken_from_owner, taken_by, host_taken_in, all_taken, got_by, host_got_in, host_got}
 use Rattle.strm_host_laws.proofs.Moments.{got_unread}
 use Rattle.strm_host_laws.proofs.ReadSeen.{ReadIn, taken_none}
 
@@ -43,9 +43,9 @@ pub is_hosted-push : (s : ℕ) (all : List HostMoment) (m : HostMoment) → is_h
 is_hosted-push s [] m = or_none (is_made_by s m.part m.reply)
 is_hosted-push s (x ∷ xs) m = or_more (is_made_by s x.part x.reply) (is_hosted s (xs ++ m ∷ [])) (is_hosted s xs) (is_made_by s m.part m.reply) (is_hosted-push s xs m)
 
-pub is_piped-push : (s : ℕ) (all : List HostMoment) (m : HostMoment) → is_piped s (all ++ m ∷ []) ≡ (is_piped s all || is_piped_in s m.part m.reply)
-is_piped-push s [] m = or_none (is_piped_in s m.part m.reply)
-is_piped-push s (x ∷ xs) m = or_more (is_piped_in s x.part x.reply) (is_piped s (xs ++ m ∷ [])) (is_piped s xs) (is_piped_in s m.part m.reply) (is_piped-push s xs m)
+pub was_piped-push : (s : ℕ) (all : List HostMoment) (m : HostMoment) → was_piped s (all ++ m ∷ []) ≡ (was_piped s all || is_piped_in s m.part m.reply)
+was_piped-push s [] m = or_none (is_piped_in s m.part m.reply)
+was_piped-push s (x ∷ xs) m = or_more (is_piped_in s x.part x.reply) (was_piped s (xs ++ m ∷ [])) (was_piped s xs) (is_piped_in s m.part m.reply) (was_piped-push s xs m)
 
 pub plains-push : (all : List HostMoment) (m : HostMoment) → plains (all ++ m ∷ []) ≡ plains all ++ plain m ∷ []
 plains-push all m = map-append plain all (m ∷ [])
@@ -103,8 +103,8 @@ module _ (s : ℕ) (side : Side) (all : List HostMoment) (m : HostMoment) (made 
         stands = k.stands;
         items = λ e. k.items e ∙ ap (all_handed one s more moved 0) q.none ∙ sym (ap (all_handed other s more moved 0) q.none);
         alone = k.alone;
-        count = k.count ∙ ap (λ cs. total one moved cs + taken) q.none ∙ sym (ap (λ cs. total other moved cs + taken) q.none);
-        within = subst (All (IsAsked other moved)) (sym q.none) (All-nil (IsAsked other moved));
+        count = k.count ∙ ap (λ cs. total_of_calls one moved cs + taken) q.none ∙ sym (ap (λ cs. total_of_calls other moved cs + taken) q.none);
+        within = subst (All (IsWithinAsked other moved)) (sym q.none) (All-nil (IsWithinAsked other moved));
         told = ap (λ n. n + moved + taken) (q.silent other ∙ sym (q.silent one)) ∙ k.told;
         reached = k.reached;
       }
@@ -158,15 +158,15 @@ module _ (s : ℕ) (side : Side) (all : List HostMoment) (m : HostMoment) (made 
 
 module _ (s : ℕ) (m : HostMoment) (unhosted : is_host (stream_in m.before s).writer.owner ≡ false) (x : ReadIn m.before.state m.part m.reply m.after.state s) where
   -- a guest has its items where it writes
-  from_guest : (r : ℕ) (owner : Owner) → is_host owner ≡ false → taken_from s m r owner ≡ taken_in s (plain m)
+  from_guest : (r : ℕ) (owner : Owner) → is_host owner ≡ false → taken_from_owner s m r owner ≡ taken_in_moment s (plain m)
   from_guest r (Host n) e = cc
   from_guest r _ e = refl
 
-  got_as : (owner : Owner) → owner ≡ (stream_in m.before s).reader.owner → got_by s m owner ≡ taken_in s (plain m)
+  got_as : (owner : Owner) → owner ≡ (stream_in m.before s).reader.owner → got_by s m owner ≡ taken_in_moment s (plain m)
   got_as (Host r) e = from_guest r (stream_in m.before s).writer.owner unhosted
   got_as _ e = let same = x.still (ap is_host (sym e)) in (nothing_got s (plain m) same).0 ∙ sym (taken_none s (plain m) same)
 
-  pub got_is : host_got_in s m ≡ taken_in s (plain m)
+  pub got_is : host_got_in s m ≡ taken_in_moment s (plain m)
   got_is = got_as (stream_in m.before s).reader.owner refl
 
   taken_as : (owner : Owner) → owner ≡ (stream_in m.before s).reader.owner → length (taken_by s m owner) ≡ rise s (plain m)
@@ -195,8 +195,8 @@ module _ (s : ℕ) (m : HostMoment) (unhosted : is_host (stream_in m.before s).w
 
     pub account_writing : HostAccount s Writing all m.before.state → HostAccount s Writing (all ++ m ∷ []) m.after.state
     account_writing a =
-        account_by s Writing all m made_so (not_unmade Writing) (taken_in s (plain m)) 0 got_is refl
-        (keeps s Writing (plains all) (plain m) (host_got s all) 0 (taken_in s (plain m)) a.kept x.writing) a
+        account_by s Writing all m made_so (not_unmade Writing) (taken_in_moment s (plain m)) 0 got_is refl
+        (keeps s Writing (plains all) (plain m) (host_got s all) 0 (taken_in_moment s (plain m)) a.kept x.writing) a
 
     -- no read waits on it before or after
     pub account_reading : waiting s Reading m.before.state ≡ None → waiting s Reading m.after.state ≡ None → HostAccount s Reading all m.before.state → HostAccount s Reading (all ++ m ∷ []) m.after.state

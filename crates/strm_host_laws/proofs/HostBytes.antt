@@ -14,7 +14,7 @@ use Rattle.strm_memory.proofs.RegionLemmas.{bytes_at-stored_at, stored_at-nil}
 use Rattle.strm_buffers.specs.Listing.{Item}
 use Rattle.strm_buffers.specs.Tells.{Tells}
 use Rattle.strm_machine.specs.Meetings.{begun}
-use Rattle.strm_machine.specs.Moments.{Moment, Place, place_of, read_place, received, rise, target, is_named}
+use Rattle.strm_machine.specs.Moments.{Moment, MemoryPlace, place_of, read_place, received, rise, target, is_named}
 use Rattle.strm_machine.specs.Endings.{delivered}
 use Rattle.strm_machine.specs.Reactions.{told, reaction}
 use Rattle.strm_machine.specs.Sides.{opposite, end_of, with_operation}
@@ -46,9 +46,9 @@ use Rattle.strm_machine.proofs.TurnLemmas.{front_inside, size_in}
 use Rattle.strm_machine.proofs.UntouchedLemmas.{FindsRoom, FindsRoomFor, reaction-stays_at, StaysAside-same}
 use Rattle.strm_machine.proofs.StreamSteps.{most_of, set_most, reaction_streams}
 use Rattle.strm_host_machine.specs.Attaching.{piped, without_ends, forsaken}
-use Rattle.strm_host_machine.specs.Producing.{lowered}
+use Rattle.strm_host_machine.specs.WriterTurn.{lowered_items}
 use Rattle.strm_host_machine.specs.World.{World}
-use Rattle.strm_host_machine.specs.Does.{start}
+use Rattle.strm_host_machine.specs.Does.{start_world}
 use Rattle.strm_laws.specs.Laws.{AreSteps}
 use Rattle.strm_host_laws.specs.HostMoments.{Part, Acts, Turns, HostMoment, first_moments}
 use Rattle.strm_host_laws.specs.HostLaws.{plain, plains}
@@ -62,7 +62,7 @@ use Rattle.strm_host_laws.proofs.GuestsSeen.{moment_in, forsaken_guests}
 use Rattle.strm_host_laws.proofs.Standing.{Holds, Holds-effect, Holds-empty, call_begun, opened_payload, waiting_placed}
 use Rattle.strm_host_laws.proofs.StepsLeft.{left_after, Pays, Costs, first_cost}
 use Rattle.strm_host_laws.proofs.TurnMoves.{moved_on-moves}
-use Rattle.strm_host_machine.proofs.LoweredLemmas.{lowered-keeps}
+use Rattle.strm_host_machine.proofs.LoweredLemmas.{lowered_items-keeps}
 
 -- ## How many items a part may bring
 
@@ -277,11 +277,11 @@ module _ (guests : List Guest) (payload : Payload) (read : Operation) (items : L
             ap (λ bytes. bytes_at bytes r.place.address r.size) same
       ]
 
-  pub lowered_stays : (r : Region) → LiesApart r (region_of payload read (length items)) → bytes_of (lowered guests payload read items) r ≡ bytes_of guests r
+  pub lowered_stays : (r : Region) → LiesApart r (region_of payload read (length items)) → bytes_of (lowered_items guests payload read items) r ≡ bytes_of guests r
   lowered_stays r apart =
       elim (cases_eq r.place.guest read.guest) [
         | inl e ↦
-            ap (λ g. bytes_at (memory_in (lowered guests payload read items) g) r.place.address r.size) e
+            ap (λ g. bytes_at (memory_in (lowered_items guests payload read items) g) r.place.address r.size) e
             ∙ ap (λ bytes. bytes_at bytes r.place.address r.size) (memory_in-with_memory guests read.guest filled there)
             ∙ same_here r apart e
             ∙ ap (λ g. bytes_at (memory_in guests g) r.place.address r.size) (sym e)
@@ -290,21 +290,21 @@ module _ (guests : List Guest) (payload : Payload) (read : Operation) (items : L
 
 -- a moment that leaves all memories but where a read gets items
 record Lowers (m : Moment) (payload : Payload) (read : Operation) (items : List Item) : Type 0 where
-  guests : m.after.guests ≡ lowered m.before.guests payload read items
+  guests : m.after.guests ≡ lowered_items m.before.guests payload read items
   placed : IsPlaced (sizes_of m.before.guests) payload read
   few : length items ≤ read.left
 
 -- it touches nothing else, where the read is of stream k
 received_aside : (m : Moment) (k : ℕ) (payload : Payload) (read : Operation) (items : List Item) → Lowers m payload read items → received_by k m ≡ region_of payload read (length items) → StaysAside m
 received_aside m k payload read items l here =
-    let sizes : sizes_of m.after.guests ≡ sizes_of m.before.guests = ap sizes_of l.guests ∙ (lowered-keeps m.before.guests payload read items l.placed l.few).sizes in
+    let sizes : sizes_of m.after.guests ≡ sizes_of m.before.guests = ap sizes_of l.guests ∙ (lowered_items-keeps m.before.guests payload read items l.placed l.few).sizes in
     record {
       guests = omega (arith, length-map m.before.guests (λ (g : Guest). length g.memory), length-map m.after.guests (λ (g : Guest). length g.memory), ap length sizes);
       size = λ g l. sym (size_in m.after.guests g) ∙ ap (λ xs. get_or xs g 0) sizes ∙ size_in m.before.guests g;
       bytes = λ r _ u. ap (λ guests. bytes_of guests r) l.guests ∙ lowered_stays m.before.guests payload read items l.placed l.few r (subst (LiesApart r) here (u.got k));
     }
 
-region_same : (p q : Place) (a b : ℕ) → p ≡ q → a ≡ b → ◌≡◌ {A = Region} (record { place = p; size = a }) (record { place = q; size = b })
+region_same : (p q : MemoryPlace) (a b : ℕ) → p ≡ q → a ≡ b → ◌≡◌ {A = Region} (record { place = p; size = a }) (record { place = q; size = b })
 region_same p q a b e f = rw (e, f) refl
 
 -- as many more
@@ -358,8 +358,8 @@ module _ (old new : State) (reply : Reply) (h : Holds old) where
       let second = turned_count Reading opened r.mid k r.host read t (placed_small (sizes_of old.guests) payload read b.placed) (omega (arith, first, room)) many in
       let last : received k new ≡ received k r.mid = ap (received k) r.is ∙ told_count Reading r.mid k k in
       let rises : rise k m ≡ length items = rise_is (received k new) (received k old) (length items) (last ∙ second ∙ ap (λ n. n + t.count) first ∙ ap (λ n. received k old + n) t.fills.long) in
-      let guests : m.after.guests ≡ lowered old.guests payload read items =
-      ap (λ (x : State). x.guests) r.is ∙ ap (λ (x : State). x.guests) t.is ∙ t.fills.is ∙ ap (λ p. lowered old.guests p read items) same in
+      let guests : m.after.guests ≡ lowered_items old.guests payload read items =
+      ap (λ (x : State). x.guests) r.is ∙ ap (λ (x : State). x.guests) t.is ∙ t.fills.is ∙ ap (λ p. lowered_items old.guests p read items) same in
       let named_here : is_named k Reading m ≡ true = named_itself old act reply k Reading Reading (b.found.named reply) in
       let waiting = place_of (stream_at old k).reader.operation in
       received_aside m k payload read items (record { guests = guests; placed = b.placed; few = omega (arith, t.few, t.fills.long) })
@@ -514,12 +514,12 @@ all_aside w (m ∷ more) left c p h room =
 
 module _ (tag : ℕ) (limits : Limits) (tells said : Tells) (run : List Step) (count : ℕ) where
   abbrev all_moments : List HostMoment
-  all_moments = first_moments count (start tag limits tells said) run
+  all_moments = first_moments count (start_world tag limits tells said) run
 
   pub bytes_are_put : All LieThere (plains all_moments)
-  bytes_are_put = all_there (start tag limits tells said) all_moments (first-chain count (start tag limits tells said) run) (Holds-empty tag limits)
+  bytes_are_put = all_there (start_world tag limits tells said) all_moments (first-chain count (start_world tag limits tells said) run) (Holds-empty tag limits)
 
   pub other_bytes_stay : AreSteps run → All StaysAside (plains all_moments)
   other_bytes_stay a =
-      all_aside (start tag limits tells said) all_moments (λ s. length run) (first-chain count (start tag limits tells said) run)
-      (λ s. first_cost s count (start tag limits tells said) run a.bytes) (Holds-empty tag limits) (λ s. inr (omega (arith, a.few)))
+      all_aside (start_world tag limits tells said) all_moments (λ s. length run) (first-chain count (start_world tag limits tells said) run)
+      (λ s. first_cost s count (start_world tag limits tells said) run a.bytes) (Holds-empty tag limits) (λ s. inr (omega (arith, a.few)))

@@ -28,13 +28,13 @@ use Rattle.strm_machine.specs.declared.replies.Reply.TheVariants as replies
 use Rattle.strm_host_machine.specs.Ends.{Writer, no_writer}
 use Rattle.strm_host_machine.specs.World.{World, stream_in, writer_at, with_stream_in}
 use Rattle.strm_host_machine.specs.Settling.{moved_on}
-use Rattle.strm_host_machine.specs.Producing.{producer_turn}
+use Rattle.strm_host_machine.specs.WriterTurn.{writer_turn}
 use Rattle.strm_host_machine.specs.Attaching.{hosts_new}
 use Rattle.strm_host_machine.specs.Driving.{drive_turn}
 use Rattle.strm_host_machine.specs.HostRefusals.{refusal_in}
 use Rattle.strm_host_machine.specs.Steps.{performs_in, outcome}
-use Rattle.strm_host_laws.specs.HostMoments.{HostMoment, host_moments, last_of}
-use Rattle.strm_host_laws.specs.HostLaws.{all_used, all_fed, produced, host_got, held_by, is_hosted}
+use Rattle.strm_host_laws.specs.HostMoments.{HostMoment, host_moments, end_world}
+use Rattle.strm_host_laws.specs.HostLaws.{all_used, all_fed, produced_on, host_got, held_for_owner, is_hosted}
 
 abbrev bytes : TransmitIndex
 bytes = index.Stream (One U8)
@@ -81,9 +81,9 @@ abbrev account_of : List HostMoment → World → Account
 account_of all last = record {
   replies = map (λ m. m.reply) all;
   made = is_hosted 0 all;
-  produced = produced 0 all;
+  produced = produced_on 0 all;
   taken = host_got 0 all;
-  held = held_by last (stream_in last 0).writer.owner;
+  held = held_for_owner last (stream_in last 0).writer.owner;
   count = received 0 last.state;
   owner = (stream_in last 0).writer.owner;
   used = all_used 0 all;
@@ -94,7 +94,7 @@ account_of all last = record {
 }
 
 abbrev account : Writer → List Step → Account
-account one run = account_of (host_moments (among one) run) (last_of (among one) (host_moments (among one) run))
+account one run = account_of (host_moments (among one) run) (end_world (among one) (host_moments (among one) run))
 
 -- held at first, one item; then two polls of which items are left over, and one between them that waits and
 -- is driven; a feed behind the second record
@@ -143,7 +143,7 @@ account-served : account (writer (7 ∷ []) records) served ≡ record {
   closed = false;
   heard = Some ((2, 65 ∷ []) ∷ []);
 }
-unfolding outcome performs_in refusal_in hosts_new producer_turn drive_turn with_stream_in moved_on reaction refusal performs turn delivered dropped decode_from encode_from items stored decoded
+unfolding outcome performs_in refusal_in hosts_new writer_turn drive_turn with_stream_in moved_on reaction refusal performs turn delivered dropped decode_from encode_from items stored decoded
 account-served = refl
 
 -- the same, and then the read end goes: what is held is given up, and the host writer closed
@@ -177,7 +177,7 @@ account-given_up : account (writer (7 ∷ []) (said 2 (1 ∷ 2 ∷ 3 ∷ []) ans
       closed = true;
       heard = Some ((1, 66 ∷ []) ∷ []);
     }
-unfolding outcome performs_in refusal_in hosts_new producer_turn drive_turn with_stream_in moved_on reaction refusal performs turn delivered dropped decode_from encode_from items stored decoded
+unfolding outcome performs_in refusal_in hosts_new writer_turn drive_turn with_stream_in moved_on reaction refusal performs turn delivered dropped decode_from encode_from items stored decoded
 account-given_up = refl
 
 -- a host writer that has no more to come: its last item is received first, and then its end is gone
@@ -209,5 +209,5 @@ account-over : account (writer [] (said 1 (5 ∷ 6 ∷ []) answers.Dropped ∷ [
       closed = true;
       heard = Some [];
     }
-unfolding outcome performs_in refusal_in hosts_new producer_turn drive_turn with_stream_in moved_on reaction refusal performs turn delivered dropped decode_from encode_from items stored decoded
+unfolding outcome performs_in refusal_in hosts_new writer_turn drive_turn with_stream_in moved_on reaction refusal performs turn delivered dropped decode_from encode_from items stored decoded
 account-over = refl

@@ -31,7 +31,7 @@ use Rattle.strm_machine.specs.declared.streams.Stream.{Stream}
 use Rattle.strm_machine.proofs.RefusalLemmas.{drop_fits, close_fits}
 use Rattle.strm_machine.proofs.TableLemmas.{set-keeps}
 use Rattle.strm_host_machine.specs.Attaching.{hosted_stream, new_producer, piped, has_items, is_dry, without_ends, piped_by, forsaken, forsakes}
-use Rattle.strm_host_machine.specs.Courses.{AHost, NoMore, Begins, Drops, Moves, Course, reaches, end_on, held_by, dropped_by, fresh_course, both_gone_if, course_by, codes_from, is_no_more, is_a_host}
+use Rattle.strm_host_machine.specs.Courses.{AHost, NoMore, Begins, Drops, Moves, Course, reaches, end_on, with_holder, dropped_by, fresh_course, both_gone_if, course_by, codes_from, is_no_more, is_a_host}
 use Rattle.strm_host_machine.specs.Courses as courses
 use Rattle.strm_host_machine.specs.Ends.{Writer, Reader, no_writer, no_reader, fed_writer, granted_reader}
 use Rattle.strm_host_machine.specs.HostRefusals.{refusal_in, is_used}

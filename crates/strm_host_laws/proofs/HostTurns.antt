@@ -35,8 +35,8 @@ use Rattle.strm_host_machine.specs.Outcomes.{Outcome, Goes, Stops, Stuck, done}
 use Rattle.strm_host_machine.specs.Polls.{AfterWriter, AfterReader, is_failed, same_flag, is_writer_poll, writer_says, is_reader_poll, tells_truly, reader_says}
 use Rattle.strm_host_machine.specs.Settling.{result_of, moved_on, since_after}
 use Rattle.strm_host_machine.specs.Attaching.{has_items}
-use Rattle.strm_host_machine.specs.Producing.{lowered, receives, is_last, with_answer, produced_result, produces, producer_turn}
-use Rattle.strm_host_machine.specs.Consuming.{lifted, with_taken, gives_up, consumer_turn}
+use Rattle.strm_host_machine.specs.WriterTurn.{lowered_items, receives, is_last, with_answer, produced_result, produces, writer_turn}
+use Rattle.strm_host_machine.specs.ReaderTurn.{lifted_items, reader_with_taken, gives_up, reader_turn}
 use Rattle.strm_host_machine.proofs.SettleLemmas.{is_done_with, leaves_writer-stays, leaves_reader-stays}
 use Rattle.strm_host_laws.proofs.Goings.{with_state, gave_up, with_stream_in-same}
 use Rattle.strm_host_laws.proofs.TurnMoves.{moved-theirs, moved-mine}
@@ -125,7 +125,7 @@ turned_by side state s operation count result guests ends = record state {
 pub record IsLowered (old : List Guest) (payload : Payload) (read : Operation) (count : ℕ) (new : List Guest) : Type 0 where
   pub items : List Item
   pub long : count ≡ length items
-  pub is : new ≡ lowered old payload read items
+  pub is : new ≡ lowered_items old payload read items
 
 -- what becomes of the guests: those that write stay
 abbrev pub Fills : Side → List Guest → Payload → Operation → ℕ → List Guest → Type 0
@@ -318,7 +318,7 @@ module _ (side : Side) (s n : ℕ) (operation : Operation) where
 module _ (s n : ℕ) (read : Operation) where
   receives_back : (w : World) (items : List Item) (result : Option StreamResult) → (stream_in w s).writer.owner ≡ Host n → length items ≤ read.left → Back Reading w.state (receives w s read items result).state s n read (length items) result
   receives_back w items result o l =
-      back_by Reading s n read w (lowered w.state.guests (stream_in w s).payload read items) (length items) result (is_done_with result) o l
+      back_by Reading s n read w (lowered_items w.state.guests (stream_in w s).payload read items) (length items) result (is_done_with result) o l
       (record { items = items; long = refl; is = refl }) refl
 
   receives_turned : (w : World) (items : List Item) (result : Option StreamResult) → (stream_in w s).writer.owner ≡ Host n → length items ≤ read.left → Turned Reading w.state (receives w s read items result).state s n read
@@ -412,9 +412,9 @@ goes_both P Q Stuck p q = tt
 abbrev pub TurnsDone : Side → ℕ → ℕ → Operation → World → Reply → World → Type 0
 TurnsDone side s n operation w reply v = Turned side w.state v.state s n operation × (reply ≡ replies.Done)
 
-pub turn_done : (s n : ℕ) (read : Operation) (w : World) → (stream_in w s).writer.owner ≡ Host n → Going (TurnsDone Reading s n read w) (producer_turn w s n read)
-unfolding producer_turn
-turn_done s n read w o = goes_both (TurnsIn Reading s n read w) (IsDone s n read) (producer_turn w s n read) (produces_turned s n read w (writer_at w n).holds o) (produces_done s n read w (writer_at w n).holds)
+pub turn_done : (s n : ℕ) (read : Operation) (w : World) → (stream_in w s).writer.owner ≡ Host n → Going (TurnsDone Reading s n read w) (writer_turn w s n read)
+unfolding writer_turn
+turn_done s n read w o = goes_both (TurnsIn Reading s n read w) (IsDone s n read) (writer_turn w s n read) (produces_turned s n read w (writer_at w n).holds o) (produces_done s n read w (writer_at w n).holds)
 
 -- ## Of a host reader
 
@@ -423,14 +423,14 @@ module _ (s r : ℕ) (write : Operation) where
   abbrev took_now : World → Answer → ℕ → Consumer
   took_now w answer taken = record (consumer_at w.state r) { since = since_after answer (consumer_at w.state r).since taken }
 
-  taken_same : (w : World) (answer : Answer) (taken : ℕ) → SameDuties w.state (with_taken w r answer taken).state
+  taken_same : (w : World) (answer : Answer) (taken : ℕ) → SameDuties w.state (reader_with_taken w r answer taken).state
   taken_same w answer taken = record { all = all; same = same }
     where
-      all : (k : Side) → known_on k (with_taken w r answer taken).state ≡ known_on k w.state
+      all : (k : Side) → known_on k (reader_with_taken w r answer taken).state ≡ known_on k w.state
       all Writing = refl
       all Reading = length-set w.state.consumers r (took_now w answer taken)
 
-      same : (k : Side) (m : ℕ) → duty_of k (with_taken w r answer taken).state m ≡ duty_of k w.state m
+      same : (k : Side) (m : ℕ) → duty_of k (reader_with_taken w r answer taken).state m ≡ duty_of k w.state m
       same Writing m = refl
       same Reading m = set-keeps (λ (p : Consumer). p.duty) w.state.consumers r m (took_now w answer taken) no_consumer refl
 
@@ -452,7 +452,7 @@ module _ (s r : ℕ) (write : Operation) where
   gives_turned : (w v : World) (said : ReaderSaid) → (stream_in w s).reader.owner ≡ Host r → v.state ≡ w.state → said.taken ≤ write.left → breaks_as_reader (stream_in w s).kind said ≡ false → said.since ≡ since_of w.state r
       → Turned Writing w.state (gave_up s r write v said).state s r write
   gives_turned w v said o e l kept since =
-      let after = with_taken v r said.answer said.taken in
+      let after = reader_with_taken v r said.answer said.taken in
       let owned : (stream_in v s).reader.owner ≡ Host r = ap (λ (x : State). (stream_at x s).reader.owner) e ∙ o in
       let result = result_of said.answer in
       let b = back_by Writing s r write after after.state.guests said.taken result (is_done_with result) owned l refl refl in
@@ -484,6 +484,6 @@ module _ (s r : ℕ) (write : Operation) where
       (λ k. (gives_turned w after said o refl (taken_few write.left (consumer_at w.state r).since finish said f) k (polled_since write.left (consumer_at w.state r).since finish said f), refl)))))
       (λ f. tt)
 
-  pub taking_done : (w : World) → (stream_in w s).reader.owner ≡ Host r → Going (TurnsDone Writing s r write w) (consumer_turn w s r write)
-  unfolding consumer_turn
-  taking_done w o = takes_by w write.asked (lifted w.state.guests (stream_in w s).payload write) (reader_at w r).coming o
+  pub taking_done : (w : World) → (stream_in w s).reader.owner ≡ Host r → Going (TurnsDone Writing s r write w) (reader_turn w s r write)
+  unfolding reader_turn
+  taking_done w o = takes_by w write.asked (lifted_items w.state.guests (stream_in w s).payload write) (reader_at w r).coming o

@@ -9,12 +9,12 @@ use Rattle.strm_machine.specs.declared.acts.Act.TheVariants.{Drive}
 use Rattle.strm_machine.specs.declared.limits.Limits.{Limits}
 use Rattle.strm_machine.specs.declared.steps.Step.{Step}
 use Rattle.strm_machine.specs.declared.replies.Reply.{Reply}
-use Rattle.strm_host_machine.specs.Does.{start}
+use Rattle.strm_host_machine.specs.Does.{start_world}
 use Rattle.strm_host_machine.specs.Driving.{numbers_from}
 use Rattle.strm_host_machine.specs.Outcomes.{Outcome, Goes, Stops, Stuck}
 use Rattle.strm_host_machine.specs.World.{World}
 use Rattle.strm_host_machine.proofs.OutcomeLemmas.{outcome-trapped}
-use Rattle.strm_host_laws.specs.HostMoments.{Part, Acts, Turns, HostMoment, parts_of, part_on, followed, acted, host_moments, first_moments, last_of}
+use Rattle.strm_host_laws.specs.HostMoments.{Part, Acts, Turns, HostMoment, parts_of, part_on, followed, acted, host_moments, first_moments, end_world}
 use Rattle.strm_host_laws.specs.Isolation.{LeavesOthers, AreIsolated}
 use Rattle.strm_host_laws.proofs.Chains.{is_part, Follows}
 use Rattle.strm_host_laws.proofs.Closed.{Stands, Kept, SameClosed, part-closes, Stands-start}
@@ -138,9 +138,9 @@ module _ (first : World) where
       act-apart w (act_of step) (λ after. host_moments after more) w.state.trapped refl h (λ v k few. moments-apart v more k)
 
 -- of a run from an unused store among whichever host ends
-pub run-isolated : (tag : ℕ) (limits : Limits) (old new : Tells) (run : List Step) (count : ℕ) → AreIsolated (first_moments count (start tag limits old new) run) (last_of (start tag limits old new) (first_moments count (start tag limits old new) run))
+pub run-isolated : (tag : ℕ) (limits : Limits) (old new : Tells) (run : List Step) (count : ℕ) → AreIsolated (first_moments count (start_world tag limits old new) run) (end_world (start_world tag limits old new) (first_moments count (start_world tag limits old new) run))
 run-isolated tag limits old new run count =
-    let first = start tag limits old new in
+    let first = start_world tag limits old new in
     let all = first_moments count first run in
     let apart = front-apart count first (host_moments first run) (moments-apart first first run (record { holds = Holds-empty tag limits; stands = Stands-start tag limits old new })) in
     record {

@@ -29,15 +29,15 @@ use Rattle.strm_machine.specs.declared.streams.Side.TheVariants.{Writing, Readin
 use Rattle.strm_host_machine.specs.Ends.{no_writer}
 use Rattle.strm_host_machine.specs.World.{World, stream_in, with_stream_in}
 use Rattle.strm_host_machine.specs.Settling.{moved_on}
-use Rattle.strm_host_machine.specs.Producing.{producer_turn}
+use Rattle.strm_host_machine.specs.WriterTurn.{writer_turn}
 use Rattle.strm_host_machine.specs.Attaching.{hosts_new}
 use Rattle.strm_host_machine.specs.Driving.{drive_turn}
 use Rattle.strm_host_machine.specs.HostRefusals.{refusal_in}
 use Rattle.strm_host_machine.specs.Steps.{performs_in, outcome}
-use Rattle.strm_host_laws.specs.HostMoments.{HostMoment, host_moments, last_of}
-use Rattle.strm_host_machine.specs.Courses.{AGuest, Poll, StreamEvent, Course, Begins, Calls, Hears, Cancels, Drops, Moves, Turns, course_by, codes_of, fresh_course}
+use Rattle.strm_host_laws.specs.HostMoments.{HostMoment, host_moments, end_world}
+use Rattle.strm_host_machine.specs.Courses.{AGuest, CoursePoll, StreamEvent, Course, Begins, Calls, Hears, Cancels, Drops, Moves, Turns, course_by, codes_of, fresh_course}
 use Rattle.strm_host_laws.proofs.CourseRuns.{course_after}
-use Rattle.strm_host_laws.specs.StreamEvents.{events, answered}
+use Rattle.strm_host_laws.specs.StreamEvents.{events, codes_answered}
 use Rattle.strm_host_laws.proofs.Tracing.{course_of}
 
 abbrev bytes : TransmitIndex
@@ -53,7 +53,7 @@ all_items ns = map (λ n. pos n ∷ []) ns
 abbrev said : ℕ → Bool → List ℕ → Answer → WriterSaid
 said room finish ns answer = record { payload = One U8; room = Some room; finish = finish; items = all_items ns; answer = answer }
 
-abbrev poll : ℕ → Answer → Poll
+abbrev poll : ℕ → Answer → CoursePoll
 poll n answer = record { items = n; answer = answer }
 
 -- an unused store with a host writer of bytes that holds these at first, with these records to come
@@ -75,13 +75,13 @@ record Row : Type 0 where
 abbrev row_of : ℕ → List HostMoment → World → Row
 row_of s all last = record {
   happens = events s all;
-  answers = answered s all;
+  answers = codes_answered s all;
   codes_alone = codes_of (stream_in last s).kind (events s all);
   course = course_of s last;
 }
 
 abbrev row : ℕ → World → List Step → Row
-row s world run = row_of s (host_moments world run) (last_of world (host_moments world run))
+row s world run = row_of s (host_moments world run) (end_world world (host_moments world run))
 
 abbrev expected : TransmitKind → List StreamEvent → List (Option ReturnCode) → Row
 expected kind happens answers = record {
@@ -115,7 +115,7 @@ told_parts : row 0 (among [] [])
     ∷ Some (codes.Dropped 2)
     ∷ None
     ∷ [])
-unfolding course_by outcome performs_in refusal_in hosts_new producer_turn drive_turn with_stream_in moved_on reaction refusal performs turn delivered dropped cancelled with_stream ready_member decode_from encode_from items stored decoded
+unfolding course_by outcome performs_in refusal_in hosts_new writer_turn drive_turn with_stream_in moved_on reaction refusal performs turn delivered dropped cancelled with_stream ready_member decode_from encode_from items stored decoded
 told_parts = refl
 
 -- a future: cancels before its value passes, a drop that is refused, and a cancel that comes too late
@@ -156,7 +156,7 @@ future_value : row 0 (among [] [])
     ∷ Some (codes.Completed 0)
     ∷ None
     ∷ [])
-unfolding course_by outcome performs_in refusal_in hosts_new producer_turn drive_turn with_stream_in moved_on reaction refusal performs turn delivered dropped cancelled with_stream ready_member decode_from encode_from items stored decoded
+unfolding course_by outcome performs_in refusal_in hosts_new writer_turn drive_turn with_stream_in moved_on reaction refusal performs turn delivered dropped cancelled with_stream ready_member decode_from encode_from items stored decoded
 future_value = refl
 
 -- a host writer that held an item, whose polls leave items over, and which is driven
@@ -188,7 +188,7 @@ host_served : row 0 (among (7 ∷ []) (said 2 false (1 ∷ 2 ∷ 3 ∷ []) answe
     ∷ Some codes.Blocked
     ∷ Some (codes.Completed 1)
     ∷ [])
-unfolding course_by outcome performs_in refusal_in hosts_new producer_turn drive_turn with_stream_in moved_on reaction refusal performs turn delivered dropped cancelled with_stream ready_member decode_from encode_from items stored decoded
+unfolding course_by outcome performs_in refusal_in hosts_new writer_turn drive_turn with_stream_in moved_on reaction refusal performs turn delivered dropped cancelled with_stream ready_member decode_from encode_from items stored decoded
 host_served = refl
 
 -- a host writer that has no more to come, and then is gone
@@ -214,7 +214,7 @@ host_over : row 0 (among [] (said 1 false (5 ∷ 6 ∷ []) answers.Dropped ∷ [
     ∷ Some (codes.Completed 1)
     ∷ Some (codes.Dropped 0)
     ∷ [])
-unfolding course_by outcome performs_in refusal_in hosts_new producer_turn drive_turn with_stream_in moved_on reaction refusal performs turn delivered dropped cancelled with_stream ready_member decode_from encode_from items stored decoded
+unfolding course_by outcome performs_in refusal_in hosts_new writer_turn drive_turn with_stream_in moved_on reaction refusal performs turn delivered dropped cancelled with_stream ready_member decode_from encode_from items stored decoded
 host_over = refl
 
 -- a read that is cancelled while its host writer has to finish first
@@ -242,7 +242,7 @@ host_asked : row 0 (among [] (said 4 false [] answers.Pending ∷ said 4 true []
     ∷ Some codes.Blocked
     ∷ Some (codes.Cancelled 0)
     ∷ [])
-unfolding course_by outcome performs_in refusal_in hosts_new producer_turn drive_turn with_stream_in moved_on reaction refusal performs turn delivered dropped cancelled with_stream ready_member decode_from encode_from items stored decoded
+unfolding course_by outcome performs_in refusal_in hosts_new writer_turn drive_turn with_stream_in moved_on reaction refusal performs turn delivered dropped cancelled with_stream ready_member decode_from encode_from items stored decoded
 host_asked = refl
 
 -- a stream of a host writer beside one of guests, with refused steps between
@@ -277,7 +277,7 @@ beside_guests : row 0 (among [] (said 4 false [] answers.Pending ∷ said 4 fals
     ∷ Some codes.Blocked
     ∷ Some (codes.Cancelled 0)
     ∷ [])
-unfolding course_by outcome performs_in refusal_in hosts_new producer_turn drive_turn with_stream_in moved_on reaction refusal performs turn delivered dropped cancelled with_stream ready_member decode_from encode_from items stored decoded
+unfolding course_by outcome performs_in refusal_in hosts_new writer_turn drive_turn with_stream_in moved_on reaction refusal performs turn delivered dropped cancelled with_stream ready_member decode_from encode_from items stored decoded
 beside_guests = refl
 
 -- and the other stream of the same run
@@ -313,7 +313,7 @@ beside_host : row 1 (among [] (said 4 false [] answers.Pending ∷ said 4 false 
     ∷ Some (codes.Completed 2)
     ∷ Some (codes.Dropped 0)
     ∷ [])
-unfolding course_by outcome performs_in refusal_in hosts_new producer_turn drive_turn with_stream_in moved_on reaction refusal performs turn delivered dropped cancelled with_stream ready_member decode_from encode_from items stored decoded
+unfolding course_by outcome performs_in refusal_in hosts_new writer_turn drive_turn with_stream_in moved_on reaction refusal performs turn delivered dropped cancelled with_stream ready_member decode_from encode_from items stored decoded
 beside_host = refl
 
 -- a read of nothing and a write of nothing, then each beside one that waits
@@ -355,7 +355,7 @@ empty_both : row 0 (among [] [])
     ∷ None
     ∷ Some (codes.Cancelled 0)
     ∷ [])
-unfolding course_by outcome performs_in refusal_in hosts_new producer_turn drive_turn with_stream_in moved_on reaction refusal performs turn delivered dropped cancelled with_stream ready_member decode_from encode_from items stored decoded
+unfolding course_by outcome performs_in refusal_in hosts_new writer_turn drive_turn with_stream_in moved_on reaction refusal performs turn delivered dropped cancelled with_stream ready_member decode_from encode_from items stored decoded
 empty_both = refl
 
 -- a read that two writes serve, and that is cancelled with an item left
@@ -385,5 +385,5 @@ partly_served : row 0 (among [] [])
     ∷ Some (codes.Cancelled 4)
     ∷ Some (codes.Dropped 0)
     ∷ [])
-unfolding course_by outcome performs_in refusal_in hosts_new producer_turn drive_turn with_stream_in moved_on reaction refusal performs turn delivered dropped cancelled with_stream ready_member decode_from encode_from items stored decoded
+unfolding course_by outcome performs_in refusal_in hosts_new writer_turn drive_turn with_stream_in moved_on reaction refusal performs turn delivered dropped cancelled with_stream ready_member decode_from encode_from items stored decoded
 partly_served = refl

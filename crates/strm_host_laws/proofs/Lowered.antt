@@ -7,7 +7,7 @@ use Rattle.strm_codes.specs.declared.scalars.Scalar.{Scalar}
 use Rattle.strm_memory.specs.Items.{decode_from, stored_at, AreItems}
 use Rattle.strm_memory.proofs.RegionLemmas.{items_at-stored_at}
 use Rattle.strm_buffers.specs.Listing.{Item}
-use Rattle.strm_machine.specs.Moments.{decoded, items_in}
+use Rattle.strm_machine.specs.Moments.{decoded, items_in_memory}
 use Rattle.strm_machine.specs.Soundness.{sizes_of, IsPlaced}
 use Rattle.strm_machine.specs.State.{Guest, memory_in}
 use Rattle.strm_machine.specs.declared.streams.Operation.{Operation}
@@ -17,7 +17,7 @@ use Rattle.strm_machine.proofs.CarryLemmas.{no_scalars}
 use Rattle.strm_machine.proofs.StateLemmas.{memory_in-with_memory}
 use Rattle.strm_machine.proofs.TurnLemmas.{front_inside}
 use Rattle.strm_machine.proofs.TurnChangeLemmas.{there}
-use Rattle.strm_host_machine.specs.Producing.{lowered}
+use Rattle.strm_host_machine.specs.WriterTurn.{lowered_items}
 
 -- items of no scalars are all alike, and lie everywhere
 nothing_decoded : (bytes : List ℕ) (xs : List (List ℤ)) → AreItems [] xs → decoded [] bytes (length xs) ≡ map Some xs
@@ -46,8 +46,8 @@ stored_decoded ss memory to xs h room =
     ]
 
 -- the items of a turn
-pub lowered_lie : (guests : List Guest) (payload : Payload) (read : Operation) (xs : List Item) → IsPlaced (sizes_of guests) payload read → length xs ≤ read.left → AreItems (scalars_of payload) xs
-    → items_in payload (lowered guests payload read xs) read.guest read.address (length xs) ≡ map Some xs
+pub lowered_lie : (guests : List Guest) (ty : Payload) (read : Operation) (xs : List Item) → IsPlaced (sizes_of guests) ty read → length xs ≤ read.left → AreItems (scalars_of ty) xs
+    → items_in_memory ty (lowered_items guests ty read xs) read.guest read.address (length xs) ≡ map Some xs
 lowered_lie guests payload read xs placed fit h =
     let ss = scalars_of payload in
     let memory = memory_in guests read.guest in

@@ -14,7 +14,7 @@ use Rattle.strm_memory.proofs.AppendLemmas.{AreItems-append}
 use Rattle.strm_buffers.specs.Listing.{Item}
 use Rattle.strm_buffers.specs.Said.{WriterSaid}
 use Rattle.strm_machine.specs.State.{Guest, kept_at, stream_at, is_host, is_held}
-use Rattle.strm_machine.specs.Moments.{Moment, Place, received, rise, place_of, target, is_named, items_in, got_in}
+use Rattle.strm_machine.specs.Moments.{Moment, MemoryPlace, received, rise, place_of, target, is_named, items_in_memory, got_in}
 use Rattle.strm_machine.specs.Sides.{with_operation}
 use Rattle.strm_machine.specs.Endings.{delivered}
 use Rattle.strm_machine.specs.Turns.{with_received}
@@ -36,7 +36,7 @@ use Rattle.strm_host_machine.specs.World.{World, stream_in, writer_at, reader_at
 use Rattle.strm_host_machine.specs.Settling.{with_some_received}
 use Rattle.strm_host_machine.specs.Does.{SaidFits}
 use Rattle.strm_host_laws.specs.HostMoments.{HostMoment}
-use Rattle.strm_host_laws.specs.HostLaws.{used_in, items_of, act_in, plain, produced_by, produced_in, source, used_by, count_taken, taken_from, taken_by, host_taken_in, got_by, host_got_in, Supplies}
+use Rattle.strm_host_laws.specs.HostLaws.{used_in, items_of_records, act_in, plain, produced_by, produced_in, source, used_by, count_taken, taken_from_owner, taken_by, host_taken_in, got_by, host_got_in, Supplies}
 use Rattle.strm_machine.proofs.HostLemmas.{unless_host}
 use Rattle.strm_machine.proofs.TurnChangeLemmas.{none_got}
 use Rattle.strm_host_laws.proofs.Fed.{take-front, used_are}
@@ -59,18 +59,18 @@ front_items : (ss : List Scalar) (xs ys : List Item) → AreItems ss (xs ++ ys) 
 front_items ss [] ys h = tt
 front_items ss (x ∷ xs) ys h = (h.0, front_items ss xs ys h.1)
 
-said_items : (payload : Payload) (said more : List WriterSaid) → All (SaidFits payload) (said ++ more) → AreItems (scalars_of payload) (items_of said)
+said_items : (payload : Payload) (said more : List WriterSaid) → All (SaidFits payload) (said ++ more) → AreItems (scalars_of payload) (items_of_records said)
 said_items payload [] more h = tt
 said_items payload (x ∷ xs) more h =
-    AreItems-append (scalars_of payload) x.items (items_of xs) (All-head (SaidFits payload) x (xs ++ more) h)
+    AreItems-append (scalars_of payload) x.items (items_of_records xs) (All-head (SaidFits payload) x (xs ++ more) h)
     (said_items payload xs more (All-tail (SaidFits payload) x (xs ++ more) h))
 
 -- what a turn hands over are items
 turned_items : (w : World) (s n : ℕ) (read : Operation) (v : World) → Supplies (writer_at w n) → (t : Turned w s n read v) → AreItems (scalars_of (writer_at w n).payload) t.items
 turned_items w s n read v h t =
     let payload = (writer_at w n).payload in
-    let all : AreItems (scalars_of payload) ((writer_at w n).holds ++ items_of t.said) =
-    AreItems-append (scalars_of payload) (writer_at w n).holds (items_of t.said) h.holds
+    let all : AreItems (scalars_of payload) ((writer_at w n).holds ++ items_of_records t.said) =
+    AreItems-append (scalars_of payload) (writer_at w n).holds (items_of_records t.said) h.holds
     (said_items payload t.said t.writer.coming (subst (All (SaidFits payload)) t.coming h.coming)) in
     front_items (scalars_of payload) t.items t.writer.holds (subst (AreItems (scalars_of payload)) t.balance all)
 
@@ -94,7 +94,7 @@ pub record Exactly (s : ℕ) (m : HostMoment) (count : ℕ) : Type 0 where
 
 pub record Delivers (s n : ℕ) (m : HostMoment) : Type 0 where
   pub rest : List Item
-  pub balance : map Some (holds_before n m ++ items_of (used_in n m)) ≡ host_got_in s m ++ map Some rest
+  pub balance : map Some (holds_before n m ++ items_of_records (used_in n m)) ≡ host_got_in s m ++ map Some rest
   pub count : received s m.after.state ≡ capped (received s m.before.state + length (host_got_in s m))
   pub exact : is_host (stream_in m.before s).reader.owner ≡ false → Exactly s m (length (host_got_in s m))
   pub ends : Ends s n m.after rest
@@ -109,7 +109,7 @@ pub record Moved (s n : ℕ) (m : HostMoment) : Type 0 where
   pub count : received s m.after.state ≡ capped (received s m.before.state + length items)
   pub exact : is_host (stream_in m.before s).reader.owner ≡ false → Exactly s m (length items)
   pub coming : (writer_at m.before n).coming ≡ said ++ (writer_at m.after n).coming
-  pub balance : holds_before n m ++ items_of said ≡ items ++ held
+  pub balance : holds_before n m ++ items_of_records said ≡ items ++ held
   pub ends : Ends s n m.after held
   pub made : s < length m.after.state.streams
 
@@ -119,7 +119,7 @@ moved_delivers s n m k =
     record {
       rest = k.held;
       balance =
-          ap (λ u. map Some (holds_before n m ++ items_of u)) (used_are (writer_at m.before n).coming (writer_at m.after n).coming k.said k.coming)
+          ap (λ u. map Some (holds_before n m ++ items_of_records u)) (used_are (writer_at m.before n).coming (writer_at m.after n).coming k.said k.coming)
           ∙ ap (map Some) k.balance
           ∙ map-append Some k.items k.held
           ∙ ap (λ g. g ++ map Some k.held) (sym k.got);
@@ -134,7 +134,7 @@ abbrev SameCount : ℕ → HostMoment → Type 0
 SameCount s m = received s m.after.state ≡ received s m.before.state
 
 -- where the count stays, and a host reader uses no record, it takes nothing
-pub nothing_from : (s : ℕ) (m : HostMoment) (r : ℕ) → SameCount s m → used_by r m ≡ [] → (writer : Owner) → taken_from s m r writer ≡ []
+pub nothing_from : (s : ℕ) (m : HostMoment) (r : ℕ) → SameCount s m → used_by r m ≡ [] → (writer : Owner) → taken_from_owner s m r writer ≡ []
 nothing_from s m r e u (Host n) = ap (λ xs. map Some (take (count_taken xs) (held_of m.before n ++ produced_in s m))) u
 nothing_from s m r e u _ = none_got (stream_in m.before s).payload m.before.state.guests (source s (plain m)).guest (source s (plain m)).address (received s m.after.state) (received s m.before.state) e
 
@@ -147,7 +147,7 @@ nothing_by s m e _ u = (nothing_got s (plain m) e).0
 pub nothing_unhosted : (s : ℕ) (m : HostMoment) → SameCount s m → is_host (stream_in m.before s).writer.owner ≡ false → (owner : Owner) → got_by s m owner ≡ []
 nothing_unhosted s m e u (Host r) = by (stream_in m.before s).writer.owner u
   where
-    by : (writer : Owner) → is_host writer ≡ false → taken_from s m r writer ≡ []
+    by : (writer : Owner) → is_host writer ≡ false → taken_from_owner s m r writer ≡ []
     by (Host n) u = cc
     by _ u = none_got (stream_in m.before s).payload m.before.state.guests (source s (plain m)).guest (source s (plain m)).address (received s m.after.state) (received s m.before.state) e
 nothing_unhosted s m e u _ = (nothing_got s (plain m) e).0
@@ -164,21 +164,21 @@ module _ (s n r : ℕ) (m : HostMoment) (p : Passed m.before s n r m.after) (rea
   round_records = p.coming ∙ ap (λ xs. p.said ++ xs) (sym (round_coming m.before s n r m.after p))
 
   -- the front of what is held and produced
-  round_front : taken_from s m r (Host n) ≡ map Some p.items
+  round_front : taken_from_owner s m r (Host n) ≡ map Some p.items
   round_front =
       let told = ap (λ (x : Option (List Item) × List ReaderSaid). x.1) (round_told m.before s n r m.after p r) in
       let used : used_by r m ≡ p.told = used_are (reader_at m.before r).coming (reader_at m.after r).coming p.told (p.records ∙ ap (λ xs. p.told ++ xs) (sym told)) in
       let said : used_in n m ≡ p.said = used_are (writer_at m.before n).coming (writer_at m.after n).coming p.said round_records in
       ap (λ xs. map Some (take (count_taken xs) (held_of m.before n ++ produced_in s m))) used
       ∙ ap (λ k. map Some (take k (held_of m.before n ++ produced_in s m))) (sym p.taken)
-      ∙ ap (λ xs. map Some (take p.count (held_of m.before n ++ xs))) (ap (produced_by m) wrote ∙ ap items_of said)
+      ∙ ap (λ xs. map Some (take p.count (held_of m.before n ++ xs))) (ap (produced_by m) wrote ∙ ap items_of_records said)
       ∙ ap (λ xs. map Some (take p.count xs)) p.balance
       ∙ ap (map Some) (take-front p.items (held_of p.but n) p.count (sym p.long))
 
   pub round_got : RoundGot s m p.items
   round_got = record {
-    taken = ap (taken_by s m) read ∙ ap (taken_from s m r) wrote ∙ round_front;
-    got = ap (got_by s m) read ∙ ap (taken_from s m r) wrote ∙ round_front;
+    taken = ap (taken_by s m) read ∙ ap (taken_from_owner s m r) wrote ∙ round_front;
+    got = ap (got_by s m) read ∙ ap (taken_from_owner s m r) wrote ∙ round_front;
   }
 
 -- how many are counted then
@@ -228,16 +228,16 @@ still_moved s n m rested l r c ends made = record {
 }
 
 -- what was received, by the place where it lies
-got_at : (s : ℕ) (m : Moment) (place : Place) (k : ℕ) (xs : List (Option Item)) → target s m ≡ place → received s m.after ≡ received s m.before + k
-    → items_in (stream_at m.before s).payload m.after.guests place.guest place.address k ≡ xs → got_in s m ≡ xs
+got_at : (s : ℕ) (m : Moment) (place : MemoryPlace) (k : ℕ) (xs : List (Option Item)) → target s m ≡ place → received s m.after ≡ received s m.before + k
+    → items_in_memory (stream_at m.before s).payload m.after.guests place.guest place.address k ≡ xs → got_in s m ≡ xs
 got_at s m place k xs e r lie =
     let rose : rise s m ≡ k = omega (arith, r) in
     let payload = (stream_at m.before s).payload in
-    ap (λ (p : Place). items_in payload m.after.guests p.guest p.address (rise s m)) e
-    ∙ ap (λ j. items_in payload m.after.guests place.guest place.address j) rose
+    ap (λ (p : MemoryPlace). items_in_memory payload m.after.guests p.guest p.address (rise s m)) e
+    ∙ ap (λ j. items_in_memory payload m.after.guests place.guest place.address j) rose
     ∙ lie
 
-abbrev place_for : Operation → Place
+abbrev place_for : Operation → MemoryPlace
 place_for read = record { guest = read.guest; address = read.address }
 
 -- a moment in which this is done
@@ -260,11 +260,11 @@ few_items guests payload read n p l = omega (arith, l, p.counted)
 -- a turn whose read is placed
 module _ (w : World) (s n : ℕ) (read : Operation) (v : World) (t : Turned w s n read v) (c : CanTurn w s n read) where
   -- its items lie where its read has them
-  turned_lie : Supplies (writer_at w n) → (writer_at w n).payload ≡ (stream_in w s).payload → items_in (stream_in w s).payload v.state.guests read.guest read.address (length t.items) ≡ map Some t.items
+  turned_lie : Supplies (writer_at w n) → (writer_at w n).payload ≡ (stream_in w s).payload → items_in_memory (stream_in w s).payload v.state.guests read.guest read.address (length t.items) ≡ map Some t.items
   turned_lie h e =
       let payload = (stream_in w s).payload in
       let all : AreItems (scalars_of payload) t.items = subst (λ p. AreItems (scalars_of p) t.items) e (turned_items w s n read v h t) in
-      ap (λ gs. items_in payload gs read.guest read.address (length t.items)) (turned-guests w s n read v t c)
+      ap (λ gs. items_in_memory payload gs read.guest read.address (length t.items)) (turned-guests w s n read v t c)
       ∙ lowered_lie w.state.guests payload read t.items c.placed t.fits all
 
   turned_count : (stream_in w s).received + 2 ^ 28 < 2 ^ 128 → (stream_in v s).received ≡ (stream_in w s).received + length t.items
@@ -307,7 +307,7 @@ module _ (first : World) (m : HostMoment) (l : Lives first m.before) where
         count = (let few = few_items w.state.guests (stream_in w s).payload read (length t.items) c.placed t.fits in omega (arith, count, b, few));
         exact = λ u. record { counted = count; few = few_items w.state.guests (stream_in w s).payload read (length t.items) c.placed t.fits };
         coming = turned-coming w s n read m.after t c;
-        balance = ap (λ ks. (ks ++ (writer_at w n).holds) ++ items_of t.said) none ∙ t.balance;
+        balance = ap (λ ks. (ks ++ (writer_at w n).holds) ++ items_of_records t.said) none ∙ t.balance;
         ends = held_ends s n t.writer.holds (rested.kept ∙ none) (turned-ends w s n read m.after t c);
         made = subst (λ k. s < k) (sym (turned-length w s n read m.after t c)) c.made;
       }
@@ -372,12 +372,12 @@ module _ (first : World) (m : HostMoment) (l : Lives first m.before) where
               })
         ]
 
-    read_lie : items_in (stream_in m.before at).payload m.after.state.guests read.guest read.address (length r.turned.items) ≡ map Some r.turned.items
+    read_lie : items_in_memory (stream_in m.before at).payload m.after.state.guests read.guest read.address (length r.turned.items) ≡ map Some r.turned.items
     read_lie =
         let payload : (stream_in o at).payload ≡ (stream_in m.before at).payload = ap (λ (x : Stream). x.payload) here in
         let typed : (writer_at o n).payload ≡ (stream_in o at).payload = ap (λ (x : Writer). x.payload) writer_open ∙ (l.stands.there at n r.owner).payload ∙ sym payload in
-        ap (λ p. items_in p m.after.state.guests read.guest read.address (length r.turned.items)) (sym payload)
-        ∙ ap (λ gs. items_in (stream_in o at).payload gs read.guest read.address (length r.turned.items)) same.guests
+        ap (λ p. items_in_memory p m.after.state.guests read.guest read.address (length r.turned.items)) (sym payload)
+        ∙ ap (λ gs. items_in_memory (stream_in o at).payload gs read.guest read.address (length r.turned.items)) same.guests
         ∙ turned_lie o at n read r.mid r.turned c (subst (λ (x : Writer). Supplies x) (sym writer_open) (l.supplied n)) typed
 
     -- who has the write end after a turn, and what the writer holds
@@ -407,7 +407,7 @@ module _ (first : World) (m : HostMoment) (l : Lives first m.before) where
           count = omega (arith, counts, b, few);
           exact = λ u. record { counted = counts; few = few };
           coming = ap (λ (x : Writer). x.coming) (sym writer_open) ∙ turned-coming o at n read r.mid t c ∙ ap (λ (x : Writer). t.said ++ x.coming) (sym same.writer);
-          balance = ap (λ ks. (ks ++ (writer_at m.before n).holds) ++ items_of t.said) none ∙ ap (λ (x : Writer). x.holds ++ items_of t.said) (sym writer_open) ∙ t.balance;
+          balance = ap (λ ks. (ks ++ (writer_at m.before n).holds) ++ items_of_records t.said) none ∙ ap (λ (x : Writer). x.holds ++ items_of_records t.said) (sym writer_open) ∙ t.balance;
           ends = held_ends at n t.writer.holds (rested.kept ∙ none) (read_ends (turned-ends o at n read r.mid t c));
           made = same.made;
         }

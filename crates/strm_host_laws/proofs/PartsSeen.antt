@@ -36,7 +36,7 @@ use Rattle.strm_machine.proofs.SoundLemmas.{left_told}
 use Rattle.strm_machine.proofs.TableLemmas.{OwnersStay}
 use Rattle.strm_codes.specs.declared.codes.StreamResult.{StreamResult}
 use Rattle.strm_codes.specs.declared.payloads.Payload.{Payload}
-use Rattle.strm_host_machine.specs.Settling.{went, settled, with_some_received}
+use Rattle.strm_host_machine.specs.Settling.{went, operation_settled, with_some_received}
 use Rattle.strm_machine.specs.Turns.{with_received}
 use Rattle.strm_host_machine.proofs.SettleLemmas.{is_done_with}
 use Rattle.strm_host_laws.specs.HostMoments.{Part}
@@ -262,7 +262,7 @@ reaction_taken side state act s h k = shape_taken side state s h.held k act (rea
 -- ## The turn of a host end, and the end that is told after it
 
 -- what a turn leaves unmet is met by a host end
-settled_parted : (owner : Owner) (payload : Payload) (operation : Operation) (n host : ℕ) (result : Option StreamResult) → owner ≡ Host host → is_host (cond (is_done_with result) Gone owner) ≡ false → IsUnmoved (Some (settled result (went payload operation n)))
+settled_parted : (owner : Owner) (payload : Payload) (operation : Operation) (n host : ℕ) (result : Option StreamResult) → owner ≡ Host host → is_host (cond (is_done_with result) Gone owner) ≡ false → IsUnmoved (Some (operation_settled result (went payload operation n)))
 settled_parted owner payload operation n host None o u = absurd (let wrong : is_host owner ≡ true = ap is_host o in cc)
 settled_parted owner payload operation n host (Some result) o u = λ e. cc
 

@@ -21,18 +21,18 @@ use Rattle.strm_machine.specs.declared.streams.Side.TheVariants.{Writing, Readin
 use Rattle.strm_machine.specs.declared.streams.Stream.{Stream}
 use Rattle.strm_machine.proofs.TableLemmas.{set-keeps}
 use Rattle.strm_host_machine.specs.Attaching.{has_items, without_ends}
-use Rattle.strm_host_machine.specs.Courses.{Course, Poll, fills, empties, ends_round, both_gone_if, with_items}
+use Rattle.strm_host_machine.specs.Courses.{Course, CoursePoll, fills, empties, ends_round, both_gone_if, course_with_items}
 use Rattle.strm_host_machine.specs.Courses as courses
 use Rattle.strm_host_machine.specs.Ends.{Writer, Reader, no_writer, no_reader, polled_writer, polled_reader}
 use Rattle.strm_host_machine.specs.Outcomes.{Outcome, Goes, Stops, Stuck, then_on}
 use Rattle.strm_host_machine.specs.Piping.{wants_items, fetches, gathered, is_resting, passed_on, offers, is_done_with, is_run_dry, both_gone, ends_if_done, pipe_round}
 use Rattle.strm_host_machine.specs.Polls.{is_failed, is_writer_poll, writer_says, is_reader_poll, tells_truly, reader_says}
-use Rattle.strm_host_machine.specs.Producing.{is_last, with_answer}
+use Rattle.strm_host_machine.specs.WriterTurn.{is_last, with_answer}
 use Rattle.strm_host_machine.specs.Settling.{with_some_received, since_after}
 use Rattle.strm_host_machine.specs.World.{World, stream_in, writer_at, reader_at, held_of, with_kept, with_consumer, with_writer, with_reader, leaves_writer, leaves_reader, with_stream_in}
 use Rattle.strm_host_machine.proofs.SettleLemmas.{leaves_reader-stays}
-use Rattle.strm_host_laws.specs.HostLaws.{used}
-use Rattle.strm_host_laws.specs.StreamEvents.{poll_of, poll_of_reader}
+use Rattle.strm_host_laws.specs.HostLaws.{used_records}
+use Rattle.strm_host_laws.specs.StreamEvents.{poll_of_record, poll_of_reader}
 use Rattle.strm_host_laws.proofs.Tracing.{held_for, over_for, seen, course_of}
 use Rattle.strm_host_laws.proofs.CourseLemmas.{with_items-seen}
 use Rattle.strm_host_laws.proofs.Fed.{used_are}
@@ -168,7 +168,7 @@ module _ (s n r : ℕ) where
   record Filled (w f : World) : Type 0 where
     said : List WriterSaid
     coming : (writer_at w n).coming ≡ said ++ (writer_at f n).coming
-    course : fills (course_of s w) (map poll_of said) ≡ course_of s f
+    course : fills (course_of s w) (map poll_of_record said) ≡ course_of s f
     pipe : IsPipe f
     readers : f.readers ≡ w.readers
     does : Does w f
@@ -197,7 +197,7 @@ module _ (s n r : ℕ) where
           said = said ∷ [];
           coming = c ∙ ap (λ (x : Writer). said ∷ x.coming) (sym here);
           course =
-              ap (λ k. fills k (poll_of said ∷ [])) (pipe-is w p.ends)
+              ap (λ k. fills k (poll_of_record said ∷ [])) (pipe-is w p.ends)
               ∙ ap (λ (xs : List Item). seen (stream_in w s) (length xs + length said.items) ((producer_at w.state n).over || is_last said.answer)) none
               ∙ ap (λ k. seen (stream_in w s) k ((producer_at w.state n).over || is_last said.answer)) (sum_none (length said.items) ∙ ap length (sym (append-nil said.items)))
               ∙ ap (λ (x : Producer). seen (stream_in w s) (length (said.items ++ [])) x.over) (sym (get_or-set_same w.state.producers n producer no_producer p.known))
@@ -335,9 +335,9 @@ module _ (s n r : ℕ) where
           ∙ ap (seen x (length held - one.taken)) (set-keeps (λ (y : Producer). y.over) f.state.producers n n emptied no_producer refl)
 
       -- as the course goes on
-      emptied-course : with_items (record (course_of s f) { held = (course_of s f).held - one.taken }) one.taken ≡ course_of s passed
+      emptied-course : course_with_items (record (course_of s f) { held = (course_of s f).held - one.taken }) one.taken ≡ course_of s passed
       emptied-course =
-          ap (λ (k : Course). with_items (record k { held = k.held - one.taken }) one.taken) (pipe-is f p.ends)
+          ap (λ (k : Course). course_with_items (record k { held = k.held - one.taken }) one.taken) (pipe-is f p.ends)
           ∙ with_items-seen (length held - one.taken) (producer_at f.state n).over (stream_in f s) one.taken
           ∙ sym passed-course
 
@@ -435,12 +435,12 @@ module _ (s n r : ℕ) where
   module _ (w : World) (p : IsPipe w) where
     rounds : (f v : World) → Filled w f → Emptied f v → Rounds w v
     rounds f v x y =
-        let said : used (writer_at w n).coming (writer_at v n).coming ≡ x.said = used_are (writer_at w n).coming (writer_at v n).coming x.said (x.coming ∙ ap (λ xs. x.said ++ xs) (sym y.coming)) in
-        let told : used (reader_at w r).coming (reader_at v r).coming ≡ y.told = used_are (reader_at w r).coming (reader_at v r).coming y.told (ap (λ rs. (get_or rs r no_reader).coming) (sym x.readers) ∙ y.records) in
+        let said : used_records (writer_at w n).coming (writer_at v n).coming ≡ x.said = used_are (writer_at w n).coming (writer_at v n).coming x.said (x.coming ∙ ap (λ xs. x.said ++ xs) (sym y.coming)) in
+        let told : used_records (reader_at w r).coming (reader_at v r).coming ≡ y.told = used_are (reader_at w r).coming (reader_at v r).coming y.told (ap (λ rs. (get_or rs r no_reader).coming) (sym x.readers) ∙ y.records) in
         record {
           course =
-              ap (λ xs. empties (fills (course_of s w) (map poll_of xs)) (polls_used Writing r w v)) said
-              ∙ ap (λ xs. empties (fills (course_of s w) (map poll_of x.said)) (map poll_of_reader xs)) told
+              ap (λ xs. empties (fills (course_of s w) (map poll_of_record xs)) (polls_used Writing r w v)) said
+              ∙ ap (λ xs. empties (fills (course_of s w) (map poll_of_record x.said)) (map poll_of_reader xs)) told
               ∙ ap (λ k. empties k (map poll_of_reader y.told)) x.course
               ∙ y.course;
           only = only-then s IsWriter IsReader w f v x.does.only y.does.only;

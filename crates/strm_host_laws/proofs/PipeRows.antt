@@ -26,8 +26,8 @@ use Rattle.strm_host_machine.specs.Piping.{pipe_round}
 use Rattle.strm_host_machine.specs.Driving.{drive_turn}
 use Rattle.strm_host_machine.specs.HostRefusals.{refusal_in}
 use Rattle.strm_host_machine.specs.Steps.{performs_in, outcome}
-use Rattle.strm_host_laws.specs.HostMoments.{HostMoment, host_moments, last_of}
-use Rattle.strm_host_laws.specs.HostLaws.{produced, held_first, host_got, all_taken, held_by, is_pipe_of}
+use Rattle.strm_host_laws.specs.HostMoments.{HostMoment, host_moments, end_world}
+use Rattle.strm_host_laws.specs.HostLaws.{produced_on, held_first, host_got, all_taken, held_for_owner, is_pipe_of}
 
 abbrev all_items : List ℕ → List Item
 all_items ns = map (λ n. pos n ∷ []) ns
@@ -83,10 +83,10 @@ account_of all last = record {
   replies = map (λ m. m.reply) all;
   pipe = is_pipe_of 0 0 all;
   first = held_first 0 all;
-  produced_all = produced 0 all;
+  produced_all = produced_on 0 all;
   got = host_got 0 all;
   taken = all_taken 0 all;
-  held = held_by last (stream_in last 0).writer.owner;
+  held = held_for_owner last (stream_in last 0).writer.owner;
   tells = (reader_at last 0).holds;
   count = received 0 last.state;
   owner = (stream_in last 0).writer.owner;
@@ -95,7 +95,7 @@ account_of all last = record {
 }
 
 abbrev account : Writer → Reader → List Step → Account
-account one two run = account_of (host_moments (among one two) run) (last_of (among one two) (host_moments (among one two) run))
+account one two run = account_of (host_moments (among one two) run) (end_world (among one two) (host_moments (among one two) run))
 
 -- so many drive rounds of a pipe
 abbrev driven_twice : List Step

@@ -16,7 +16,7 @@ use Rattle.strm_machine.specs.Moves.{with_owner}
 use Rattle.strm_machine.specs.Making.{made_stream, made_pair, with_stream}
 use Rattle.strm_machine.specs.Meetings.{begun}
 use Rattle.strm_machine.specs.Endings.{pending_of, is_other_gone, report_on, delivered, dropped}
-use Rattle.strm_machine.specs.Moments.{Moment, Place, place_of, code_told, as_report, is_named, names, report_in, accepted, accepted_in, count_reported, k_of, items_in, received, rise}
+use Rattle.strm_machine.specs.Moments.{Moment, MemoryPlace, place_of, code_told, as_report, is_named, names, report_in, accepted, accepted_in, count_reported, k_of, items_in_memory, received, rise}
 use Rattle.strm_machine.specs.Reactions.{Reaction, goes, written_back, reaction}
 use Rattle.strm_machine.specs.Soundness.{is_opened, IsUnmoved, both_open, sizes_of}
 use Rattle.strm_machine.specs.Tests.{named, stream_named, items_asked}
@@ -49,10 +49,10 @@ use Rattle.strm_machine.proofs.TallyLemmas.{none_one, none_fresh, PassesOne-by}
 use Rattle.strm_machine.proofs.TurnChangeLemmas.{none_got, still, goes_on}
 use Rattle.strm_laws.proofs.KeptChanges.{scene_with}
 use Rattle.strm_host_machine.specs.Attaching.{withdrawn, piped, without_ends, forsaken}
-use Rattle.strm_host_machine.specs.Settling.{went, settled}
+use Rattle.strm_host_machine.specs.Settling.{went, operation_settled}
 use Rattle.strm_host_machine.proofs.SettleLemmas.{code_told as code_answered}
 use Rattle.strm_host_laws.specs.HostMoments.{Part, Acts, Turns}
-use Rattle.strm_host_laws.specs.HostLaws.{act_in, write_place, source, taken_in, is_piped_in}
+use Rattle.strm_host_laws.specs.HostLaws.{act_in, write_place, source, taken_in_moment, is_piped_in}
 use Rattle.strm_host_laws.proofs.Effects.{opened_by, Driven, Calls, Hosts, piped_streams, Pipes, forsaken_by, Forsakes, is_idle, Effect, ByReaction, ByRest, ByHosting, ByPiping, ByDriving, ByPassing, ByCalling, ByForsaking, Passes, passing_other}
 use Rattle.strm_host_laws.proofs.GuestsSeen.{moment_in, IsGuests, turned_other}
 use Rattle.strm_host_laws.proofs.HostBytes.{turned_count, placed_small, driven_small, told_count, opened_count}
@@ -73,7 +73,7 @@ pub record IsRead (state : State) (s : ℕ) : Type 0 where
   pub one : (stream_at state s).kind ≡ Future → FutureRead state s
 
 pub record ReadIn (old : State) (part : Part) (reply : Reply) (new : State) (s : ℕ) : Type 0 where
-  pub writing : Change Writing (scene_with s Writing (moment_in old part reply new) (taken_in s (moment_in old part reply new)))
+  pub writing : Change Writing (scene_with s Writing (moment_in old part reply new) (taken_in_moment s (moment_in old part reply new)))
   pub reading : Untold s Reading (moment_in old part reply new)
   pub rises : received s old ≤ received s new
   pub still : is_host (stream_at old s).reader.owner ≡ false → received s new ≡ received s old
@@ -81,7 +81,7 @@ pub record ReadIn (old : State) (part : Part) (reply : Reply) (new : State) (s :
   pub kind : (stream_at new s).kind ≡ (stream_at old s).kind
 
 -- where the count stays nothing is taken
-pub taken_none : (s : ℕ) (m : Moment) → received s m.after ≡ received s m.before → taken_in s m ≡ []
+pub taken_none : (s : ℕ) (m : Moment) → received s m.after ≡ received s m.before → taken_in_moment s m ≡ []
 taken_none s m e = none_got (stream_at m.before s).payload m.before.guests (source s m).guest (source s m).address (received s m.after) (received s m.before) e
 
 not_true : (b : Bool) → (b ≡ true → ⊥) → b ≡ false
@@ -121,7 +121,7 @@ module _ (old : State) (part : Part) (reply : Reply) (new : State) (s : ℕ) (he
   -- its operation too, and nothing is told to it
   stays_in : Untold s Writing here → Stays Writing (stream_at old s) (stream_at new s) → is_host (stream_at new s).writer.owner ≡ false → ReadIn old part reply new s
   stays_in u e unhosted = record {
-    writing = still Writing (scene_with s Writing here (taken_in s here)) u.takes u.reports (taken_none s here e.count) e.payload e.count e.operation;
+    writing = still Writing (scene_with s Writing here (taken_in_moment s here)) u.takes u.reports (taken_none s here e.count) e.payload e.count e.operation;
     reading = unread;
     rises = omega (arith, e.count);
     still = λ f. e.count;
@@ -181,7 +181,7 @@ module _ (state : State) (act : Act) (s : ℕ) (h : Holds state) (k : IsRead sta
           let becomes = subst (λ i. Tellable i stream → IsTold stream.kind (as_report (code_told reply)) (end_of i stream).operation x.end.operation) f sets.becomes.told in
           record {
             writing =
-                told_change Writing (scene_with t Writing m (taken_in t m)) (none_either (names t Writing state act reply) _ (sets.untaken (report_in t Writing m))) (taken_none t m count) (ap (λ (y : Stream). y.payload) after) count
+                told_change Writing (scene_with t Writing m (taken_in_moment t m)) (none_either (names t Writing state act reply) _ (sets.untaken (report_in t Writing m))) (taken_none t m count) (ap (λ (y : Stream). y.payload) after) count
                 (as_report (code_told reply)) stream.writer.operation x.end.operation report refl (ap (λ (y : Stream). y.writer.operation) after)
                 (becomes (read_tellable stream (λ f. (k.one f).told) k.taken.parted there));
             reading = unread state (Acts act) reply (set_by state x) t h.held k;
@@ -323,28 +323,28 @@ module _ (state : State) (act : Act) (s : ℕ) (h : Holds state) (k : IsRead sta
 -- ## A turn of its host reader
 
 -- what a settled operation keeps
-settled_guest : (result : Option StreamResult) (o : Operation) → (settled result o).guest ≡ o.guest
+settled_guest : (result : Option StreamResult) (o : Operation) → (operation_settled result o).guest ≡ o.guest
 settled_guest None o = refl
 settled_guest (Some result) o = refl
 
-settled_address : (result : Option StreamResult) (o : Operation) → (settled result o).address ≡ o.address
+settled_address : (result : Option StreamResult) (o : Operation) → (operation_settled result o).address ≡ o.address
 settled_address None o = refl
 settled_address (Some result) o = refl
 
-settled_moved : (result : Option StreamResult) (o : Operation) → (settled result o).moved ≡ o.moved
+settled_moved : (result : Option StreamResult) (o : Operation) → (operation_settled result o).moved ≡ o.moved
 settled_moved None o = refl
 settled_moved (Some result) o = refl
 
-settled_left : (result : Option StreamResult) (o : Operation) → (settled result o).left ≡ o.left
+settled_left : (result : Option StreamResult) (o : Operation) → (operation_settled result o).left ≡ o.left
 settled_left None o = refl
 settled_left (Some result) o = refl
 
 -- what it offers lies at this place, so many items
-pub taken_at : (s : ℕ) (m : Moment) (g address n : ℕ) → source s m ≡ record { guest = g; address = address } → received s m.after ≡ received s m.before + n → taken_in s m ≡ items_in (stream_at m.before s).payload m.before.guests g address n
+pub taken_at : (s : ℕ) (m : Moment) (g address n : ℕ) → source s m ≡ record { guest = g; address = address } → received s m.after ≡ received s m.before + n → taken_in_moment s m ≡ items_in_memory (stream_at m.before s).payload m.before.guests g address n
 taken_at s m g address n e r =
     let rose : rise s m ≡ n = omega (arith, r) in
-    ap (λ (p : Place). items_in (stream_at m.before s).payload m.before.guests p.guest p.address (rise s m)) e
-    ∙ ap (λ i. items_in (stream_at m.before s).payload m.before.guests g address i) rose
+    ap (λ (p : MemoryPlace). items_in_memory (stream_at m.before s).payload m.before.guests p.guest p.address (rise s m)) e
+    ∙ ap (λ i. items_in_memory (stream_at m.before s).payload m.before.guests g address i) rose
 
 module _ (old new : State) (reply : Reply) (s : ℕ) (h : Holds old) (k : IsRead old s) where
   -- another stream has a turn
@@ -365,7 +365,7 @@ module _ (old new : State) (reply : Reply) (s : ℕ) (h : Holds old) (k : IsRead
       let t = d.turned in
       let o = d.operation in
       let n = t.count in
-      let p = settled t.result (went stream.payload o n) in
+      let p = operation_settled t.result (went stream.payload o n) in
       let now = turned_stream Writing old s o n t.result in
       let moves = moved_on-moves stream o n Writing t.result in
       let after : stream_at new s ≡ now = ap (λ (x : State). stream_at x s) t.is ∙ get_or-set_same old.streams s now no_stream k.taken.made in
@@ -439,7 +439,7 @@ module _ (old new : State) (reply : Reply) (end : NamedEnd) (address count : ℕ
     n = c.turned.count
 
     abbrev p : Operation
-    p = settled c.turned.result (went (stream_at old at).payload write n)
+    p = operation_settled c.turned.result (went (stream_at old at).payload write n)
 
     open_here : stream_at opened at ≡ open_stream
     open_here = get_or-set_same old.streams at open_stream no_stream k.taken.made
@@ -473,7 +473,7 @@ module _ (old new : State) (reply : Reply) (end : NamedEnd) (address count : ℕ
     mid_operation =
         ap (λ (x : Stream). x.writer.operation) mid_here
         ∙ ap (λ (x : End). x.operation) moves.mine
-        ∙ ap (λ (x : Stream). Some (settled c.turned.result (went x.payload write n))) open_here
+        ∙ ap (λ (x : Stream). Some (operation_settled c.turned.result (went x.payload write n))) open_here
 
     mid_taken : IsTaken Reading c.mid at
     mid_taken =
@@ -523,7 +523,7 @@ module _ (old new : State) (reply : Reply) (end : NamedEnd) (address count : ℕ
     from_here : source at the_moment ≡ record { guest = end.guest; address = address }
     from_here = ap (λ b. cond b (write_place the_act (place_of (stream_at old at).writer.operation)) (place_of (stream_at old at).writer.operation)) (named_here Writing)
 
-    brings_so : taken_in at the_moment ≡ items_in (stream_at old at).payload old.guests end.guest address n
+    brings_so : taken_in_moment at the_moment ≡ items_in_memory (stream_at old at).payload old.guests end.guest address n
     brings_so = taken_at at the_moment end.guest address n from_here more
 
     -- by the code that is answered
@@ -537,7 +537,7 @@ module _ (old new : State) (reply : Reply) (end : NamedEnd) (address count : ℕ
     unmoved_before : (stream_at old at).writer.operation ≡ None
     unmoved_before = (call_begun Writing old end address count h.sound c.unrefused).idle
 
-    change_by : (o : Option ReturnCode) → report ≡ o → Change Writing (scene_with at Writing the_moment (taken_in at the_moment))
+    change_by : (o : Option ReturnCode) → report ≡ o → Change Writing (scene_with at Writing the_moment (taken_in_moment at the_moment))
     change_by None e =
         let answered : reply ≡ replies.Code codes.Blocked = c.reply_is ∙ ap (λ o. replies.Code (code_answered o)) e in
         let quiet : report_in at Writing the_moment ≡ None = reported_so codes.Blocked answered in
@@ -576,7 +576,7 @@ module _ (old new : State) (reply : Reply) (end : NamedEnd) (address count : ℕ
           report = reported_so code answered ∙ so.0;
           within = omega (arith, counts, few);
           more = more ∙ ap (λ i. received at old + i) (sym counts);
-          brings = λ e. brings_so ∙ ap (λ i. items_in (stream_at old at).payload old.guests end.guest address i) (sym counts);
+          brings = λ e. brings_so ∙ ap (λ i. items_in_memory (stream_at old at).payload old.guests end.guest address i) (sym counts);
         })
 
     own_call : ReadIn old (Acts the_act) reply new at
@@ -729,7 +729,7 @@ module _ (old new : State) (reply : Reply) (s r : ℕ) (h : Holds old) (g : IsGu
       let count : received s new ≡ received s old = ap (λ (z : Stream). z.received) after ∙ w.received in
       record {
         writing =
-            withdrawn_change Writing (scene_with s Writing pipe_moment (taken_in s pipe_moment)) quiet.takes quiet.reports (taken_none s pipe_moment count) (ap (λ (z : Stream). z.payload) after ∙ w.payload) count (stream_at old s).writer.operation refl
+            withdrawn_change Writing (scene_with s Writing pipe_moment (taken_in_moment s pipe_moment)) quiet.takes quiet.reports (taken_none s pipe_moment count) (ap (λ (z : Stream). z.payload) after ∙ w.payload) count (stream_at old s).writer.operation refl
             (ap (λ (z : Stream). z.writer.operation) after ∙ w.operation);
         reading = untold s Reading pipe_moment (ap code_told x.reply_is);
         rises = omega (arith, count);

@@ -35,13 +35,13 @@ use Rattle.strm_laws.specs.Laws.{moved_at}
 use Rattle.strm_host_machine.specs.Ends.{Reader, no_reader}
 use Rattle.strm_host_machine.specs.World.{World, stream_in, reader_at, with_stream_in}
 use Rattle.strm_host_machine.specs.Settling.{moved_on}
-use Rattle.strm_host_machine.specs.Consuming.{consumer_turn}
+use Rattle.strm_host_machine.specs.ReaderTurn.{reader_turn}
 use Rattle.strm_host_machine.specs.Attaching.{pipes}
 use Rattle.strm_host_machine.specs.Driving.{drive_turn}
 use Rattle.strm_host_machine.specs.HostRefusals.{refusal_in}
 use Rattle.strm_host_machine.specs.Steps.{performs_in, outcome}
-use Rattle.strm_host_laws.specs.HostMoments.{HostMoment, host_moments, last_of}
-use Rattle.strm_host_laws.specs.HostLaws.{plains, host_got, all_taken, is_pipe_of, is_piped, all_used_by, all_granted}
+use Rattle.strm_host_laws.specs.HostMoments.{HostMoment, host_moments, end_world}
+use Rattle.strm_host_laws.specs.HostLaws.{plains, host_got, all_taken, is_pipe_of, was_piped, all_used_by, all_granted}
 
 abbrev bytes : TransmitIndex
 bytes = index.Stream (One U8)
@@ -105,7 +105,7 @@ record Account : Type 0 where
 abbrev account_of : List HostMoment → World → Account
 account_of all last = record {
   replies = map (λ m. m.reply) all;
-  piped = is_piped 0 all;
+  piped = was_piped 0 all;
   pipe = is_pipe_of 0 0 all;
   got = host_got 0 all;
   taken = all_taken 0 all;
@@ -131,9 +131,9 @@ lifted w =
 abbrev account : Reader → List Step → List Step → Account
 account one first second =
     let before = host_moments (among one) first in
-    let w = lifted (last_of (among one) before) in
+    let w = lifted (end_world (among one) before) in
     let after = host_moments w second in
-    account_of (before ++ after) (last_of w after)
+    account_of (before ++ after) (end_world w after)
 
 -- a write that a guest read in part is piped: its report is withdrawn, and settled as a whole
 account-part_read : account (reader (took 3 0 false 3 answers.Completed ∷ []))
@@ -179,7 +179,7 @@ account-part_read : account (reader (took 3 0 false 3 answers.Completed ∷ []))
       closed = false;
       heard = Some ((0, 9) ∷ []);
     }
-unfolding outcome performs_in refusal_in pipes consumer_turn drive_turn with_stream_in moved_on reaction refusal performs with_stream turn delivered dropped decode_from encode_from items stored decoded handed all_handed
+unfolding outcome performs_in refusal_in pipes reader_turn drive_turn with_stream_in moved_on reaction refusal performs with_stream turn delivered dropped decode_from encode_from items stored decoded handed all_handed
 account-part_read = refl
 
 -- the same with the event before the lift: nothing is left for the host reader
@@ -228,7 +228,7 @@ account-told_before : account (reader [])
       closed = false;
       heard = Some ((0, 9) ∷ []);
     }
-unfolding outcome performs_in refusal_in pipes consumer_turn drive_turn with_stream_in moved_on reaction refusal performs with_stream turn delivered dropped decode_from encode_from items stored decoded handed all_handed
+unfolding outcome performs_in refusal_in pipes reader_turn drive_turn with_stream_in moved_on reaction refusal performs with_stream turn delivered dropped decode_from encode_from items stored decoded handed all_handed
 account-told_before = refl
 
 -- a host reader that is done with items offered and takes none breaks its rules: the write is not called, and
@@ -257,7 +257,7 @@ account-broke : account (reader (took 3 0 false 0 answers.Completed ∷ []))
       closed = false;
       heard = Some [];
     }
-unfolding outcome performs_in refusal_in pipes consumer_turn drive_turn with_stream_in moved_on reaction refusal performs with_stream turn delivered dropped decode_from encode_from items stored decoded handed all_handed
+unfolding outcome performs_in refusal_in pipes reader_turn drive_turn with_stream_in moved_on reaction refusal performs with_stream turn delivered dropped decode_from encode_from items stored decoded handed all_handed
 account-broke = refl
 
 -- a write is taken in two polls, the second in a drive round; then the host reader takes one more item and goes
@@ -304,7 +304,7 @@ account-goes : account (reader (took 3 0 false 2 answers.Pending ∷ took 1 2 fa
       closed = true;
       heard = Some ((0, 1) ∷ (2, 7) ∷ (3, 5) ∷ []);
     }
-unfolding outcome performs_in refusal_in pipes consumer_turn drive_turn with_stream_in moved_on reaction refusal performs with_stream turn delivered dropped decode_from encode_from items stored decoded handed all_handed
+unfolding outcome performs_in refusal_in pipes reader_turn drive_turn with_stream_in moved_on reaction refusal performs with_stream turn delivered dropped decode_from encode_from items stored decoded handed all_handed
 account-goes = refl
 
 -- a future's value that a host reader took, and said so in a later poll: the write is done then, and no other
@@ -345,7 +345,7 @@ account-value : account (future_reader (took 1 0 false 1 answers.Pending ∷ too
       closed = true;
       heard = Some [];
     }
-unfolding outcome performs_in refusal_in pipes consumer_turn drive_turn with_stream_in moved_on reaction refusal performs with_stream turn delivered dropped decode_from encode_from items stored decoded handed all_handed
+unfolding outcome performs_in refusal_in pipes reader_turn drive_turn with_stream_in moved_on reaction refusal performs with_stream turn delivered dropped decode_from encode_from items stored decoded handed all_handed
 account-value = refl
 
 -- a cancel of a write that a guest read in part, and that is piped then, asks the host reader, and tells what
@@ -387,5 +387,5 @@ account-cancelled : account (reader (took 1 0 true 0 answers.Cancelled ∷ []))
       closed = false;
       heard = Some [];
     }
-unfolding outcome performs_in refusal_in pipes consumer_turn drive_turn with_stream_in moved_on reaction refusal performs with_stream turn delivered dropped cancelled decode_from encode_from items stored decoded handed all_handed
+unfolding outcome performs_in refusal_in pipes reader_turn drive_turn with_stream_in moved_on reaction refusal performs with_stream turn delivered dropped cancelled decode_from encode_from items stored decoded handed all_handed
 account-cancelled = refl

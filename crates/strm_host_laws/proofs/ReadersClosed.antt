@@ -27,15 +27,15 @@ use Rattle.strm_machine.proofs.ShapeLemmas.{reaction-consumers}
 use Rattle.strm_machine.proofs.TableLemmas.{OwnersStay, set-keeps}
 use Rattle.strm_host_machine.specs.Ends.{Writer, Reader, no_reader, reader_in, polled_reader, closed_reader, granted_reader}
 use Rattle.strm_host_machine.specs.World.{World, stream_in, reader_at, with_consumer, with_reader, without_reader, leaves_writer, leaves_reader, with_stream_in}
-use Rattle.strm_host_machine.specs.Consuming.{lifted}
+use Rattle.strm_host_machine.specs.ReaderTurn.{lifted_items}
 use Rattle.strm_host_machine.specs.Settling.{since_after}
 use Rattle.strm_host_machine.specs.Attaching.{piped, without_ends, forsaken}
-use Rattle.strm_host_machine.specs.HostPlays.{Ends, Halts, play}
-use Rattle.strm_host_machine.specs.Does.{is_ended, start}
+use Rattle.strm_host_machine.specs.HostPlays.{Ends, Halts, host_play}
+use Rattle.strm_host_machine.specs.Does.{is_ended, start_world}
 use Rattle.strm_host_machine.proofs.SettleLemmas.{delivered-owners}
-use Rattle.strm_host_laws.specs.HostMoments.{Part, Acts, HostMoment, part_on, host_moments, first_moments, last_of}
+use Rattle.strm_host_laws.specs.HostMoments.{Part, Acts, HostMoment, part_on, host_moments, first_moments, end_world}
 use Rattle.strm_host_laws.specs.HostLaws.{ReadersCloseExactly}
-use Rattle.strm_host_laws.proofs.Chains.{is_part, Chain, moments-chain, first-chain, StopsAt, play-ends, play-halts}
+use Rattle.strm_host_laws.proofs.Chains.{is_part, Chain, moments-chain, first-chain, StopsAt, host_play-ends, host_play-halts}
 use Rattle.strm_host_laws.proofs.Closed.{is_new_reader, unused-unended, or-true, or-false}
 use Rattle.strm_host_laws.proofs.Effects.{pipe_is, loose_made}
 use Rattle.strm_host_laws.proofs.Forms.{HasTurned, opened, called, reacted_to, stream_of, IsRound, IsCall, IsPiping, Form, BySame, ByReacting, ByForsaking, ByHosting, ByFeeding, ByGranting, ByPiping, ByTurning, ByPassing, ByCalling, part-formed}
@@ -173,7 +173,7 @@ module _ (first : World) where
 
   taken-stands : (w v : World) (s r : ℕ) (write : Operation) → Taken w s r write v → ServesHere w s → Stands first w → Stands first v
   taken-stands w v s r write t serves h =
-      let reader = polled_reader (reader_at w r) (lifted w.state.guests (stream_in w s).payload write t.said.taken) t.more in
+      let reader = polled_reader (reader_at w r) (lifted_items w.state.guests (stream_in w s).payload write t.said.taken) t.more in
       let told = with_reader w r reader in
       let consumer = record (consumer_at w.state r) { since = since_after t.said.answer (consumer_at w.state r).since t.said.taken } in
       let but = taken_by w s r write t.said t.more in
@@ -321,7 +321,7 @@ part-stops w part p = part-comes Any SameClosed any_rules stopping w part p refl
 -- RUNS
 
 module _ (first : World) where
-  chain-stands : (w : World) (all : List HostMoment) → Chain w all → Holds w.state → Stands first w → Stands first (last_of w all)
+  chain-stands : (w : World) (all : List HostMoment) → Chain w all → Holds w.state → Stands first w → Stands first (end_world w all)
   chain-stands w [] c holds h = h
   chain-stands w (m ∷ more) c holds h =
       let f = c.0 in
@@ -341,7 +341,7 @@ none_serve (suc m) (suc n) s e = none_serve m n s e
 
 module _ (tag : ℕ) (limits : Limits) (old new : Tells) (run : List Step) where
   abbrev at_first : World
-  at_first = start tag limits old new
+  at_first = start_world tag limits old new
 
   stands_first : Stands at_first at_first
   stands_first = record {
@@ -350,14 +350,14 @@ module _ (tag : ℕ) (limits : Limits) (old new : Tells) (run : List Step) where
     closes = λ r. sym (ap (λ b. (reader_at at_first r).closed || b) (none_ended host_limit r) ∙ or-false (reader_at at_first r).closed);
   }
 
-  run-stands : Stands at_first (last_of at_first (host_moments at_first run))
+  run-stands : Stands at_first (end_world at_first (host_moments at_first run))
   run-stands = chain-stands at_first at_first (host_moments at_first run) (moments-chain at_first run) (Holds-empty tag limits) stands_first
 
-  pub readers-close : (count : ℕ) → ReadersCloseExactly at_first (last_of at_first (first_moments count at_first run)).state (last_of at_first (first_moments count at_first run)).readers
+  pub readers-close : (count : ℕ) → ReadersCloseExactly at_first (end_world at_first (first_moments count at_first run)).state (end_world at_first (first_moments count at_first run)).readers
   readers-close count = (chain-stands at_first at_first (first_moments count at_first run) (first-chain count at_first run) (Holds-empty tag limits) stands_first).closes
 
-  pub runs-close_readers : (all : List Reply) (end : World) → play [] at_first run ≡ Ends all end → ReadersCloseExactly at_first end.state end.readers
-  runs-close_readers all end e = subst (λ w. ReadersCloseExactly at_first w.state w.readers) (play-ends all end [] at_first run e) run-stands.closes
+  pub runs-close_readers : (all : List Reply) (end : World) → host_play [] at_first run ≡ Ends all end → ReadersCloseExactly at_first end.state end.readers
+  runs-close_readers all end e = subst (λ w. ReadersCloseExactly at_first w.state w.readers) (host_play-ends all end [] at_first run e) run-stands.closes
 
   stop-closes : (w : World) (stop : Stop) (writers : List Writer) (readers : List Reader) → StopsAt w stop writers readers → Stands at_first w → ReadersCloseExactly at_first w.state readers
   stop-closes w stop writers readers s h =
@@ -368,7 +368,7 @@ module _ (tag : ℕ) (limits : Limits) (old new : Tells) (run : List Step) where
         | inr e ↦ λ r. ap (λ rs. (reader_in rs r).closed) e.1 ∙ h.closes r
       ]
 
-  pub stops-close_readers : (all : List Reply) (stop : Stop) (writers : List Writer) (readers : List Reader) → play [] at_first run ≡ Halts all stop writers readers
-      → ReadersCloseExactly at_first (last_of at_first (host_moments at_first run)).state readers
+  pub stops-close_readers : (all : List Reply) (stop : Stop) (writers : List Writer) (readers : List Reader) → host_play [] at_first run ≡ Halts all stop writers readers
+      → ReadersCloseExactly at_first (end_world at_first (host_moments at_first run)).state readers
   stops-close_readers all stop writers readers e =
-      stop-closes (last_of at_first (host_moments at_first run)) stop writers readers (play-halts stop writers readers [] at_first run all e) run-stands
+      stop-closes (end_world at_first (host_moments at_first run)) stop writers readers (host_play-halts stop writers readers [] at_first run all e) run-stands

@@ -24,8 +24,8 @@ use Rattle.strm_host_machine.specs.Outcomes.{Goes}
 use Rattle.strm_host_machine.specs.HostRefusals.{is_unknown_host, refusal_in}
 use Rattle.strm_host_machine.specs.Attaching.{piped}
 use Rattle.strm_host_machine.specs.Steps.{performs_in, unless_refused_in, outcome}
-use Rattle.strm_host_laws.specs.HostMoments.{Part, Acts, HostMoment, part_on, first_moments, last_of}
-use Rattle.strm_host_laws.specs.HostLaws.{used, used_by, all_used_by, granted_in, all_granted, ReaderGoesOn}
+use Rattle.strm_host_laws.specs.HostMoments.{Part, Acts, HostMoment, part_on, first_moments, end_world}
+use Rattle.strm_host_laws.specs.HostLaws.{used_records, used_by, all_used_by, granted_in, all_granted, ReaderGoesOn}
 use Rattle.strm_host_laws.proofs.Chains.{is_part, Follows, Chain, first-chain}
 use Rattle.strm_host_laws.proofs.Fed.{set-relates, used_are, heard_none, heard_both}
 use Rattle.strm_host_laws.proofs.WrittenBack.{leaves_writer-readers}
@@ -221,15 +221,15 @@ moment-moves : (w : World) (m : HostMoment) → Follows w m → (r : ℕ) → Mo
 moment-moves w m f r =
     subst (λ v. Moves r m.part m.reply (reader_at v r) (reader_at m.after r)) f.begins (part-moves m.before m.part m.reply m.after f.part f.goes r)
 
-chain-goes_on : (r : ℕ) (w : World) (all : List HostMoment) → Chain w all → ReaderGoesOn r all (reader_at w r) (reader_at (last_of w all) r)
+chain-goes_on : (r : ℕ) (w : World) (all : List HostMoment) → Chain w all → ReaderGoesOn r all (reader_at w r) (reader_at (end_world w all) r)
 chain-goes_on r w [] c = record { records = refl; spoken = omega arith; heard = heard_none (reader_at w r).heard; kind = refl; payload = refl }
 chain-goes_on r w (m ∷ more) c =
     let h = moment-moves w m c.0 r in
     let rest = chain-goes_on r m.after more c.1 in
     let a = reader_at w r in
-    let last = reader_at (last_of m.after more) r in
+    let last = reader_at (end_world m.after more) r in
     let same : reader_at m.before r ≡ a = ap (λ v. reader_at v r) c.0.begins in
-    let used_here : used_by r m ≡ h.said = ap (λ (x : Reader). used x.coming (reader_at m.after r).coming) same ∙ used_are a.coming (reader_at m.after r).coming h.said h.records in
+    let used_here : used_by r m ≡ h.said = ap (λ (x : Reader). used_records x.coming (reader_at m.after r).coming) same ∙ used_are a.coming (reader_at m.after r).coming h.said h.records in
     let granted_here : granted_in r (reader_at m.before r).spoken m.part m.reply ≡ granted_in r a.spoken m.part m.reply = ap (λ (x : Reader). granted_in r x.spoken m.part m.reply) same in
     let l = length-append (used_by r m) (all_used_by r more) in
     let k = ap length used_here in
@@ -249,5 +249,5 @@ chain-goes_on r w (m ∷ more) c =
       payload = rest.payload ∙ h.payload;
     }
 
-pub run-reader_goes_on : (first : World) (run : List Step) (count r : ℕ) → ReaderGoesOn r (first_moments count first run) (reader_at first r) (reader_at (last_of first (first_moments count first run)) r)
+pub run-reader_goes_on : (first : World) (run : List Step) (count r : ℕ) → ReaderGoesOn r (first_moments count first run) (reader_at first r) (reader_at (end_world first (first_moments count first run)) r)
 run-reader_goes_on first run count r = chain-goes_on r first (first_moments count first run) (first-chain count first run)

@@ -28,7 +28,7 @@ use Rattle.strm_host_machine.specs.Outcomes.{reacted}
 use Rattle.strm_host_machine.specs.World.{World, stream_in}
 use Rattle.strm_host_machine.proofs.SettleLemmas.{told-nothing}
 use Rattle.strm_host_laws.specs.HostMoments.{Acts}
-use Rattle.strm_host_laws.specs.Isolation.{Stays}
+use Rattle.strm_host_laws.specs.Isolation.{StreamStaysWhole}
 use Rattle.strm_host_laws.proofs.Tracing.{held_for, over_for, seen, course_of}
 use Rattle.strm_host_laws.proofs.CourseRuns.{streams_in}
 use Rattle.strm_host_laws.proofs.Goings.{with_state}
@@ -100,7 +100,7 @@ module _ (w : World) (h : Holds w.state) where
     member_tells None e =
         let same : then_told ≡ w = ap (with_state w) (told-nothing w.state told_stream told_side e) in
         ToNone
-        (λ k. (record { events = refl; answers = refl }, subst (Stays k w) (sym same) (stays-itself k w)))
+        (λ k. (record { events = refl; answers = refl }, subst (StreamStaysWhole k w) (sym same) (stays-itself k w)))
         (ap streams_in same)
 
   poll-formed : (g set : ℕ) (o : Option ℕ) → ready_in w.state g set ≡ o → Formed w h (OnSet g set set_acts.Poll) (reacted w (polls w.state g o))

@@ -26,11 +26,11 @@ use Rattle.strm_host_machine.specs.World.{World, stream_in, writer_at, reader_at
 use Rattle.strm_host_machine.specs.Outcomes.{Outcome, Goes, Stops, Stuck, done, then_on}
 use Rattle.strm_host_machine.specs.Polls.{is_failed, same_flag, is_writer_poll, writer_says, is_reader_poll, tells_truly, reader_says}
 use Rattle.strm_host_machine.specs.Settling.{with_some_received, since_after}
-use Rattle.strm_host_machine.specs.Producing.{is_last, with_answer}
+use Rattle.strm_host_machine.specs.WriterTurn.{is_last, with_answer}
 use Rattle.strm_host_machine.specs.Attaching.{has_items}
 use Rattle.strm_host_machine.specs.Piping.{wants_items, fetches, gathered, is_resting, passed_on, offers, is_done_with, is_run_dry, both_gone, ends_if_done, pipe_round}
 use Rattle.strm_host_machine.proofs.WorldLemmas.{set-same}
-use Rattle.strm_host_laws.specs.HostLaws.{items_of, count_taken}
+use Rattle.strm_host_laws.specs.HostLaws.{items_of_records, count_taken}
 use Rattle.strm_host_laws.proofs.Goings.{with_state, IfGoes, some_received-kind, written-streams, with_stream_in-same}
 
 -- FETCHING
@@ -46,7 +46,7 @@ fetched_world w n producer kept writer = record {
 -- a host writer is polled where nothing is held and the reader does not wait; on a future it produces one item at
 -- most
 pub record FetchesOnce (w : World) (s n r : ℕ) (said : List WriterSaid) : Type 0 where
-  pub one : (stream_in w s).kind ≡ Future → length (items_of said) ≤ 1
+  pub one : (stream_in w s).kind ≡ Future → length (items_of_records said) ≤ 1
   pub none : (said ≡ []) ⊎ ((held_of w n ≡ []) × ((consumer_at w.state r).resting ≡ false))
 
 -- it used these records, and their items are kept
@@ -58,7 +58,7 @@ record Fetched (w : World) (s n r : ℕ) (f : World) : Type 0 where
   is : f ≡ fetched_world w n producer kept writer
   duty : producer.duty ≡ (producer_at w.state n).duty
   coming : (writer_at w n).coming ≡ said ++ (writer_at f n).coming
-  balance : held_of w n ++ items_of said ≡ held_of f n
+  balance : held_of w n ++ items_of_records said ≡ held_of f n
   wants : FetchesOnce w s n r said
 
 -- a record that does not say Failed, and breaks no rule
@@ -210,7 +210,7 @@ pub record Passed (w : World) (s n r : ℕ) (v : World) : Type 0 where
   pub serves : consumer.duty ≡ (consumer_at w.state r).duty
   pub open_ : reader.closed ≡ (reader_at w r).closed
   pub coming : (writer_at w n).coming ≡ said ++ (writer_at but n).coming
-  pub balance : held_of w n ++ items_of said ≡ items ++ held_of but n
+  pub balance : held_of w n ++ items_of_records said ≡ items ++ held_of but n
   pub records : (reader_at w r).coming ≡ told ++ (reader_at but r).coming
   pub holds : (reader_at but r).holds ≡ option_map (λ xs. xs ++ items) (reader_at w r).holds
   pub wants : FetchesOnce w s n r said
@@ -273,7 +273,7 @@ module _ (w : World) (s n r : ℕ) (known : n < length w.state.kept) (producer :
   abbrev f : World
   f = fetched_world w n producer kept writer
 
-  module _ (duty : producer.duty ≡ (producer_at w.state n).duty) (coming : (writer_at w n).coming ≡ said ++ (writer_at f n).coming) (balance : held_of w n ++ items_of said ≡ held_of f n) (wants : FetchesOnce w s n r said) where
+  module _ (duty : producer.duty ≡ (producer_at w.state n).duty) (coming : (writer_at w n).coming ≡ said ++ (writer_at f n).coming) (balance : held_of w n ++ items_of_records said ≡ held_of f n) (wants : FetchesOnce w s n r said) where
     -- what comes of a part that goes on
     abbrev GoesSo : Outcome → Type 0
     GoesSo o = IfGoes o (HasPassed w s n r)

@@ -12,7 +12,7 @@ use Rattle.strm_machine.specs.State.{Guest, no_stream, is_host, is_loose}
 use Rattle.strm_machine.specs.Sides.{opposite, end_of}
 use Rattle.strm_machine.specs.Turns.{Turn}
 use Rattle.strm_machine.specs.Endings.{report_on, delivered, dropped, cancelled, cancelled_end, code_of_cancel, waits_for_host}
-use Rattle.strm_machine.specs.Moves.{without_handle, next_in, given, with_owner}
+use Rattle.strm_machine.specs.Moves.{without_handle, next_in, handle_given, with_owner}
 use Rattle.strm_machine.specs.Tests.{named, end_named, stream_named, side_named, items_asked, is_busy, is_cancel_under_way}
 use Rattle.strm_machine.specs.Moments.{names}
 use Rattle.strm_machine.specs.Refusals.{where_, on_end_reasons, first_of, refusal}
@@ -40,13 +40,13 @@ use Rattle.strm_machine.proofs.ShapeLemmas.{operate-fits}
 use Rattle.strm_machine.proofs.Shapes.{turn_on, begun_on, Operates}
 use Rattle.strm_machine.proofs.SideLemmas.{same_side_is}
 use Rattle.strm_machine.proofs.SoundStepLemmas.{operate-keeps}
-use Rattle.strm_host_machine.specs.Courses.{Course, Poll, StreamEvent, AGuest, NoGuest, Calls, Hears, Cancels, Drops, Moves, reaches, end_on, held_by, dropped_by, moved_to, is_answered, course_by}
+use Rattle.strm_host_machine.specs.Courses.{Course, CoursePoll, StreamEvent, AGuest, NoGuest, Calls, Hears, Cancels, Drops, Moves, reaches, end_on, with_holder, dropped_by, moved_to, is_answered, course_by}
 use Rattle.strm_host_machine.specs.Outcomes.{Outcome, reacted}
 use Rattle.strm_host_machine.specs.Steps.{reacts}
 use Rattle.strm_host_machine.specs.World.{World, stream_in}
 use Rattle.strm_host_machine.proofs.SettleLemmas.{delivered-owners}
 use Rattle.strm_host_laws.specs.HostMoments.{Acts, HostMoment}
-use Rattle.strm_host_laws.specs.Isolation.{Stays}
+use Rattle.strm_host_laws.specs.Isolation.{StreamStaysWhole}
 use Rattle.strm_host_laws.specs.StreamEvents.{polls_across, by_name, by_loose_act, events_by_number, code_answered}
 use Rattle.strm_host_laws.proofs.Tracing.{holder_of, held_for, over_for, seen, course_of}
 use Rattle.strm_host_laws.proofs.CourseLemmas.{delivered-seen, cancelled-seen, owner-seen, dropped-seen, turn-seen}
@@ -111,7 +111,7 @@ module _ (w : World) (guests : List Guest) (s : ℕ) (x : Stream) (made : s < le
 
 -- ## What names nothing
 
-refused-name : (side : Side) (act : Act) (r : Refusal) (polls : List Poll) → by_name side act (replies.Refused r) polls ≡ []
+refused-name : (side : Side) (act : Act) (r : Refusal) (polls : List CoursePoll) → by_name side act (replies.Refused r) polls ≡ []
 refused-name side (OnEnd on end (Operate address count)) r polls = refl
 refused-name side (OnEnd on end Cancel) r polls = refl
 refused-name side (OnEnd on end Drop) r polls = refl
@@ -137,7 +137,7 @@ refused-number k m (OnHost host (host_acts.Grant count)) r = refl
 refused-number k m _ r = refl
 
 -- the world stays
-pub stays-itself : (k : ℕ) (w : World) → Stays k w w
+pub stays-itself : (k : ℕ) (w : World) → StreamStaysWhole k w w
 stays-itself k w = record {
   stream = refl;
   writer = λ n o. record { producer = refl; kept = refl; holds = refl };
@@ -328,12 +328,12 @@ module _ (w : World) (h : Holds w.state) where
         })
 
     -- another owner, that no host end is
-    owned-course : (guests : List Guest) (o : Owner) → at < length w.state.streams → is_host o ≡ false → is_host (end_of side it).owner ≡ false → held_by side (course_of at w) (holder_of o) ≡ course_of at (set_one w guests at (with_owner side it o))
+    owned-course : (guests : List Guest) (o : Owner) → at < length w.state.streams → is_host o ≡ false → is_host (end_of side it).owner ≡ false → with_holder side (course_of at w) (holder_of o) ≡ course_of at (set_one w guests at (with_owner side it o))
     owned-course guests o made new old = by side new old
       where
-        by : (side : Side) → is_host o ≡ false → is_host (end_of side it).owner ≡ false → held_by side (course_of at w) (holder_of o) ≡ course_of at (set_one w guests at (with_owner side it o))
+        by : (side : Side) → is_host o ≡ false → is_host (end_of side it).owner ≡ false → with_holder side (course_of at w) (holder_of o) ≡ course_of at (set_one w guests at (with_owner side it o))
         by Writing new old =
-            ap (λ c. held_by Writing c (holder_of o)) (unhosted-course at w old)
+            ap (λ c. with_holder Writing c (holder_of o)) (unhosted-course at w old)
             ∙ owner-seen 0 false Writing it o
             ∙ sym (set-course_unhosted w guests at (with_owner Writing it o) made new)
         by Reading new old =
@@ -344,7 +344,7 @@ module _ (w : World) (h : Holds w.state) where
     unfolding course_by
     moved-course guests o made new old = ap (reaches None) (to side o new (course_of at w) ∙ owned-course guests o made new old)
       where
-        to : (side : Side) (o : Owner) → is_host o ≡ false → (c : Course) → moved_to side (holder_of o) c ≡ held_by side c (holder_of o)
+        to : (side : Side) (o : Owner) → is_host o ≡ false → (c : Course) → moved_to side (holder_of o) c ≡ with_holder side c (holder_of o)
         to Writing o e c = refl
         to Reading (Held g handle) e c = refl
         to Reading Loose e c = refl
@@ -396,7 +396,7 @@ module _ (w : World) (h : Holds w.state) where
       let freed = without_handle w.state end.guest end.handle in
       let number = next_in freed to in
       let reply = replies.Number number in
-      single (Transfer end to) reply (given freed to side end.ty s).guests s (with_owner side (stream_in w s) (Held to number)) side (record {
+      single (Transfer end to) reply (handle_given freed to side end.ty s).guests s (with_owner side (stream_in w s) (Held to number)) side (record {
         made = found.made;
         named = found.named reply;
         free = λ k. refl;
@@ -404,7 +404,7 @@ module _ (w : World) (h : Holds w.state) where
         code = None;
         is_event = refl;
         answers = refl;
-        course = moved-course side end (given freed to side end.ty s).guests (Held to number) found.made refl (guest_has s end.guest end.handle side (h.held.agree.named end.guest end.handle s side found.held));
+        course = moved-course side end (handle_given freed to side end.ty s).guests (Held to number) found.made refl (guest_has s end.guest end.handle side (h.held.agree.named end.guest end.handle s side found.held));
       })
 
   -- an end is told its report
@@ -470,7 +470,7 @@ module _ (w : World) (h : Holds w.state) where
       let fits = lower_fits w.state s g ty e in
       let made = loose_made w.state s fits.loose in
       let number = next_in w.state g in
-      let guests = (given w.state g Reading ty s).guests in
+      let guests = (handle_given w.state g Reading ty s).guests in
       let x = with_owner Reading (stream_in w s) (Held g number) in
       loosely s (Lower g ty) (replies.Number number) guests x (record {
         made = made;
@@ -480,7 +480,7 @@ module _ (w : World) (h : Holds w.state) where
         course = moves s guests (Held g number) made;
       })
     where
-      moves : (s : ℕ) (guests : List Guest) (o : Owner) → s < length w.state.streams → reaches None (held_by Reading (course_of s w) (holder_of o)) ≡ reaches None (course_of s (set_one w guests s (with_owner Reading (stream_in w s) o)))
+      moves : (s : ℕ) (guests : List Guest) (o : Owner) → s < length w.state.streams → reaches None (with_holder Reading (course_of s w) (holder_of o)) ≡ reaches None (course_of s (set_one w guests s (with_owner Reading (stream_in w s) o)))
       moves s guests o made =
           ap (reaches None)
           (owner-seen (held_for w (stream_in w s).writer.owner) (over_for w (stream_in w s).writer.owner) Reading (stream_in w s) o

@@ -54,18 +54,18 @@ use Rattle.strm_host_machine.specs.HostRefusals.{is_used}
 use Rattle.strm_buffers.specs.Tells.{Tells}
 use Rattle.std.specs.Option.{option_map}
 use Rattle.strm_host_machine.specs.World.{World}
-use Rattle.strm_host_machine.specs.Does.{start}
+use Rattle.strm_host_machine.specs.Does.{start_world}
 use Rattle.strm_host_machine.specs.Settling.{with_some_received}
 use Rattle.strm_host_machine.specs.Attaching.{withdrawn, piped, without_ends, forsaken}
 use Rattle.strm_host_laws.proofs.Goings.{some_received-by, some_received-end, some_received-payload, some_received-kind}
 use Rattle.strm_host_machine.proofs.SettleLemmas.{is_done_with}
-use Rattle.strm_host_laws.specs.HostMoments.{Part, HostMoment, first_moments, last_of}
+use Rattle.strm_host_laws.specs.HostMoments.{Part, HostMoment, first_moments, end_world}
 use Rattle.strm_host_laws.proofs.Chains.{Follows, Chain, first-chain}
 use Rattle.strm_host_laws.proofs.HostTurns.{leaves_ended, both_ended, with_done, turned_stream, turned_by, Fills, Turned, end_twice}
 use Rattle.strm_host_laws.proofs.Effects.{opened_by, Driven, Calls, Hosts, piped_in, Piped, ByStaying, ByGone, ByDry, Effect, ByReaction, ByRest, ByHosting, ByPiping, ByDriving, ByPassing, ByCalling, ByForsaking, both_over, Passes, passing_made, host_made, follows_effect}
 use Rattle.strm_host_laws.proofs.TurnMoves.{Moves, moved_on-moves, moved-theirs, moved-mine, moves-placed}
 use Rattle.strm_host_laws.proofs.HostsAgree.{StaysOrFree, IsHeld-either, set_either, no_two, one_stream, HostsHold-changed, StaysIdle, HostsHold-set}
-use Rattle.strm_host_machine.proofs.LoweredLemmas.{lowered-keeps}
+use Rattle.strm_host_machine.proofs.LoweredLemmas.{lowered_items-keeps}
 
 -- ## A read end that is loose
 
@@ -161,7 +161,7 @@ free_or false owner n e = inl refl
 fills_keep : (side : Side) (old : List Guest) (payload : Payload) (operation : Operation) (count : ℕ) (new : List Guest) → Fills side old payload operation count new → IsPlaced (sizes_of old) payload operation → count ≤ operation.left → GuestsKeep old new
 fills_keep Writing old payload operation count new f p l = subst (GuestsKeep old) (sym f) (all_kept old)
 fills_keep Reading old payload operation count new f p l =
-    subst (GuestsKeep old) (sym f.is) (lowered-keeps old payload operation f.items p (omega (arith, f.long, l)))
+    subst (GuestsKeep old) (sym f.is) (lowered_items-keeps old payload operation f.items p (omega (arith, f.long, l)))
 
 module _ (side : Side) (old new : State) (s n : ℕ) (operation : Operation) (h : Holds old) (o : (end_of (opposite side) (stream_at old s)).owner ≡ Host n) (w : (end_of side (stream_at old s)).operation ≡ Some operation) (t : Turned side old new s n operation) where
   module _ (p : IsPlaced (sizes_of old.guests) (stream_at old s).payload operation) where
@@ -871,7 +871,7 @@ module _ (old new : State) (reply : Reply) (h : Holds old) where
 pub Holds-next : (world : World) (m : HostMoment) → Follows world m → Holds world.state → Holds m.after.state
 Holds-next world m f h = Holds-effect world.state m.after.state m.reply h m.part (follows_effect world m h.hosts f)
 
-pub Holds-chain : (world : World) (all : List HostMoment) → Chain world all → Holds world.state → Holds (last_of world all).state
+pub Holds-chain : (world : World) (all : List HostMoment) → Chain world all → Holds world.state → Holds (end_world world all).state
 Holds-chain world [] c h = h
 Holds-chain world (m ∷ more) c h = Holds-chain m.after more c.1 (Holds-next world m c.0 h)
 
@@ -884,7 +884,7 @@ Holds-empty tag limits = record {
 }
 
 -- after whichever steps of a run from an unused store among whichever host ends
-pub run-holds : (tag : ℕ) (limits : Limits) (old new : Tells) (run : List Step) (count : ℕ) → Holds (last_of (start tag limits old new) (first_moments count (start tag limits old new) run)).state
+pub run-holds : (tag : ℕ) (limits : Limits) (old new : Tells) (run : List Step) (count : ℕ) → Holds (end_world (start_world tag limits old new) (first_moments count (start_world tag limits old new) run)).state
 run-holds tag limits old new run count =
-    let first = start tag limits old new in
+    let first = start_world tag limits old new in
     Holds-chain first (first_moments count first run) (first-chain count first run) (Holds-empty tag limits)

@@ -12,7 +12,7 @@ use Rattle.strm_machine.specs.declared.steps.Step.{Step}
 use Rattle.strm_host_machine.specs.World.{World}
 use Rattle.strm_host_machine.specs.Outcomes.{Outcome, Goes, Stops, Stuck}
 use Rattle.strm_host_machine.specs.Driving.{numbers_from}
-use Rattle.strm_laws.specs.Laws.{HasBytes}
+use Rattle.strm_laws.specs.Laws.{StepHasBytes}
 use Rattle.strm_host_laws.specs.HostMoments.{Part, Acts, Turns, HostMoment, parts_of, part_on, followed, acted, host_moments, first_moments}
 
 -- of so many, those left for stream s after a part: an act takes one, and the turn of the stream itself
@@ -100,16 +100,16 @@ module _ (s : ℕ) where
   step_costs world act next n true p h = act_costs world act (part_on world (Acts act)) (λ v. acted v [] next) n p h
   step_costs world act next n false p h = parts_cost world act next n p h
 
-  pub moments_cost : (world : World) (run : List Step) → All HasBytes run → Costs s (host_moments world run) (length run)
+  pub moments_cost : (world : World) (run : List Step) → All StepHasBytes run → Costs s (host_moments world run) (length run)
   moments_cost world [] b = tt
   moments_cost world (step ∷ more) b =
-      step_costs world (act_of step) (λ v. host_moments v more) (length more) world.state.trapped (All-head HasBytes step more b)
-      (λ v. moments_cost v more (All-tail HasBytes step more b))
+      step_costs world (act_of step) (λ v. host_moments v more) (length more) world.state.trapped (All-head StepHasBytes step more b)
+      (λ v. moments_cost v more (All-tail StepHasBytes step more b))
 
   front_cost : (count : ℕ) (all : List HostMoment) (n : ℕ) → Costs s all n → Costs s (take count all) n
   front_cost zero all n c = tt
   front_cost (suc k) [] n c = tt
   front_cost (suc k) (m ∷ more) n c = (c.0, front_cost k more (left_after s m.part n) c.1)
 
-  pub first_cost : (count : ℕ) (world : World) (run : List Step) → All HasBytes run → Costs s (first_moments count world run) (length run)
+  pub first_cost : (count : ℕ) (world : World) (run : List Step) → All StepHasBytes run → Costs s (first_moments count world run) (length run)
   first_cost count world run b = front_cost count (host_moments world run) (length run) (moments_cost world run b)

@@ -33,15 +33,15 @@ use Rattle.strm_machine.proofs.ShapeLemmas.{operate-fits}
 use Rattle.strm_machine.proofs.Shapes.{Operates}
 use Rattle.strm_machine.proofs.TableLemmas.{OwnersStay}
 use Rattle.strm_host_machine.specs.Attaching.{hosts_new, pipes, forsakes}
-use Rattle.strm_host_machine.specs.Consuming.{consumer_turn}
-use Rattle.strm_host_machine.specs.Courses.{Course, AHost, Calls, Turns, Reached, reaches, hears, answers_then, code_or_blocked, called_by, turn_across, with_progress, begins, course_by, report_at}
+use Rattle.strm_host_machine.specs.ReaderTurn.{reader_turn}
+use Rattle.strm_host_machine.specs.Courses.{Course, AHost, Calls, Turns, Reached, reaches, hears, answers_then, code_or_blocked, called_by, after_turn_across, with_progress, begins, course_by, report_at}
 use Rattle.strm_host_machine.specs.Courses as courses
 use Rattle.strm_host_machine.specs.Driving.{if_open, driven_by, drive_turn}
 use Rattle.strm_host_machine.specs.HostRefusals.{refusal_in}
 use Rattle.strm_host_machine.specs.Outcomes.{Outcome, Goes, Stops, Stuck, then_on, reacted}
 use Rattle.strm_host_machine.specs.Piping.{pipe_round}
-use Rattle.strm_host_machine.specs.Producing.{producer_turn}
-use Rattle.strm_host_machine.specs.Settling.{answered_with, answered}
+use Rattle.strm_host_machine.specs.WriterTurn.{writer_turn}
+use Rattle.strm_host_machine.specs.Settling.{answered_with, turn_answered}
 use Rattle.strm_host_machine.specs.Steps.{reacts, reads_from, writes_to, operates_by, drops_in, on_host, performs_in, unless_refused_in, outcome}
 use Rattle.strm_host_machine.specs.World.{World, stream_in, writer_at, reader_at, with_stream_in}
 use Rattle.strm_host_machine.proofs.OutcomeLemmas.{refusal_in-on_end}
@@ -49,9 +49,9 @@ use Rattle.strm_host_machine.proofs.SettleLemmas.{delivered-owners}
 use Rattle.strm_host_machine.proofs.TouchLemmas.{names_none, refusal-none}
 use Rattle.strm_buffers.specs.Listing.{Item}
 use Rattle.strm_buffers.specs.declared.answers.ReaderSaid.{ReaderSaid}
-use Rattle.strm_host_laws.specs.HostLaws.{used}
+use Rattle.strm_host_laws.specs.HostLaws.{used_records}
 use Rattle.strm_host_laws.specs.HostMoments.{Part, Acts, Turns as TurnsOf, HostMoment, part_on}
-use Rattle.strm_host_laws.specs.StreamEvents.{poll_of, poll_of_reader, polls_by_writer, polls_by_reader, produced_polls, taken_polls, polls_across}
+use Rattle.strm_host_laws.specs.StreamEvents.{poll_of_record, poll_of_reader, polls_by_writer, polls_by_reader, produced_polls, taken_polls, polls_across}
 use Rattle.strm_host_laws.proofs.Tracing.{holder_of, progress_of, held_for, over_for, course_of}
 use Rattle.strm_host_laws.proofs.Chains.{is_part}
 use Rattle.strm_host_laws.proofs.Closed.{Stands}
@@ -73,12 +73,12 @@ use Rattle.strm_host_laws.proofs.PipeCourses.{Rounds, round-so}
 -- what is done to the stream itself uses no record
 module _ (s : ℕ) where
   polls_from : (side : Side) (n : ℕ) (a b : World) (x : Stream) → polls_used side n (with_stream_in a s x) b ≡ polls_used side n a b
-  polls_from Reading n a b x = ap (λ xs. map poll_of (used xs (writer_at b n).coming)) (back-coming a s x n)
-  polls_from Writing r a b x = ap (λ (q : Option (List Item) × List ReaderSaid). map poll_of_reader (used q.1 (reader_at b r).coming)) (back-told a s x r)
+  polls_from Reading n a b x = ap (λ xs. map poll_of_record (used_records xs (writer_at b n).coming)) (back-coming a s x n)
+  polls_from Writing r a b x = ap (λ (q : Option (List Item) × List ReaderSaid). map poll_of_reader (used_records q.1 (reader_at b r).coming)) (back-told a s x r)
 
   polls_to : (side : Side) (n : ℕ) (a b : World) (x : Stream) → polls_used side n a (with_stream_in b s x) ≡ polls_used side n a b
-  polls_to Reading n a b x = ap (λ xs. map poll_of (used (writer_at a n).coming xs)) (back-coming b s x n)
-  polls_to Writing r a b x = ap (λ (q : Option (List Item) × List ReaderSaid). map poll_of_reader (used (reader_at a r).coming q.1)) (back-told b s x r)
+  polls_to Reading n a b x = ap (λ xs. map poll_of_record (used_records (writer_at a n).coming xs)) (back-coming b s x n)
+  polls_to Writing r a b x = ap (λ (q : Option (List Item) × List ReaderSaid). map poll_of_reader (used_records (reader_at a r).coming q.1)) (back-told b s x r)
 
 across-polls : (side : Side) (s n : ℕ) (m : HostMoment) → (end_of (opposite side) (stream_in m.before s)).owner ≡ Host n → polls_across s side m ≡ polls_used side n m.before m.after
 across-polls Reading s n m e = ap (polls_by_writer m) e
@@ -150,7 +150,7 @@ module _ (first w : World) (h : Holds w.state) (stands : Stands first w) where
           by Loose u = same
           by Gone u = same
 
-      open-read : (o : Option Operation) → it.reader.operation ≡ o → FormedBy (TurnsOf s) (if_open w o (producer_turn w s n))
+      open-read : (o : Option Operation) → it.reader.operation ≡ o → FormedBy (TurnsOf s) (if_open w o (writer_turn w s n))
       open-read None g = driven-so (Host n) reader replies.Done w owners (read-drives None g replies.Done w refl) (unchanged s)
       open-read (Some read) g =
           let there = stands.there s n owners.wrote in
@@ -158,13 +158,13 @@ module _ (first w : World) (h : Holds w.state) (stands : Stands first w) where
           let all = h.hosts.all in
           let unkept = nothing_kept w.state s n h.hosts owners.wrote (ap is_host owners.read ∙ u) in
           cond_both read.is_open _ _ (FormedBy (TurnsOf s))
-          (λ b. turned b (producer_turn w s n read) (writer-leads w s n read made owners.wrote there.there (omega (arith, small, all)) unkept))
-          (λ b. driven-so (Host n) reader replies.Done w owners (read-drives (Some read) g replies.Done w (ap (λ x. cond x (courses.turn_across Reading (course_of s w) (progress_of read) (polls_used Reading n w w)) (course_of s w)) b)) (unchanged s))
+          (λ b. turned b (writer_turn w s n read) (writer-leads w s n read made owners.wrote there.there (omega (arith, small, all)) unkept))
+          (λ b. driven-so (Host n) reader replies.Done w owners (read-drives (Some read) g replies.Done w (ap (λ x. cond x (courses.after_turn_across Reading (course_of s w) (progress_of read) (polls_used Reading n w w)) (course_of s w)) b)) (unchanged s))
         where
           turned : read.is_open ≡ true → (o : Outcome) → IfGoes o (λ reply v. Leads Reading w s n read v) → FormedBy (TurnsOf s) o
           turned b (Goes reply v) l =
               driven-so (Host n) reader reply v owners
-              (read-drives (Some read) g reply v (ap (λ x. cond x (courses.turn_across Reading (course_of s w) (progress_of read) (polls_used Reading n w v)) (course_of s w)) b ∙ l.course))
+              (read-drives (Some read) g reply v (ap (λ x. cond x (courses.after_turn_across Reading (course_of s w) (progress_of read) (polls_used Reading n w v)) (course_of s w)) b ∙ l.course))
               (record { only = l.only; many = l.many })
           turned b (Stops stop writers readers) l = tt
           turned b Stuck l = tt
@@ -184,17 +184,17 @@ module _ (first w : World) (h : Holds w.state) (stands : Stands first w) where
           by Loose u = same
           by Gone u = same
 
-      open-write : (o : Option Operation) → it.writer.operation ≡ o → FormedBy (TurnsOf s) (if_open w o (consumer_turn w s r))
+      open-write : (o : Option Operation) → it.writer.operation ≡ o → FormedBy (TurnsOf s) (if_open w o (reader_turn w s r))
       open-write None g = driven-so writer (Host r) replies.Done w owners (write-drives None g replies.Done w refl) (unchanged s)
       open-write (Some write) g =
           cond_both write.is_open _ _ (FormedBy (TurnsOf s))
-          (λ b. turned b (consumer_turn w s r write) (reader-leads w s r write made owners.read))
-          (λ b. driven-so writer (Host r) replies.Done w owners (write-drives (Some write) g replies.Done w (ap (λ x. cond x (courses.turn_across Writing (course_of s w) (progress_of write) (polls_used Writing r w w)) (course_of s w)) b)) (unchanged s))
+          (λ b. turned b (reader_turn w s r write) (reader-leads w s r write made owners.read))
+          (λ b. driven-so writer (Host r) replies.Done w owners (write-drives (Some write) g replies.Done w (ap (λ x. cond x (courses.after_turn_across Writing (course_of s w) (progress_of write) (polls_used Writing r w w)) (course_of s w)) b)) (unchanged s))
         where
           turned : write.is_open ≡ true → (o : Outcome) → IfGoes o (λ reply v. Leads Writing w s r write v) → FormedBy (TurnsOf s) o
           turned b (Goes reply v) l =
               driven-so writer (Host r) reply v owners
-              (write-drives (Some write) g reply v (ap (λ x. cond x (courses.turn_across Writing (course_of s w) (progress_of write) (polls_used Writing r w v)) (course_of s w)) b ∙ l.course))
+              (write-drives (Some write) g reply v (ap (λ x. cond x (courses.after_turn_across Writing (course_of s w) (progress_of write) (polls_used Writing r w v)) (course_of s w)) b ∙ l.course))
               (record { only = l.only; many = l.many })
           turned b (Stops stop writers readers) l = tt
           turned b Stuck l = tt
@@ -312,12 +312,12 @@ module _ (first w : World) (h : Holds w.state) (stands : Stands first w) where
           l.only)
 
       -- the course until then
-      mid-course : (polls : List courses.Poll) → polls ≡ polls_used side n open_world mid → course_by (Calls side (items_asked end.ty count) polls) (course_of here w) ≡ answers_then side (course_of here mid)
+      mid-course : (polls : List courses.CoursePoll) → polls ≡ polls_used side n open_world mid → course_by (Calls side (items_asked end.ty count) polls) (course_of here w) ≡ answers_then side (course_of here mid)
       unfolding course_by
       mid-course polls e =
           ap (λ k. called_by k side (course_of here w) (items_asked end.ty count) polls) (holder-across side stream held over ∙ ap holder_of host)
-          ∙ ap (λ c. answers_then side (turn_across side c (progress_of operation) polls)) open-course
-          ∙ ap (λ ps. answers_then side (turn_across side (course_of here open_world) (progress_of operation) ps)) e
+          ∙ ap (λ c. answers_then side (after_turn_across side c (progress_of operation) polls)) open-course
+          ∙ ap (λ ps. answers_then side (after_turn_across side (course_of here open_world) (progress_of operation) ps)) e
           ∙ ap (answers_then side) l.course
 
       -- its report
@@ -369,7 +369,7 @@ module _ (first w : World) (h : Holds w.state) (stands : Stands first w) where
             many = back-length mid here y ∙ mid_long;
           })
 
-    then-formed : (u : Outcome) → IfGoes u (λ reply mid. Leads side open_world here n operation mid) → FormedBy (Acts calling) (then_on u (λ after. answered after here side))
+    then-formed : (u : Outcome) → IfGoes u (λ reply mid. Leads side open_world here n operation mid) → FormedBy (Acts calling) (then_on u (λ after. turn_answered after here side))
     then-formed (Goes reply mid) l = answers-formed mid l (report_on side (stream_in mid here)) refl
     then-formed (Stops stop writers readers) l = tt
     then-formed Stuck l = tt
@@ -395,7 +395,7 @@ module _ (first w : World) (h : Holds w.state) (stands : Stands first w) where
       let small = there.known in
       let all = h.hosts.all in
       let guest = ap is_host (h.held.agree.named end.guest end.handle s Reading o.found.held) in
-      then-formed Reading end address count n o host (producer_turn u s n read)
+      then-formed Reading end address count n o host (writer_turn u s n read)
       (writer-leads u s n read (open_made Reading end address count n o host)
       (ap (λ (y : Stream). y.writer.owner) (open_here Reading end address count n o host) ∙ host)
       (subst (λ (y : World). n < length y.writers) (sym same) there.there)
@@ -407,7 +407,7 @@ module _ (first w : World) (h : Holds w.state) (stands : Stands first w) where
   writes-formed end address count r o host =
       let s = stream_of w end in
       let u = open_world Writing end address count r o host in
-      then-formed Writing end address count r o host (consumer_turn u s r (called end address count))
+      then-formed Writing end address count r o host (reader_turn u s r (called end address count))
       (reader-leads u s r (called end address count) (open_made Writing end address count r o host)
       (ap (λ (y : Stream). y.reader.owner) (open_here Writing end address count r o host) ∙ host))
 

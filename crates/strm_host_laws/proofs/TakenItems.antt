@@ -16,10 +16,10 @@ use Rattle.strm_machine.specs.declared.streams.Owner.TheVariants.{Host}
 use Rattle.strm_machine.specs.declared.streams.Side.TheVariants.{Writing, Reading}
 use Rattle.strm_machine.proofs.ArrivalLemmas.{decoded-items}
 use Rattle.strm_laws.specs.Laws.{AreSteps}
-use Rattle.strm_host_machine.specs.Does.{start}
+use Rattle.strm_host_machine.specs.Does.{start_world}
 use Rattle.strm_host_machine.specs.World.{World, stream_in}
 use Rattle.strm_host_laws.specs.HostMoments.{HostMoment, first_moments}
-use Rattle.strm_host_laws.specs.HostLaws.{plain, taken_in, taken_from, taken_by, host_taken_in, all_taken}
+use Rattle.strm_host_laws.specs.HostLaws.{plain, taken_in_moment, taken_from_owner, taken_by, host_taken_in, all_taken}
 use Rattle.strm_host_laws.proofs.Chains.{Follows, Chain, first-chain}
 use Rattle.strm_host_laws.proofs.Effects.{Effect, follows_effect}
 use Rattle.strm_host_laws.proofs.Forms.{IsRound, Form, part-formed}
@@ -69,7 +69,7 @@ module _ (s : ℕ) (m : HostMoment) (h : Holds m.before.state) (form : Form m.be
     one : (t : ℕ) → (stream_in m.before t).reader.owner ≡ Host r → t ≡ s
     one t e = one_stream t s (sym ((h.hosts.serve Reading r t).serves e) ∙ (h.hosts.serve Reading r s).serves owner)
 
-    from_guest : (writer : Owner) → is_host writer ≡ false → taken_from s m r writer ≡ taken_in s (plain m)
+    from_guest : (writer : Owner) → is_host writer ≡ false → taken_from_owner s m r writer ≡ taken_in_moment s (plain m)
     from_guest (Host n) e = cc
     from_guest _ e = refl
 
@@ -119,7 +119,7 @@ items_from s w (m ∷ more) n c holds room p =
 
 -- each item that a host reader took on stream s in the first moments of a run is one
 pub run_items : (tag : ℕ) (limits : Limits) (old new : Tells) (run : List Step) (count s : ℕ) → AreSteps run
-    → All IsSome (all_taken s (first_moments count (start tag limits old new) run))
+    → All IsSome (all_taken s (first_moments count (start_world tag limits old new) run))
 run_items tag limits old new run count s a =
-    let first = start tag limits old new in
+    let first = start_world tag limits old new in
     items_from s first (first_moments count first run) (length run) (first-chain count first run) (Holds-empty tag limits) (inr (omega (arith, a.few))) (first_cost s count first run a.bytes)

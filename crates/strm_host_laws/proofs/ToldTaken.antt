@@ -26,12 +26,12 @@ use Rattle.strm_machine.specs.declared.streams.Side.TheVariants.{Writing, Readin
 use Rattle.strm_machine.proofs.ArrivalLemmas.{decoded-items}
 use Rattle.strm_machine.proofs.HostLemmas.{unless_host}
 use Rattle.strm_laws.specs.Laws.{AreSteps}
-use Rattle.strm_host_machine.specs.Does.{start}
+use Rattle.strm_host_machine.specs.Does.{start_world}
 use Rattle.strm_host_machine.specs.Ends.{Reader}
 use Rattle.strm_host_machine.specs.HostRefusals.{is_used}
 use Rattle.strm_host_machine.specs.World.{World, stream_in, reader_at}
-use Rattle.strm_host_laws.specs.HostMoments.{Part, Acts, HostMoment, first_moments, last_of}
-use Rattle.strm_host_laws.specs.HostLaws.{plain, taken_in, taken_from, taken_by, host_taken_in, all_taken, is_piped_to, is_pipe_of, is_piped_in, TellsTaken}
+use Rattle.strm_host_laws.specs.HostMoments.{Part, Acts, HostMoment, first_moments, end_world}
+use Rattle.strm_host_laws.specs.HostLaws.{plain, taken_in_moment, taken_from_owner, taken_by, host_taken_in, all_taken, is_piped_to, is_pipe_of, is_piped_in, TellsTaken}
 use Rattle.strm_host_laws.proofs.Chains.{Follows, Chain, first-chain}
 use Rattle.strm_host_laws.proofs.Duties.{duty, Stays, Ends, Gets, pipes_duty, effect_duty}
 use Rattle.strm_host_laws.proofs.Effects.{Pipes, Effect, follows_effect}
@@ -233,7 +233,7 @@ module _ (s r : ℕ) (m : HostMoment) (h : Holds m.before.state) (took : Took s 
             absurd (true≢false (sym (ap is_used serves) ∙ u))
       ]
 
-  from_guest : (writer : Owner) → is_host writer ≡ false → taken_from s m r writer ≡ taken_in s (plain m)
+  from_guest : (writer : Owner) → is_host writer ≡ false → taken_from_owner s m r writer ≡ taken_in_moment s (plain m)
   from_guest (Host n) e = cc
   from_guest _ e = refl
 
@@ -341,7 +341,7 @@ module _ (s r : ℕ) where
 
   -- host reader r tells, at the last of these moments, what it took in them
   abbrev ToldIn : World → List HostMoment → Type 0
-  ToldIn w all = Told (reader_at w r) (reader_at (last_of w all) r) (all_taken s all)
+  ToldIn w all = Told (reader_at w r) (reader_at (end_world w all) r) (all_taken s all)
 
   -- once it serves it
   serving_run : (w : World) (all : List HostMoment) (n : ℕ) → Chain w all → Holds w.state → Serving w.state s r → WrittenOrRoom w.state s n → Costs s all n → All IsSome (all_taken s all) → ToldIn w all
@@ -355,14 +355,14 @@ module _ (s r : ℕ) where
       let next =
       serving_run m.after more (left_after s m.part n) c.1 (Holds-next w m c.0 holds) (serving_next m.before.state m.after.state m.part m.reply s r k.holds k.effect serving)
       (written_or_room_next s n m.before.state m.after.state m.reply k.holds has m.part p.0 k.effect) p.1 (all_back IsSome (host_taken_in s m) (all_taken s more) good) in
-      subst (λ v. Told (reader_at v r) (reader_at (last_of m.after more) r) (all_taken s (m ∷ more))) begins
-      (split m more (reader_at m.before r) (reader_at m.after r) (reader_at (last_of m.after more) r) here next)
+      subst (λ v. Told (reader_at v r) (reader_at (end_world m.after more) r) (all_taken s (m ∷ more))) begins
+      (split m more (reader_at m.before r) (reader_at m.after r) (reader_at (end_world m.after more) r) here next)
 
   told_run : (w : World) (all : List HostMoment) (n : ℕ) → Chain w all → Holds w.state → WrittenOrRoom w.state s n → Costs s all n → is_pipe_of s r all ≡ true → All IsSome (all_taken s all) → ToldIn w all
   told_run w [] n c holds room p e good = cc
   told_run w (m ∷ more) n c holds room p e good =
-      subst (λ v. Told (reader_at v r) (reader_at (last_of m.after more) r) (all_taken s (m ∷ more))) c.0.begins
-      (split m more (reader_at m.before r) (reader_at m.after r) (reader_at (last_of m.after more) r) (idle_told s r m k.holds k.took unused unread)
+      subst (λ v. Told (reader_at v r) (reader_at (end_world m.after more) r) (all_taken s (m ∷ more))) c.0.begins
+      (split m more (reader_at m.before r) (reader_at m.after r) (reader_at (end_world m.after more) r) (idle_told s r m k.holds k.took unused unread)
       (by (is_piped_to s r m.part m.reply) refl (λ f. told_run m.after more (left_after s m.part n) c.1 (Holds-next w m c.0 holds) later p.1 f rest)))
     where
       k : Known m s r
@@ -397,12 +397,12 @@ module _ (s r : ℕ) where
 
 -- host reader r tells what it took on stream s in these moments, from this world on
 abbrev pub TellsIn : World → List HostMoment → ℕ → ℕ → Type 0
-TellsIn w all s r = TellsTaken s r all (reader_at w r) (reader_at (last_of w all) r)
+TellsIn w all s r = TellsTaken s r all (reader_at w r) (reader_at (end_world w all) r)
 
 pub run-tells_taken : (tag : ℕ) (limits : Limits) (old new : Tells) (run : List Step) (count s r : ℕ) → AreSteps run
-    → TellsIn (start tag limits old new) (first_moments count (start tag limits old new) run) s r
+    → TellsIn (start_world tag limits old new) (first_moments count (start_world tag limits old new) run) s r
 run-tells_taken tag limits old new run count s r a =
-    let first = start tag limits old new in
+    let first = start_world tag limits old new in
     record {
       items = run_items tag limits old new run count s a;
       told = λ e. told_run s r first (first_moments count first run) (length run) (first-chain count first run) (Holds-empty tag limits) (inr (omega (arith, a.few))) (first_cost s count first run a.bytes) e (run_items tag limits old new run count s a);

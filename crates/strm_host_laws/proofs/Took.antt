@@ -6,7 +6,7 @@ use Rattle.std.specs.Option.{option_map}
 use Rattle.strm_buffers.specs.declared.answers.ReaderSaid.{ReaderSaid}
 use Rattle.strm_buffers.specs.Listing.{Item}
 use Rattle.strm_machine.specs.Endings.{delivered}
-use Rattle.strm_machine.specs.Moments.{Moment, Place, received, place_of, is_named}
+use Rattle.strm_machine.specs.Moments.{Moment, MemoryPlace, received, place_of, is_named}
 use Rattle.strm_machine.specs.Sides.{with_operation}
 use Rattle.strm_machine.specs.Soundness.{sizes_of}
 use Rattle.strm_machine.specs.State.{no_stream, no_consumer, stream_at, consumer_at, is_host, is_held}
@@ -25,7 +25,7 @@ use Rattle.strm_machine.proofs.NamedEndLemmas.{named_itself}
 use Rattle.strm_machine.proofs.Shapes.{operating}
 use Rattle.strm_machine.proofs.TableLemmas.{set-keeps}
 use Rattle.strm_host_machine.specs.Attaching.{piped, without_ends, forsaken, hosted_stream}
-use Rattle.strm_host_machine.specs.Consuming.{lifted}
+use Rattle.strm_host_machine.specs.ReaderTurn.{lifted_items}
 use Rattle.strm_host_machine.specs.Ends.{Reader, no_reader, polled_reader, granted_reader}
 use Rattle.strm_host_machine.specs.Settling.{result_of}
 use Rattle.strm_host_machine.specs.World.{World, stream_in, writer_at, reader_at, with_consumer}
@@ -53,8 +53,8 @@ pub record TakesOn (stream r : ℕ) (m : HostMoment) : Type 0 where
   pub busy : IsTaken Writing m.before.state stream → ⊥
   pub place : source stream (plain m) ≡ record { guest = operation.guest; address = operation.address }
   pub counts : HasRoom m.before.state stream m.part → received stream m.after.state ≡ received stream m.before.state + count
-  pub good : length (lifted m.before.state.guests (stream_in m.before stream).payload operation count) ≡ count
-  pub holds : (reader_at m.after r).holds ≡ option_map (λ xs. xs ++ lifted m.before.state.guests (stream_in m.before stream).payload operation count) (reader_at m.before r).holds
+  pub good : length (lifted_items m.before.state.guests (stream_in m.before stream).payload operation count) ≡ count
+  pub holds : (reader_at m.after r).holds ≡ option_map (λ xs. xs ++ lifted_items m.before.state.guests (stream_in m.before stream).payload operation count) (reader_at m.before r).holds
 
 -- it tells what it told and uses no record, and nothing is received on a stream of which it has the read end
 pub record RestsOn (s r : ℕ) (m : HostMoment) : Type 0 where
@@ -74,7 +74,7 @@ one_host a b e = cc
 abbrev doing : Act → Moment → Moment
 doing act m = record m { act = act }
 
-abbrev place_for : Operation → Place
+abbrev place_for : Operation → MemoryPlace
 place_for write = record { guest = write.guest; address = write.address }
 
 -- of a turn in a drive round it is that of the write that waits
@@ -97,7 +97,7 @@ module _ (w v : World) (t j : ℕ) (write : Operation) (k : Taken w t j write v)
   now = stream_taken w t write k.said
 
   abbrev polled : Reader
-  polled = polled_reader (reader_at w j) (lifted w.state.guests (stream_in w t).payload write k.said.taken) k.more
+  polled = polled_reader (reader_at w j) (lifted_items w.state.guests (stream_in w t).payload write k.said.taken) k.more
 
   -- one that has records is there
   known : j < length w.readers
@@ -107,7 +107,7 @@ module _ (w v : World) (t j : ℕ) (write : Operation) (k : Taken w t j write v)
         | inr l ↦ absurd (let past = ap (λ (x : Reader). x.coming) (get_or_past w.readers j no_reader l) in let said = k.coming in let wrong : [] ≡ k.said ∷ k.more = sym past ∙ said in cc)
       ]
 
-  holds_here : (reader_at v j).holds ≡ option_map (λ xs. xs ++ lifted w.state.guests (stream_in w t).payload write k.said.taken) (reader_at w j).holds
+  holds_here : (reader_at v j).holds ≡ option_map (λ xs. xs ++ lifted_items w.state.guests (stream_in w t).payload write k.said.taken) (reader_at w j).holds
   holds_here =
       ap (λ x. (reader_at x j).holds) k.is
       ∙ back-holds but t now j
@@ -266,14 +266,14 @@ module _ (m : HostMoment) (h : Holds m.before.state) where
               ∙ ap (λ k. k + c.turned.said.taken) was;
           good =
               let n = c.turned.said.taken in
-              subst (λ gs. length (lifted gs (stream_in w t).payload write n) ≡ n) (back-guests w t stream)
-              (subst (λ (x : Stream). length (lifted open_world.state.guests x.payload write n) ≡ n) here c.turned.good);
+              subst (λ gs. length (lifted_items gs (stream_in w t).payload write n) ≡ n) (back-guests w t stream)
+              (subst (λ (x : Stream). length (lifted_items open_world.state.guests x.payload write n) ≡ n) here c.turned.good);
           holds =
               told_holds Writing end address count j c j
               ∙ holds_here open_world c.mid t j write c.turned
-              ∙ ap (λ held. option_map (λ xs. xs ++ lifted open_world.state.guests (stream_in open_world t).payload write c.turned.said.taken) held) (first j)
-              ∙ ap (λ gs. option_map (λ xs. xs ++ lifted gs (stream_in open_world t).payload write c.turned.said.taken) (reader_at w j).holds) (back-guests w t stream)
-              ∙ ap (λ (x : Stream). option_map (λ xs. xs ++ lifted w.state.guests x.payload write c.turned.said.taken) (reader_at w j).holds) here;
+              ∙ ap (λ held. option_map (λ xs. xs ++ lifted_items open_world.state.guests (stream_in open_world t).payload write c.turned.said.taken) held) (first j)
+              ∙ ap (λ gs. option_map (λ xs. xs ++ lifted_items gs (stream_in open_world t).payload write c.turned.said.taken) (reader_at w j).holds) (back-guests w t stream)
+              ∙ ap (λ (x : Stream). option_map (λ xs. xs ++ lifted_items w.state.guests x.payload write c.turned.said.taken) (reader_at w j).holds) here;
         }))
         | inr ne ↦ Rests (record {
           told = last_told Writing end address count j c r ∙ told_other open_world c.mid t j write c.turned r ne ∙ first_told Writing end address count j c r;

@@ -24,36 +24,36 @@ use Rattle.strm_host_machine.specs.Attaching.{has_items}
 use Rattle.strm_host_machine.specs.World.{World, stream_in, writer_at, reader_at, with_guests, with_producer, with_writer, with_reader, with_stream_in}
 use Rattle.strm_host_machine.specs.Outcomes.{Outcome, Goes, Stops, Stuck, done}
 use Rattle.strm_host_machine.specs.Settling.{result_of, since_after}
-use Rattle.strm_host_machine.specs.Consuming.{lifted, consumer_turn}
+use Rattle.strm_host_machine.specs.ReaderTurn.{lifted_items, reader_turn}
 use Rattle.strm_buffers.specs.declared.answers.ReaderSaid.{ReaderSaid}
 use Rattle.strm_machine.specs.declared.streams.Owner.{Owner}
-use Rattle.strm_host_laws.specs.HostLaws.{used}
+use Rattle.strm_host_laws.specs.HostLaws.{used_records}
 use Rattle.strm_host_laws.proofs.Fed.{used_are}
 use Rattle.strm_host_laws.proofs.Rounds.{reader_there}
 use Rattle.strm_host_laws.proofs.TurnMoves.{moved-mine}
 use Rattle.strm_host_machine.specs.Polls.{AfterWriter, is_failed, is_writer_poll, writer_says}
-use Rattle.strm_host_machine.specs.Producing.{lowered, receives, is_last, with_answer, produced_result, produces, producer_turn}
+use Rattle.strm_host_machine.specs.WriterTurn.{lowered_items, receives, is_last, with_answer, produced_result, produces, writer_turn}
 use Rattle.strm_host_machine.proofs.SettleLemmas.{is_done_with, moved_on-owner}
 use Rattle.strm_host_machine.proofs.WorldLemmas.{set-same}
 use Rattle.strm_host_laws.proofs.Goings.{IfGoes}
 use Rattle.strm_host_laws.proofs.Turned.{turned, stream_moved, Turned, turn_is, taken_by, stream_taken, Taken, taking_is}
 use Rattle.strm_host_laws.proofs.WrittenBack.{back-coming, back-told, back-length}
-use Rattle.strm_host_machine.specs.Courses.{Course, Poll, goes_on}
+use Rattle.strm_host_machine.specs.Courses.{Course, CoursePoll, goes_on}
 use Rattle.strm_host_machine.specs.Courses as courses
-use Rattle.strm_host_laws.specs.StreamEvents.{poll_of, poll_of_reader}
+use Rattle.strm_host_laws.specs.StreamEvents.{poll_of_record, poll_of_reader}
 use Rattle.strm_host_laws.proofs.Tracing.{progress_of, held_for, over_for, seen, course_of}
 use Rattle.strm_host_laws.proofs.HostSteps.{back-course, back-unhosted}
 use Rattle.strm_host_laws.proofs.Apart.{OnlyAt, WritesIt, ReadsIt, only-then, only-guests, only-producer, only-writer, only-consumer, only-reader, only-back}
 use Rattle.strm_host_laws.proofs.CourseLemmas.{held_if, over_if, moved_on-seen, taken-seen}
 
 -- the records that the host end across from a side used from one world to another
-abbrev pub polls_used : Side → ℕ → World → World → List Poll
-polls_used Reading n w u = map poll_of (used (writer_at w n).coming (writer_at u n).coming)
-polls_used Writing r w u = map poll_of_reader (used (reader_at w r).coming (reader_at u r).coming)
+abbrev pub polls_used : Side → ℕ → World → World → List CoursePoll
+polls_used Reading n w u = map poll_of_record (used_records (writer_at w n).coming (writer_at u n).coming)
+polls_used Writing r w u = map poll_of_reader (used_records (reader_at w r).coming (reader_at u r).coming)
 
 -- the turn for the operation on a side leads where the course's does, and changes no other stream
 pub record Leads (side : Side) (w : World) (s n : ℕ) (operation : Operation) (u : World) : Type 0 where
-  pub course : courses.turn_across side (course_of s w) (progress_of operation) (polls_used side n w u) ≡ course_of s u
+  pub course : courses.after_turn_across side (course_of s w) (progress_of operation) (polls_used side n w u) ≡ course_of s u
   pub only : OnlyAt s (WritesIt w s) (ReadsIt w s) w u
   pub many : length u.state.streams ≡ length w.state.streams
 
@@ -109,7 +109,7 @@ module _ (w : World) (s n : ℕ) (read : Operation) (made : s < length w.state.s
   record TurnsBySelf (u : World) : Type 0 where
     pub said : List WriterSaid
     pub coming : (writer_at w n).coming ≡ said ++ (writer_at u n).coming
-    pub course : courses.producer_turn (course_of s w) (progress_of read) (map poll_of said) ≡ course_of s u
+    pub course : courses.after_writer_turn (course_of s w) (progress_of read) (map poll_of_record said) ≡ course_of s u
 
   abbrev LeadsSo : Reply → World → Type 0
   LeadsSo reply u = TurnsBySelf u
@@ -124,7 +124,7 @@ module _ (w : World) (s n : ℕ) (read : Operation) (made : s < length w.state.s
         said = [];
         coming = sym (coming-is (take read.left held) producer writer (Some results.Completed));
         course =
-            ap (λ c. courses.producer_turn c (progress_of read) []) before-is
+            ap (λ c. courses.after_writer_turn c (progress_of read) []) before-is
             ∙ ap (λ (b : Bool). cond b
             (goes_on Reading (record before { held = length held - read.left }) (progress_of read) (min read.left (length held)) (Some results.Completed))
             (cond before.over (goes_on Reading before (progress_of read) 0 (Some results.Dropped)) before)) (some_held e)
@@ -141,11 +141,11 @@ module _ (w : World) (s n : ℕ) (read : Operation) (made : s < length w.state.s
 
   -- the course's turn where nothing is held, by whether the writer is over
   abbrev dry_turn : Bool → List WriterSaid → Course
-  dry_turn over said = cond over (goes_on Reading before (progress_of read) 0 (Some results.Dropped)) (courses.produces before (progress_of read) (map poll_of said))
+  dry_turn over said = cond over (goes_on Reading before (progress_of read) 0 (Some results.Dropped)) (courses.produces before (progress_of read) (map poll_of_record said))
 
-  is-dry : (said : List WriterSaid) → (writer_at w n).holds ≡ [] → courses.producer_turn (course_of s w) (progress_of read) (map poll_of said) ≡ dry_turn (producer_at w.state n).over said
+  is-dry : (said : List WriterSaid) → (writer_at w n).holds ≡ [] → courses.after_writer_turn (course_of s w) (progress_of read) (map poll_of_record said) ≡ dry_turn (producer_at w.state n).over said
   is-dry said e =
-      ap (λ c. courses.producer_turn c (progress_of read) (map poll_of said)) before-is
+      ap (λ c. courses.after_writer_turn c (progress_of read) (map poll_of_record said)) before-is
       ∙ ap (λ (b : Bool). cond b
       (goes_on Reading (record before { held = length (writer_at w n).holds - read.left }) (progress_of read) (min read.left (length (writer_at w n).holds)) (Some results.Completed))
       (dry_turn (producer_at w.state n).over said)) (none_held e)
@@ -219,8 +219,8 @@ module _ (w : World) (s n : ℕ) (read : Operation) (made : s < length w.state.s
       (λ f. by_over e f)
       (λ f. by_saying (writer_at w n).coming e f refl)
 
-  writer-turn : IfGoes (producer_turn w s n read) LeadsSo
-  unfolding producer_turn
+  writer-turn : IfGoes (writer_turn w s n read) LeadsSo
+  unfolding writer_turn
   writer-turn = by_held (writer_at w n).holds refl
 
   -- with what it changes
@@ -229,7 +229,7 @@ module _ (w : World) (s n : ℕ) (read : Operation) (made : s < length w.state.s
 
   turned-only : (u : World) → Turned w s n read u → OnlyAt s (WritesIt w s) (ReadsIt w s) w u
   turned-only u t =
-      let guests = lowered w.state.guests (stream_in w s).payload read t.items in
+      let guests = lowered_items w.state.guests (stream_in w s).payload read t.items in
       let a = with_guests w guests in
       let b = with_producer a n t.producer in
       let c = turned w s n read t.items t.producer t.writer in
@@ -244,13 +244,13 @@ module _ (w : World) (s n : ℕ) (read : Operation) (made : s < length w.state.s
 
   leads-with : (u : World) → TurnsBySelf u → Turned w s n read u → Leads Reading w s n read u
   leads-with u c t = record {
-    course = ap (λ said. courses.producer_turn (course_of s w) (progress_of read) (map poll_of said)) (used_are (writer_at w n).coming (writer_at u n).coming c.said c.coming) ∙ c.course;
+    course = ap (λ said. courses.after_writer_turn (course_of s w) (progress_of read) (map poll_of_record said)) (used_are (writer_at w n).coming (writer_at u n).coming c.said c.coming) ∙ c.course;
     only = turned-only u t;
     many = ap (λ (x : World). length x.state.streams) t.is ∙ back-length (turned w s n read t.items t.producer t.writer) s (stream_moved w s read t.items t.result);
   }
 
-  pub writer-leads : IfGoes (producer_turn w s n read) (λ reply u. Leads Reading w s n read u)
-  writer-leads = by (producer_turn w s n read) writer-turn (turn_is w s n read)
+  pub writer-leads : IfGoes (writer_turn w s n read) (λ reply u. Leads Reading w s n read u)
+  writer-leads = by (writer_turn w s n read) writer-turn (turn_is w s n read)
     where
       by : (o : Outcome) → IfGoes o LeadsSo → IfGoes o (λ reply u. Turned w s n read u) → IfGoes o (λ reply u. Leads Reading w s n read u)
       by (Goes reply u) c t = leads-with u c t
@@ -281,14 +281,14 @@ module _ (w : World) (s r : ℕ) (write : Operation) (made : s < length w.state.
 
     taken-coming : (reader_at u r).coming ≡ t.more
     taken-coming =
-        let polled = polled_reader (reader_at w r) (lifted w.state.guests (stream_in w s).payload write t.said.taken) t.more in
+        let polled = polled_reader (reader_at w r) (lifted_items w.state.guests (stream_in w s).payload write t.said.taken) t.more in
         ap (λ x. (reader_at x r).coming) t.is
         ∙ ap (λ (p : Option (List Item) × List ReaderSaid). p.1) (back-told taken_but s taken_now r)
         ∙ ap (λ (x : Reader). x.coming) (get_or-set_same w.readers r polled no_reader (reader_there w r t.said t.more t.coming))
 
     taken-only : OnlyAt s (WritesIt w s) (ReadsIt w s) w u
     taken-only =
-        let polled = polled_reader (reader_at w r) (lifted w.state.guests (stream_in w s).payload write t.said.taken) t.more in
+        let polled = polled_reader (reader_at w r) (lifted_items w.state.guests (stream_in w s).payload write t.said.taken) t.more in
         let a = with_reader w r polled in
         let W = WritesIt w s in
         let R = ReadsIt w s in
@@ -300,7 +300,7 @@ module _ (w : World) (s r : ℕ) (write : Operation) (made : s < length w.state.
     reader-leads_to : Leads Writing w s r write u
     reader-leads_to = record {
       course =
-          ap (λ said. courses.consumer_turn (course_of s w) (progress_of write) (map poll_of_reader said))
+          ap (λ said. courses.after_reader_turn (course_of s w) (progress_of write) (map poll_of_reader said))
           (used_are (reader_at w r).coming (reader_at u r).coming (t.said ∷ []) (t.coming ∙ ap (λ xs. t.said ∷ xs) (sym taken-coming)))
           ∙ taken-seen (held_for w (stream_in w s).writer.owner) (over_for w (stream_in w s).writer.owner) (stream_in w s) write t.said.taken (result_of t.said.answer)
           ∙ sym taken-course;
@@ -308,8 +308,8 @@ module _ (w : World) (s r : ℕ) (write : Operation) (made : s < length w.state.
       many = ap (λ (x : World). length x.state.streams) t.is ∙ back-length taken_but s taken_now;
     }
 
-  pub reader-leads : IfGoes (consumer_turn w s r write) (λ reply u. Leads Writing w s r write u)
-  reader-leads = by (consumer_turn w s r write) (taking_is w s r write)
+  pub reader-leads : IfGoes (reader_turn w s r write) (λ reply u. Leads Writing w s r write u)
+  reader-leads = by (reader_turn w s r write) (taking_is w s r write)
     where
       by : (o : Outcome) → IfGoes o (λ reply u. Taken w s r write u) → IfGoes o (λ reply u. Leads Writing w s r write u)
       by (Goes reply u) t = reader-leads_to u t

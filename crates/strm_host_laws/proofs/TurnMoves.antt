@@ -12,14 +12,14 @@ use Rattle.strm_machine.specs.declared.streams.Owner.TheVariants.{Gone}
 use Rattle.strm_machine.specs.declared.streams.Side.{Side}
 use Rattle.strm_machine.specs.declared.streams.Side.TheVariants.{Writing, Reading}
 use Rattle.strm_machine.specs.declared.streams.Stream.{Stream}
-use Rattle.strm_host_machine.specs.Settling.{went, settled, let_go, moved_on}
+use Rattle.strm_host_machine.specs.Settling.{went, operation_settled, let_go, moved_on}
 use Rattle.strm_host_machine.proofs.SettleLemmas.{is_done_with}
-use Rattle.strm_host_machine.proofs.LoweredLemmas.{went-placed, settled-placed}
+use Rattle.strm_host_machine.proofs.LoweredLemmas.{went-placed, operation_settled-placed}
 
 -- what becomes of a stream of which the operation on a side moves n items, and is settled so, if it is
 pub record Moves (side : Side) (old new : Stream) (operation : Operation) (n : ℕ) (result : Option StreamResult) : Type 0 where
   pub theirs : end_of (opposite side) new ≡ record (end_of (opposite side) old) { owner = cond (is_done_with result) Gone (end_of (opposite side) old).owner }
-  pub mine : end_of side new ≡ record (end_of side old) { operation = Some (settled result (went old.payload operation n)) }
+  pub mine : end_of side new ≡ record (end_of side old) { operation = Some (operation_settled result (went old.payload operation n)) }
   pub kind : new.kind ≡ old.kind
   pub payload : new.payload ≡ old.payload
   pub count : new.received ≡ cond (n == 0) old.received (with_received old n).received
@@ -27,7 +27,7 @@ pub record Moves (side : Side) (old new : Stream) (operation : Operation) (n : �
 
 module _ (stream : Stream) (operation : Operation) (n : ℕ) where
   abbrev now : Side → Bool → Option StreamResult → Stream
-  now side none result = let_go (opposite side) result (with_operation side (cond none stream (with_received stream n)) (settled result (went stream.payload operation n)))
+  now side none result = let_go (opposite side) result (with_operation side (cond none stream (with_received stream n)) (operation_settled result (went stream.payload operation n)))
 
   counted : (none : Bool) → (n == 0) ≡ none → cond none stream.received (with_received stream n).received ≡ cond (n == 0) stream.received (with_received stream n).received
   counted none e = ap (λ b. cond b stream.received (with_received stream n).received) (sym e)
@@ -62,14 +62,14 @@ module _ (stream : Stream) (operation : Operation) (n : ℕ) where
 
 pub moves-placed : (side : Side) (sizes : List ℕ) (old new : Stream) (operation : Operation) (n : ℕ) (result : Option StreamResult) → Moves side old new operation n result → n ≤ operation.left → IsPlaced sizes old.payload operation → StreamIsPlaced sizes old → StreamIsPlaced sizes new
 moves-placed side sizes old new operation n result m l p h =
-    let after = settled-placed sizes old.payload (went old.payload operation n) result (went-placed sizes old.payload operation n l p) in
+    let after = operation_settled-placed sizes old.payload (went old.payload operation n) result (went-placed sizes old.payload operation n l p) in
     by side m h after
   where
     -- of an end of the payload
     placed_as : (e : End) (x : End) → e ≡ x → new.payload ≡ old.payload → OperationIsPlaced sizes old.payload x.operation → OperationIsPlaced sizes new.payload e.operation
     placed_as e x same payload q = subst (λ (y : End). OperationIsPlaced sizes new.payload y.operation) (sym same) (subst (λ t. OperationIsPlaced sizes t x.operation) (sym payload) q)
 
-    by : (side : Side) → Moves side old new operation n result → StreamIsPlaced sizes old → OperationIsPlaced sizes old.payload (Some (settled result (went old.payload operation n))) → StreamIsPlaced sizes new
+    by : (side : Side) → Moves side old new operation n result → StreamIsPlaced sizes old → OperationIsPlaced sizes old.payload (Some (operation_settled result (went old.payload operation n))) → StreamIsPlaced sizes new
     by Writing m h q = record { writer = placed_as new.writer _ m.mine m.payload q; reader = placed_as new.reader _ m.theirs m.payload h.reader }
     by Reading m h q = record { writer = placed_as new.writer _ m.theirs m.payload h.writer; reader = placed_as new.reader _ m.mine m.payload q }
 

@@ -26,10 +26,10 @@ use Rattle.strm_host_machine.specs.Outcomes.{done}
 use Rattle.strm_host_machine.specs.Polls.{AfterWriter, is_failed, is_writer_poll, writer_says, is_reader_poll, are_items, tells_truly, reader_says}
 use Rattle.strm_host_machine.specs.Settling.{result_of, moved_on}
 use Rattle.strm_host_machine.specs.Attaching.{has_items}
-use Rattle.strm_host_machine.specs.Consuming.{lifted, with_taken, consumer_turn}
-use Rattle.strm_host_machine.specs.Producing.{lowered, receives, is_last, with_answer, produced_result, produces, producer_turn}
+use Rattle.strm_host_machine.specs.ReaderTurn.{lifted_items, reader_with_taken, reader_turn}
+use Rattle.strm_host_machine.specs.WriterTurn.{lowered_items, receives, is_last, with_answer, produced_result, produces, writer_turn}
 use Rattle.strm_host_machine.proofs.WorldLemmas.{set-same}
-use Rattle.strm_host_laws.specs.HostLaws.{items_of}
+use Rattle.strm_host_laws.specs.HostLaws.{items_of_records}
 use Rattle.strm_host_laws.proofs.Goings.{gave_up, IfGoes}
 use Rattle.strm_host_laws.proofs.Rounds.{IsGoodSaid, one_said}
 
@@ -37,7 +37,7 @@ use Rattle.strm_host_laws.proofs.Rounds.{IsGoodSaid, one_said}
 abbrev pub turned : World → ℕ → ℕ → Operation → List Item → Producer → Writer → World
 turned w s n read items producer writer = record {
   state = record w.state {
-    guests = lowered w.state.guests (stream_in w s).payload read items;
+    guests = lowered_items w.state.guests (stream_in w s).payload read items;
     producers = slice_set w.state.producers n producer;
   };
   writers = slice_set w.writers n writer;
@@ -58,7 +58,7 @@ pub record Turned (w : World) (s n : ℕ) (read : Operation) (v : World) : Type 
   pub fits : length items ≤ read.left
   pub duty : producer.duty ≡ (producer_at w.state n).duty
   pub coming : (writer_at w n).coming ≡ said ++ writer.coming
-  pub balance : (writer_at w n).holds ++ items_of said ≡ items ++ writer.holds
+  pub balance : (writer_at w n).holds ++ items_of_records said ≡ items ++ writer.holds
   -- a future has one item at most, where its writer held no more, and what is left open moved none
   pub one : (stream_in w s).kind ≡ Future → length (writer_at w n).holds ≤ 1 → length items + length writer.holds ≤ 1
   pub none : result ≡ None → items ≡ []
@@ -124,12 +124,12 @@ module _ (w : World) (s n : ℕ) (read : Operation) where
         producer = producer_at w.state n;
         writer = writer_at w n;
         is = ap (λ ps. with_stream_in (record {
-          state = record w.state { guests = lowered w.state.guests (stream_in w s).payload read []; producers = ps };
+          state = record w.state { guests = lowered_items w.state.guests (stream_in w s).payload read []; producers = ps };
           writers = w.writers;
           readers = w.readers;
         }) s moved) (sym (set-same w.state.producers n no_producer))
             ∙ ap (λ ws. with_stream_in (record {
-              state = record w.state { guests = lowered w.state.guests (stream_in w s).payload read []; producers = slice_set w.state.producers n (producer_at w.state n) };
+              state = record w.state { guests = lowered_items w.state.guests (stream_in w s).payload read []; producers = slice_set w.state.producers n (producer_at w.state n) };
               writers = ws;
               readers = w.readers;
             }) s moved) (sym (set-same w.writers n no_writer));
@@ -183,8 +183,8 @@ module _ (w : World) (s n : ℕ) (read : Operation) where
       (λ f. by_over e)
       (λ f. by_saying (writer_at w n).coming e refl)
 
-  pub turn_is : IfGoes (producer_turn w s n read) AsTurned
-  unfolding producer_turn
+  pub turn_is : IfGoes (writer_turn w s n read) AsTurned
+  unfolding writer_turn
   turn_is = by_held (writer_at w n).holds refl
 
 -- THE TURN OF A HOST READER
@@ -192,7 +192,7 @@ module _ (w : World) (s n : ℕ) (read : Operation) where
 -- the world after it, but for the stream: the first of its records was used
 abbrev pub taken_by : World → ℕ → ℕ → Operation → ReaderSaid → List ReaderSaid → World
 taken_by w s r write said more =
-    with_taken (with_reader w r (polled_reader (reader_at w r) (lifted w.state.guests (stream_in w s).payload write said.taken) more)) r said.answer said.taken
+    reader_with_taken (with_reader w r (polled_reader (reader_at w r) (lifted_items w.state.guests (stream_in w s).payload write said.taken) more)) r said.answer said.taken
 
 -- the stream after it
 abbrev pub stream_taken : World → ℕ → Operation → ReaderSaid → Stream
@@ -205,7 +205,7 @@ pub record Taken (w : World) (s r : ℕ) (write : Operation) (v : World) : Type 
   pub polled : is_reader_poll write.left (consumer_at w.state r).since write.asked said ≡ true
   pub kept : breaks_as_reader (stream_in w s).kind said ≡ false
   -- each item that it took is one
-  pub good : length (lifted w.state.guests (stream_in w s).payload write said.taken) ≡ said.taken
+  pub good : length (lifted_items w.state.guests (stream_in w s).payload write said.taken) ≡ said.taken
   pub is : v ≡ with_stream_in (taken_by w s r write said more) s (stream_taken w s write said)
 
 module _ (w : World) (s r : ℕ) (write : Operation) where
@@ -214,20 +214,20 @@ module _ (w : World) (s r : ℕ) (write : Operation) where
   AsTaken reply v = Taken w s r write v
 
   after_taking : (coming : List ReaderSaid) → (reader_at w r).coming ≡ coming
-      → IfGoes (reader_says w s r write.left write.asked (lifted w.state.guests (stream_in w s).payload write) coming (λ after said. done (gave_up s r write after said))) AsTaken
+      → IfGoes (reader_says w s r write.left write.asked (lifted_items w.state.guests (stream_in w s).payload write) coming (λ after said. done (gave_up s r write after said))) AsTaken
   after_taking [] e = tt
   after_taking (said ∷ more) e =
-      let first = lifted w.state.guests (stream_in w s).payload write in
+      let first = lifted_items w.state.guests (stream_in w s).payload write in
       let polled = is_reader_poll write.left (consumer_at w.state r).since write.asked said in
       let told = and_parts polled (tells_truly write.left first said) in
       let took = λ (t : tells_truly write.left first said ≡ true). eqb-true (length (first said.taken)) said.taken (and_parts (are_items first said.taken) (not said.bad || (nat_lt said.taken write.left && not (are_items first (said.taken + 1)))) t).0 in
-      cond_both (is_reader_poll write.left (consumer_at w.state r).since write.asked said && tells_truly write.left (lifted w.state.guests (stream_in w s).payload write) said) _ _ (λ o. IfGoes o AsTaken)
+      cond_both (is_reader_poll write.left (consumer_at w.state r).since write.asked said && tells_truly write.left (lifted_items w.state.guests (stream_in w s).payload write) said) _ _ (λ o. IfGoes o AsTaken)
       (λ f. cond_both (is_failed said.answer) _ _ (λ o. IfGoes o AsTaken) (λ g. tt)
       (λ g. cond_both said.bad _ _ (λ o. IfGoes o AsTaken) (λ b. tt)
       (λ b. cond_both (breaks_as_reader (stream_in w s).kind said) _ _ (λ o. IfGoes o AsTaken) (λ k. tt)
       (λ k. record { said = said; more = more; coming = e; polled = (told f).0; kept = k; good = took (told f).1; is = refl }))))
       (λ f. tt)
 
-  pub taking_is : IfGoes (consumer_turn w s r write) AsTaken
-  unfolding consumer_turn
+  pub taking_is : IfGoes (reader_turn w s r write) AsTaken
+  unfolding reader_turn
   taking_is = after_taking (reader_at w r).coming refl

@@ -16,7 +16,7 @@ use Rattle.strm_machine.specs.declared.streams.Stream.{Stream}
 use Rattle.strm_host_machine.specs.Ends.{Reader, no_reader, closed_reader, Writer, no_writer, closed_writer}
 use Rattle.strm_host_machine.specs.World.{World, stream_in, reader_at, writer_at, held_of, with_consumer, leaves_writer, leaves_reader, with_stream_in}
 use Rattle.strm_host_machine.specs.Settling.{result_of, with_some_received}
-use Rattle.strm_host_machine.specs.Producing.{lowered}
+use Rattle.strm_host_machine.specs.WriterTurn.{lowered_items}
 use Rattle.strm_host_machine.proofs.SettleLemmas.{is_done_with, moved_on-owner, leaves_writer-stays}
 use Rattle.strm_machine.proofs.TableLemmas.{set-keeps}
 use Rattle.strm_host_laws.proofs.Goings.{with_state, some_received-end, written-streams, piped_to}
@@ -163,7 +163,7 @@ module _ (w : World) (s n : ℕ) (read : Operation) (v : World) (t : Turned w s 
   abbrev now : Stream
   now = stream_moved w s read t.items t.result
 
-  pub turned-guests : v.state.guests ≡ lowered w.state.guests (stream_in w s).payload read t.items
+  pub turned-guests : v.state.guests ≡ lowered_items w.state.guests (stream_in w s).payload read t.items
   turned-guests = ap (λ (x : World). x.state.guests) t.is ∙ back-guests but s now
 
   pub turned-here : stream_in v s ≡ now

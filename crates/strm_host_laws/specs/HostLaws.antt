@@ -10,7 +10,7 @@ use Rattle.strm_buffers.specs.declared.answers.ReaderSaid.{ReaderSaid}
 use Rattle.strm_machine.specs.State.{State, is_host, producer_at, consumer_at, stream_at, is_gone}
 use Rattle.strm_machine.specs.Soundness.{IsUnmoved}
 use Rattle.strm_machine.specs.declared.streams.Stream.{Stream}
-use Rattle.strm_machine.specs.Moments.{Moment, Place, place_of, is_named, rise, items_in, received, got_in}
+use Rattle.strm_machine.specs.Moments.{Moment, MemoryPlace, place_of, is_named, rise, items_in_memory, received, got_in}
 use Rattle.strm_machine.specs.declared.acts.Act.{Act}
 use Rattle.strm_machine.specs.declared.acts.Act.TheVariants.{OnEnd, OnHost, Drive}
 use Rattle.strm_machine.specs.declared.acts.EndAct.TheVariants.{Operate}
@@ -25,7 +25,7 @@ use Rattle.strm_host_machine.specs.Ends.{Writer, Reader, writer_in, reader_in}
 use Rattle.strm_host_machine.specs.World.{World, stream_in, writer_at, reader_at, held_of}
 use Rattle.strm_host_machine.specs.Does.{is_ended, SaidFits}
 use Rattle.strm_laws.specs.Conservation.{calls, writes, reads, all_reported, all_handed}
-use Rattle.strm_laws.specs.Laws.{total, moved_at, IsAsked}
+use Rattle.strm_laws.specs.Laws.{total_of_calls, moved_at, IsWithinAsked}
 use Rattle.strm_host_laws.specs.HostMoments.{Part, Acts, Turns, HostMoment}
 
 -- CLOSES
@@ -44,12 +44,12 @@ EndsExactly state writers = (n : ℕ) → (writer_in writers n).ended ≡ is_end
 -- RECORDS AND FEEDS
 
 -- of records that were to come and those that are, the ones used since: they left the front
-abbrev pub used : {A : Type 0} → List A → List A → List A
-used before after = take (length before - length after) before
+abbrev pub used_records : {A : Type 0} → List A → List A → List A
+used_records before after = take (length before - length after) before
 
 -- the records of host writer n that a moment used
 abbrev pub used_in : ℕ → HostMoment → List WriterSaid
-used_in n m = used (writer_at m.before n).coming (writer_at m.after n).coming
+used_in n m = used_records (writer_at m.before n).coming (writer_at m.after n).coming
 
 -- and those that these moments used
 abbrev pub all_used : ℕ → List HostMoment → List WriterSaid
@@ -57,9 +57,9 @@ all_used n [] = []
 all_used n (m ∷ more) = used_in n m ++ all_used n more
 
 -- the items of records
-abbrev pub items_of : List WriterSaid → List Item
-items_of [] = []
-items_of (said ∷ more) = said.items ++ items_of more
+abbrev pub items_of_records : List WriterSaid → List Item
+items_of_records [] = []
+items_of_records (said ∷ more) = said.items ++ items_of_records more
 
 -- what a feed passes on to host writer n, if it is accepted: the bytes, behind so many records
 abbrev pub fed_in : ℕ → ℕ → Part → Reply → List (ℕ × List ℕ)
@@ -84,7 +84,7 @@ pub record WriterGoesOn (n : ℕ) (all : List HostMoment) (first last : Writer) 
 
 -- where a step stops, a host writer that was this one before used these records more, in order, and counted them;
 -- it heard nothing more
-pub record WriterStops (before after : Writer) : Type 0 where
+pub record WriterHalts (before after : Writer) : Type 0 where
   pub said : List WriterSaid
   pub records : before.coming ≡ said ++ after.coming
   pub spoken : after.spoken ≡ before.spoken + length said
@@ -107,7 +107,7 @@ held_first s (m ∷ more) = made_of s m.before m.part m.reply ++ held_first s mo
 
 -- the items of the records that a write end of this owner used in a moment
 abbrev pub produced_by : HostMoment → Owner → List Item
-produced_by m (Host n) = items_of (used_in n m)
+produced_by m (Host n) = items_of_records (used_in n m)
 produced_by m owner = []
 
 -- on stream s
@@ -116,9 +116,9 @@ produced_in s m = produced_by m (stream_in m.before s).writer.owner
 
 -- all that the host writer of stream s produced in these moments: what it held when the stream was made,
 -- and then the items of its records
-abbrev pub produced : ℕ → List HostMoment → List Item
-produced s [] = []
-produced s (m ∷ more) = made_of s m.before m.part m.reply ++ (produced_in s m ++ produced s more)
+abbrev pub produced_on : ℕ → List HostMoment → List Item
+produced_on s [] = []
+produced_on s (m ∷ more) = made_of s m.before m.part m.reply ++ (produced_in s m ++ produced_on s more)
 
 -- WHAT WAS RECEIVED
 
@@ -141,21 +141,21 @@ abbrev pub plains : List HostMoment → List Moment
 plains all = map plain all
 
 -- where a write writes from, and else where one that waits does
-abbrev pub write_place : Act → Place → Place
+abbrev pub write_place : Act → MemoryPlace → MemoryPlace
 write_place (OnEnd Writing end (Operate address count)) waiting =
     record { guest = end.guest; address = address }
 write_place _ waiting = waiting
 
 -- where the items lie that a guest offers in a moment: at the place of the write that is called in it on
 -- stream s, and else of the write that waited before it
-abbrev pub source : ℕ → Moment → Place
+abbrev pub source : ℕ → Moment → MemoryPlace
 source s m =
     let waiting = place_of (stream_at m.before s).writer.operation in
     if is_named s Writing m then write_place m.act waiting else waiting
 
 -- the records of host reader r that a moment used
 abbrev pub used_by : ℕ → HostMoment → List ReaderSaid
-used_by r m = used (reader_at m.before r).coming (reader_at m.after r).coming
+used_by r m = used_records (reader_at m.before r).coming (reader_at m.after r).coming
 
 -- how many items these records say were taken
 abbrev pub count_taken : List ReaderSaid → ℕ
@@ -163,20 +163,20 @@ count_taken [] = 0
 count_taken (said ∷ more) = said.taken + count_taken more
 
 -- what is taken of them, as it lay in the writer's memory just before the moment
-abbrev pub taken_in : ℕ → Moment → List (Option Item)
-taken_in s m =
-    items_in (stream_at m.before s).payload m.before.guests (source s m).guest (source s m).address (rise s m)
+abbrev pub taken_in_moment : ℕ → Moment → List (Option Item)
+taken_in_moment s m =
+    items_in_memory (stream_at m.before s).payload m.before.guests (source s m).guest (source s m).address (rise s m)
 
 -- what host reader r took in a moment, by the owner of the write end: of a host writer as many items as its
 -- records say, from the front of what was held and what was produced then, and else what a guest offered
-abbrev pub taken_from : ℕ → HostMoment → ℕ → Owner → List (Option Item)
-taken_from s m r (Host n) =
+abbrev pub taken_from_owner : ℕ → HostMoment → ℕ → Owner → List (Option Item)
+taken_from_owner s m r (Host n) =
     map Some (take (count_taken (used_by r m)) (held_of m.before n ++ produced_in s m))
-taken_from s m r owner = taken_in s (plain m)
+taken_from_owner s m r owner = taken_in_moment s (plain m)
 
 -- on stream s, by the owner of its read end; a guest took none
 abbrev pub taken_by : ℕ → HostMoment → Owner → List (Option Item)
-taken_by s m (Host r) = taken_from s m r (stream_in m.before s).writer.owner
+taken_by s m (Host r) = taken_from_owner s m r (stream_in m.before s).writer.owner
 taken_by s m owner = []
 
 -- what host readers took on stream s in a moment
@@ -191,7 +191,7 @@ all_taken s (m ∷ more) = host_taken_in s m ++ all_taken s more
 -- what was received in a moment, by the owner of the read end: a guest has it in its memory just after
 -- it, and a host reader took it
 abbrev pub got_by : ℕ → HostMoment → Owner → List (Option Item)
-got_by s m (Host r) = taken_from s m r (stream_in m.before s).writer.owner
+got_by s m (Host r) = taken_from_owner s m r (stream_in m.before s).writer.owner
 got_by s m owner = got_in s (plain m)
 
 -- the items received on stream s in a moment, whoever received them
@@ -221,14 +221,14 @@ is_piped_in s (Acts (OnHost host (Pipe reader))) replies.Done = reader == s
 is_piped_in s part reply = false
 
 -- and in one of these
-abbrev pub is_piped : ℕ → List HostMoment → Bool
-is_piped s [] = false
-is_piped s (m ∷ more) = is_piped_in s m.part m.reply || is_piped s more
+abbrev pub was_piped : ℕ → List HostMoment → Bool
+was_piped s [] = false
+was_piped s (m ∷ more) = is_piped_in s m.part m.reply || was_piped s more
 
 -- what is held on a stream of this write end's owner
-abbrev pub held_by : World → Owner → List Item
-held_by world (Host n) = held_of world n
-held_by world owner = []
+abbrev pub held_for_owner : World → Owner → List Item
+held_for_owner world (Host n) = held_of world n
+held_for_owner world owner = []
 
 -- what a host writer holds and what its records produce are items of its payload
 pub record Supplies (writer : Writer) : Type 0 where
@@ -242,10 +242,10 @@ pub record Supplies (writer : Writer) : Type 0 where
 pub record DeliversAll (s : ℕ) (all : List HostMoment) (last : World) : Type 0 where
   pub there :
       is_host (stream_in last s).writer.owner ≡ true →
-      map Some (produced s all) ≡ host_got s all ++ map Some (held_by last (stream_in last s).writer.owner)
+      map Some (produced_on s all) ≡ host_got s all ++ map Some (held_for_owner last (stream_in last s).writer.owner)
   pub given_up : is_hosted s all ≡ true →
-      host_got s all ≡ take (length (host_got s all)) (map Some (produced s all))
-  pub count : is_hosted s all ≡ true → is_piped s all ≡ false →
+      host_got s all ≡ take (length (host_got s all)) (map Some (produced_on s all))
+  pub count : is_hosted s all ≡ true → was_piped s all ≡ false →
       length (host_got s all) ≡ received s last.state
   pub capped : is_hosted s all ≡ true →
       received s last.state ≡ min (length (host_got s all)) (2 ^ 128 - 1)
@@ -298,7 +298,7 @@ pub record ReaderGoesOn (r : ℕ) (all : List HostMoment) (first last : Reader) 
   pub payload : last.payload ≡ first.payload
 
 -- where a step stops, a host reader used these records more, in order, and counted them; it heard nothing more
-pub record ReaderStops (before after : Reader) : Type 0 where
+pub record ReaderHalts (before after : Reader) : Type 0 where
   pub said : List ReaderSaid
   pub records : before.coming ≡ said ++ after.coming
   pub spoken : after.spoken ≡ before.spoken + length said
@@ -326,12 +326,12 @@ pub record ConservesAmong (s : ℕ) (all : List HostMoment) (end : State) : Type
       ≡ all_handed (stream_at end s).kind s (plains all) (moved_at s Writing end) 0 (writes s (plains all))
   pub written :
       length (host_got s all)
-      ≡ total (stream_at end s).kind (moved_at s Writing end) (writes s (plains all))
+      ≡ total_of_calls (stream_at end s).kind (moved_at s Writing end) (writes s (plains all))
   pub read :
       length (host_got s all)
-      ≡ total (stream_at end s).kind (moved_at s Reading end) (reads s (plains all)) + length (all_taken s all)
+      ≡ total_of_calls (stream_at end s).kind (moved_at s Reading end) (reads s (plains all)) + length (all_taken s all)
   pub asked : (side : Side) →
-      All (IsAsked (stream_at end s).kind (moved_at s side end)) (calls s side (plains all))
+      All (IsWithinAsked (stream_at end s).kind (moved_at s side end)) (calls s side (plains all))
   pub told_writer :
       all_reported (stream_at end s).kind s Writing (plains all) + moved_at s Writing end
       ≡ length (host_got s all)

@@ -23,47 +23,47 @@ use Rattle.strm_machine.specs.declared.streams.Owner.TheVariants.{Host}
 use Rattle.strm_machine.specs.declared.streams.Side.{Side}
 use Rattle.strm_machine.specs.declared.streams.Side.TheVariants.{Writing, Reading}
 use Rattle.strm_host_machine.specs.World.{stream_in, writer_at}
-use Rattle.strm_host_machine.specs.Courses.{AGuest, NoGuest, AHost, Poll, StreamEvent, Begins, Calls, Hears, Cancels, Drops, Moves, Turns}
+use Rattle.strm_host_machine.specs.Courses.{AGuest, NoGuest, AHost, CoursePoll, StreamEvent, Begins, Calls, Hears, Cancels, Drops, Moves, Turns}
 use Rattle.strm_host_laws.specs.HostMoments.{Part, Acts, Turns as TurnsOf, HostMoment}
 use Rattle.strm_host_laws.specs.HostLaws.{used_in, used_by, act_in}
 
 -- RECORDS
 
 -- of a host writer's record the number of the items that it produced, and its answer
-abbrev pub poll_of : WriterSaid → Poll
-poll_of said = record { items = length said.items; answer = said.answer }
+abbrev pub poll_of_record : WriterSaid → CoursePoll
+poll_of_record said = record { items = length said.items; answer = said.answer }
 
 -- of a host reader's the number of the items that it took
-abbrev pub poll_of_reader : ReaderSaid → Poll
+abbrev pub poll_of_reader : ReaderSaid → CoursePoll
 poll_of_reader said = record { items = said.taken; answer = said.answer }
 
 -- the records that the host writer used in a moment which is this owner of a write end
-abbrev pub polls_by_writer : HostMoment → Owner → List Poll
-polls_by_writer m (Host n) = map poll_of (used_in n m)
+abbrev pub polls_by_writer : HostMoment → Owner → List CoursePoll
+polls_by_writer m (Host n) = map poll_of_record (used_in n m)
 polls_by_writer m owner = []
 
 -- the same of the host reader which is this owner of a read end
-abbrev pub polls_by_reader : HostMoment → Owner → List Poll
+abbrev pub polls_by_reader : HostMoment → Owner → List CoursePoll
 polls_by_reader m (Host r) = map poll_of_reader (used_by r m)
 polls_by_reader m owner = []
 
 -- those of the host writer of stream s
-abbrev pub produced_polls : ℕ → HostMoment → List Poll
+abbrev pub produced_polls : ℕ → HostMoment → List CoursePoll
 produced_polls s m = polls_by_writer m (stream_in m.before s).writer.owner
 
 -- and of its host reader
-abbrev pub taken_polls : ℕ → HostMoment → List Poll
+abbrev pub taken_polls : ℕ → HostMoment → List CoursePoll
 taken_polls s m = polls_by_reader m (stream_in m.before s).reader.owner
 
 -- those of the host end across from a side
-abbrev pub polls_across : ℕ → Side → HostMoment → List Poll
+abbrev pub polls_across : ℕ → Side → HostMoment → List CoursePoll
 polls_across s Reading m = produced_polls s m
 polls_across s Writing m = taken_polls s m
 
 -- EVENTS
 
 -- what is done to an end, if it is accepted
-abbrev pub by_end_act : Side → NamedEnd → EndAct → Reply → List Poll → List StreamEvent
+abbrev pub by_end_act : Side → NamedEnd → EndAct → Reply → List CoursePoll → List StreamEvent
 by_end_act side end (end_acts.Operate address count) (replies.Code code) polls =
     Calls side (items_asked end.ty count) polls ∷ []
 by_end_act side end end_acts.Cancel (replies.Code code) polls = Cancels side ∷ []
@@ -72,7 +72,7 @@ by_end_act side end end_acts.Lift (replies.Number n) polls = Moves side NoGuest 
 by_end_act side end act reply polls = []
 
 -- what is done to an end that is named
-abbrev pub by_name : Side → Act → Reply → List Poll → List StreamEvent
+abbrev pub by_name : Side → Act → Reply → List CoursePoll → List StreamEvent
 by_name side (OnEnd on end act) reply polls = by_end_act side end act reply polls
 by_name side (Transfer end to) (replies.Number n) polls = Moves side AGuest ∷ []
 by_name side (Event g handle) (replies.Event code) polls = Hears side ∷ []
@@ -132,6 +132,6 @@ abbrev pub answered_in : ℕ → HostMoment → List (Option ReturnCode)
 answered_in s m = answered_at s Writing m ++ answered_at s Reading m
 
 -- and in these
-abbrev pub answered : ℕ → List HostMoment → List (Option ReturnCode)
-answered s [] = []
-answered s (m ∷ more) = answered_in s m ++ answered s more
+abbrev pub codes_answered : ℕ → List HostMoment → List (Option ReturnCode)
+codes_answered s [] = []
+codes_answered s (m ∷ more) = answered_in s m ++ codes_answered s more

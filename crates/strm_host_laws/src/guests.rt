@@ -16,9 +16,9 @@ ghost use Rattle.strm_machine.specs.declared.streams.Side.{Side};
 ghost use Rattle.strm_laws.specs.Conservation.{calls, got};
 ghost use Rattle.strm_laws.specs.Laws.{AreSteps, AreCounted, Conserves, Stands, HandlesHold, HandlesAreSingle, MembersAreLive, ContextsCount, waiting};
 ghost use Rattle.strm_host_machine.specs.World.{stream_in};
-ghost use Rattle.strm_host_machine.specs.Does.{start};
-ghost use Rattle.strm_host_laws.specs.HostMoments.{first_moments, last_of};
-ghost use Rattle.strm_host_laws.specs.HostLaws.{plains, is_hosted, is_piped, host_got, ConservesAmong, MovesByHosts};
+ghost use Rattle.strm_host_machine.specs.Does.{start_world};
+ghost use Rattle.strm_host_laws.specs.HostMoments.{first_moments, end_world};
+ghost use Rattle.strm_host_laws.specs.HostLaws.{plains, is_hosted, was_piped, host_got, ConservesAmong, MovesByHosts};
 
 /// Every state is sound, after whichever steps: handles name streams that were made, of their type, the
 /// items that an operation has left lie in its guest's memory, and each guest's table agrees with its
@@ -26,11 +26,11 @@ ghost use Rattle.strm_host_laws.specs.HostLaws.{plains, is_hosted, is_piped, hos
 /// writes, and a host reader the read end of its one stream, on which no guest reads.
 pub fn states_are_sound()
     ensures sound { (tag : ℕ) (limits : Limits) (old new : Tells) (run : List Step) (count : ℕ) →
-        IsSound (last_of (start tag limits old new)
-        (first_moments count (start tag limits old new) run)).state }
+        IsSound (end_world (start_world tag limits old new)
+        (first_moments count (start_world tag limits old new) run)).state }
     ensures hosts { (tag : ℕ) (limits : Limits) (old new : Tells) (run : List Step) (count : ℕ) →
-        HostsHold (last_of (start tag limits old new)
-        (first_moments count (start tag limits old new) run)).state }
+        HostsHold (end_world (start_world tag limits old new)
+        (first_moments count (start_world tag limits old new) run)).state }
 {}
 
 /// An end that a handle names is held under that handle, and an end that is held is named by its
@@ -38,11 +38,11 @@ pub fn states_are_sound()
 /// end's, or once it is gone.
 pub fn handles_hold_their_ends()
     ensures holds { (tag : ℕ) (limits : Limits) (old new : Tells) (run : List Step) (count : ℕ) →
-        HandlesHold (last_of (start tag limits old new)
-        (first_moments count (start tag limits old new) run)).state }
+        HandlesHold (end_world (start_world tag limits old new)
+        (first_moments count (start_world tag limits old new) run)).state }
     ensures single { (tag : ℕ) (limits : Limits) (old new : Tells) (run : List Step) (count : ℕ) →
-        HandlesAreSingle (last_of (start tag limits old new)
-        (first_moments count (start tag limits old new) run)).state }
+        HandlesAreSingle (end_world (start_world tag limits old new)
+        (first_moments count (start_world tag limits old new) run)).state }
 {}
 
 /// A member of a waitable set is a live handle of a stream's or future's end, in the table of the set's
@@ -50,8 +50,8 @@ pub fn handles_hold_their_ends()
 /// is there.
 pub fn members_are_live()
     ensures { (tag : ℕ) (limits : Limits) (old new : Tells) (run : List Step) (count : ℕ) →
-        MembersAreLive (last_of (start tag limits old new)
-        (first_moments count (start tag limits old new) run)).state }
+        MembersAreLive (end_world (start_world tag limits old new)
+        (first_moments count (start_world tag limits old new) run)).state }
 {}
 
 /// An error context counts the handles to it in all tables together, after whichever steps: it is there
@@ -59,8 +59,8 @@ pub fn members_are_live()
 /// 4,096 bytes.
 pub fn contexts_count_their_handles()
     ensures { (tag : ℕ) (limits : Limits) (old new : Tells) (run : List Step) (count : ℕ) →
-        ContextsCount (last_of (start tag limits old new)
-        (first_moments count (start tag limits old new) run)).state }
+        ContextsCount (end_world (start_world tag limits old new)
+        (first_moments count (start_world tag limits old new) run)).state }
 {}
 
 /// No stream or future has both an open write and an open read, after at most 4,294,967,295 steps. On one
@@ -68,16 +68,16 @@ pub fn contexts_count_their_handles()
 /// none reads any more.
 pub fn never_two_open()
     ensures apart { (tag : ℕ) (limits : Limits) (old new : Tells) (run : List Step) (count : ℕ) (s : ℕ) →
-        AreSteps run → both_open (stream_in (last_of (start tag limits old new)
-        (first_moments count (start tag limits old new) run)) s) ≡ false }
+        AreSteps run → both_open (stream_in (end_world (start_world tag limits old new)
+        (first_moments count (start_world tag limits old new) run)) s) ≡ false }
     ensures idle { (tag : ℕ) (limits : Limits) (old new : Tells) (run : List Step) (count : ℕ) (s : ℕ) →
-        AreSteps run → is_hosted s (first_moments count (start tag limits old new) run) ≡ true →
-        (stream_in (last_of (start tag limits old new)
-        (first_moments count (start tag limits old new) run)) s).writer.operation ≡ None }
+        AreSteps run → is_hosted s (first_moments count (start_world tag limits old new) run) ≡ true →
+        (stream_in (end_world (start_world tag limits old new)
+        (first_moments count (start_world tag limits old new) run)) s).writer.operation ≡ None }
     ensures unread { (tag : ℕ) (limits : Limits) (old new : Tells) (run : List Step) (count : ℕ) (s : ℕ) →
-        AreSteps run → is_piped s (first_moments count (start tag limits old new) run) ≡ true →
-        (stream_in (last_of (start tag limits old new)
-        (first_moments count (start tag limits old new) run)) s).reader.operation ≡ None }
+        AreSteps run → was_piped s (first_moments count (start_world tag limits old new) run) ≡ true →
+        (stream_in (end_world (start_world tag limits old new)
+        (first_moments count (start_world tag limits old new) run)) s).reader.operation ≡ None }
 {}
 
 /// A read or write that has not met has moved nothing, on a stream that no host writer made and whose read
@@ -85,10 +85,10 @@ pub fn never_two_open()
 /// items of a read or write that it leaves open.
 pub fn unmet_has_moved_none()
     ensures { (tag : ℕ) (limits : Limits) (old new : Tells) (run : List Step) (count : ℕ) (s : ℕ) →
-        AreSteps run → is_hosted s (first_moments count (start tag limits old new) run) ≡ false →
-        is_piped s (first_moments count (start tag limits old new) run) ≡ false →
-        AreUnmoved (stream_in (last_of (start tag limits old new)
-        (first_moments count (start tag limits old new) run)) s) }
+        AreSteps run → is_hosted s (first_moments count (start_world tag limits old new) run) ≡ false →
+        was_piped s (first_moments count (start_world tag limits old new) run) ≡ false →
+        AreUnmoved (stream_in (end_world (start_world tag limits old new)
+        (first_moments count (start_world tag limits old new) run)) s) }
 {}
 
 /// Of every stream: a write that has not met, and whose end is there, has moved something only while a host
@@ -96,16 +96,16 @@ pub fn unmet_has_moved_none()
 /// the write end.
 pub fn unmet_moves_by_host_ends()
     ensures { (tag : ℕ) (limits : Limits) (old new : Tells) (run : List Step) (count : ℕ) (s : ℕ) →
-        AreSteps run → MovesByHosts (stream_in (last_of (start tag limits old new)
-        (first_moments count (start tag limits old new) run)) s) }
+        AreSteps run → MovesByHosts (stream_in (end_world (start_world tag limits old new)
+        (first_moments count (start_world tag limits old new) run)) s) }
 {}
 
 /// The items of an operation, those that it moved and those that it has left, are below 2^28
 /// together.
 pub fn totals_are_counts()
     ensures { (tag : ℕ) (limits : Limits) (old new : Tells) (run : List Step) (count : ℕ) (s : ℕ) →
-        AreCounted (stream_in (last_of (start tag limits old new)
-        (first_moments count (start tag limits old new) run)) s) }
+        AreCounted (stream_in (end_world (start_world tag limits old new)
+        (first_moments count (start_world tag limits old new) run)) s) }
 {}
 
 /// On each stream of which no host end had an end, what was received is, in order, exactly the first k items
@@ -116,19 +116,19 @@ pub fn totals_are_counts()
 /// lies behind that.
 pub fn conservation()
     ensures conserves { (tag : ℕ) (limits : Limits) (old new : Tells) (run : List Step) (count : ℕ) (s : ℕ) →
-        AreSteps run → is_hosted s (first_moments count (start tag limits old new) run) ≡ false →
-        is_piped s (first_moments count (start tag limits old new) run) ≡ false →
-        Conserves s (plains (first_moments count (start tag limits old new) run))
-        (last_of (start tag limits old new) (first_moments count (start tag limits old new) run)).state }
+        AreSteps run → is_hosted s (first_moments count (start_world tag limits old new) run) ≡ false →
+        was_piped s (first_moments count (start_world tag limits old new) run) ≡ false →
+        Conserves s (plains (first_moments count (start_world tag limits old new) run))
+        (end_world (start_world tag limits old new) (first_moments count (start_world tag limits old new) run)).state }
     ensures stands { (tag : ℕ) (limits : Limits) (old new : Tells) (run : List Step) (count : ℕ) (s : ℕ)
         (side : Side) →
-        AreSteps run → is_hosted s (first_moments count (start tag limits old new) run) ≡ false →
-        is_piped s (first_moments count (start tag limits old new) run) ≡ false →
-        Stands (stream_in (last_of (start tag limits old new)
-        (first_moments count (start tag limits old new) run)) s).payload
-        (waiting s side (last_of (start tag limits old new)
-        (first_moments count (start tag limits old new) run)).state)
-        (calls s side (plains (first_moments count (start tag limits old new) run))) }
+        AreSteps run → is_hosted s (first_moments count (start_world tag limits old new) run) ≡ false →
+        was_piped s (first_moments count (start_world tag limits old new) run) ≡ false →
+        Stands (stream_in (end_world (start_world tag limits old new)
+        (first_moments count (start_world tag limits old new) run)) s).payload
+        (waiting s side (end_world (start_world tag limits old new)
+        (first_moments count (start_world tag limits old new) run)).state)
+        (calls s side (plains (first_moments count (start_world tag limits old new) run))) }
 {}
 
 /// The same of each stream or future that guests write, where a host reader had the read end too: what was
@@ -137,32 +137,32 @@ pub fn conservation()
 /// report and what the host reader took are together as many items. On a future one item is received at most.
 pub fn conservation_among()
     ensures conserves { (tag : ℕ) (limits : Limits) (old new : Tells) (run : List Step) (count : ℕ) (s : ℕ) →
-        AreSteps run → is_hosted s (first_moments count (start tag limits old new) run) ≡ false →
-        ConservesAmong s (first_moments count (start tag limits old new) run)
-        (last_of (start tag limits old new) (first_moments count (start tag limits old new) run)).state }
+        AreSteps run → is_hosted s (first_moments count (start_world tag limits old new) run) ≡ false →
+        ConservesAmong s (first_moments count (start_world tag limits old new) run)
+        (end_world (start_world tag limits old new) (first_moments count (start_world tag limits old new) run)).state }
     ensures stands { (tag : ℕ) (limits : Limits) (old new : Tells) (run : List Step) (count : ℕ) (s : ℕ)
         (side : Side) →
-        AreSteps run → is_hosted s (first_moments count (start tag limits old new) run) ≡ false →
-        Stands (stream_in (last_of (start tag limits old new)
-        (first_moments count (start tag limits old new) run)) s).payload
-        (waiting s side (last_of (start tag limits old new)
-        (first_moments count (start tag limits old new) run)).state)
-        (calls s side (plains (first_moments count (start tag limits old new) run))) }
+        AreSteps run → is_hosted s (first_moments count (start_world tag limits old new) run) ≡ false →
+        Stands (stream_in (end_world (start_world tag limits old new)
+        (first_moments count (start_world tag limits old new) run)) s).payload
+        (waiting s side (end_world (start_world tag limits old new)
+        (first_moments count (start_world tag limits old new) run)).state)
+        (calls s side (plains (first_moments count (start_world tag limits old new) run))) }
     ensures one { (tag : ℕ) (limits : Limits) (old new : Tells) (run : List Step) (count : ℕ) (s : ℕ) →
-        AreSteps run → is_hosted s (first_moments count (start tag limits old new) run) ≡ false →
-        (stream_in (last_of (start tag limits old new)
-        (first_moments count (start tag limits old new) run)) s).kind ≡ Future →
-        length (host_got s (first_moments count (start tag limits old new) run)) ≤ 1 }
+        AreSteps run → is_hosted s (first_moments count (start_world tag limits old new) run) ≡ false →
+        (stream_in (end_world (start_world tag limits old new)
+        (first_moments count (start_world tag limits old new) run)) s).kind ≡ Future →
+        length (host_got s (first_moments count (start_world tag limits old new) run)) ≤ 1 }
 {}
 
 /// On a future of which no host end had an end one item is received at most.
 pub fn futures_pass_one()
     ensures { (tag : ℕ) (limits : Limits) (old new : Tells) (run : List Step) (count : ℕ) (s : ℕ) →
-        AreSteps run → is_hosted s (first_moments count (start tag limits old new) run) ≡ false →
-        is_piped s (first_moments count (start tag limits old new) run) ≡ false →
-        (stream_in (last_of (start tag limits old new)
-        (first_moments count (start tag limits old new) run)) s).kind ≡ Future →
-        length (got s (plains (first_moments count (start tag limits old new) run))) ≤ 1 }
+        AreSteps run → is_hosted s (first_moments count (start_world tag limits old new) run) ≡ false →
+        was_piped s (first_moments count (start_world tag limits old new) run) ≡ false →
+        (stream_in (end_world (start_world tag limits old new)
+        (first_moments count (start_world tag limits old new) run)) s).kind ≡ Future →
+        length (got s (plains (first_moments count (start_world tag limits old new) run))) ≤ 1 }
 {}
 
 /// Nothing but a poke, a message and the items received changes a memory: in each moment of a run all other
@@ -171,12 +171,12 @@ pub fn futures_pass_one()
 /// none.
 pub fn other_bytes_stay()
     ensures { (tag : ℕ) (limits : Limits) (old new : Tells) (run : List Step) (count : ℕ) → AreSteps run →
-        All StaysAside (plains (first_moments count (start tag limits old new) run)) }
+        All StaysAside (plains (first_moments count (start_world tag limits old new) run)) }
 {}
 
 /// The bytes that a step puts into a memory, those of a poke or of an error context's message, lie there
 /// after it, in whichever run: exactly as many as the step names, or answers.
 pub fn bytes_are_put()
     ensures { (tag : ℕ) (limits : Limits) (old new : Tells) (run : List Step) (count : ℕ) →
-        All LieThere (plains (first_moments count (start tag limits old new) run)) }
+        All LieThere (plains (first_moments count (start_world tag limits old new) run)) }
 {}

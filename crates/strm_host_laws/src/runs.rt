@@ -11,17 +11,17 @@ ghost use Rattle.strm_machine.specs.declared.steps.Step.{Step};
 ghost use Rattle.strm_machine.specs.declared.stops.Stop.{Stop};
 ghost use Rattle.strm_host_machine.specs.Ends.{Writer, Reader, writer_in, reader_in};
 ghost use Rattle.strm_host_machine.specs.World.{World, writer_at, reader_at};
-ghost use Rattle.strm_host_machine.specs.HostPlays.{Ends, Halts, play};
-ghost use Rattle.strm_host_machine.specs.Does.{start};
+ghost use Rattle.strm_host_machine.specs.HostPlays.{Ends, Halts, host_play};
+ghost use Rattle.strm_host_machine.specs.Does.{start_world};
 ghost use Rattle.strm_laws.specs.Laws.{AreSteps};
-ghost use Rattle.strm_host_laws.specs.HostMoments.{host_moments, first_moments, last_of};
+ghost use Rattle.strm_host_laws.specs.HostMoments.{host_moments, first_moments, end_world};
 ghost use Rattle.strm_host_laws.specs.Isolation.{AreIsolated};
-ghost use Rattle.strm_host_laws.specs.HostLaws.{ClosesExactly, EndsExactly, WriterGoesOn, WriterStops, Supplies, DeliversAll, ReadersCloseExactly, ReaderGoesOn, ReaderStops, TellsTaken};
+ghost use Rattle.strm_host_laws.specs.HostLaws.{ClosesExactly, EndsExactly, WriterGoesOn, WriterHalts, Supplies, DeliversAll, ReadersCloseExactly, ReaderGoesOn, ReaderHalts, TellsTaken};
 
 /// The moments of a run lead to where its play ends, from whichever world.
 pub fn moments_lead_to_the_end()
     ensures { (first : World) (run : List Step) (replies : List Reply) (end : World) →
-        play [] first run ≡ Ends replies end → last_of first (host_moments first run) ≡ end }
+        host_play [] first run ≡ Ends replies end → end_world first (host_moments first run) ≡ end }
 {}
 
 /// Exactly the host writers that became gone were closed: after whichever steps a host writer is closed
@@ -29,38 +29,38 @@ pub fn moments_lead_to_the_end()
 /// else. A step that stops closes none, and those tell then that they are gone that were gone before it.
 pub fn ends_close_exactly()
     ensures runs { (tag : ℕ) (limits : Limits) (old new : Tells) (run : List Step) (replies : List Reply)
-        (end : World) → play [] (start tag limits old new) run ≡ Ends replies end →
-        ClosesExactly (start tag limits old new) end.state end.writers }
+        (end : World) → host_play [] (start_world tag limits old new) run ≡ Ends replies end →
+        ClosesExactly (start_world tag limits old new) end.state end.writers }
     ensures moments { (tag : ℕ) (limits : Limits) (old new : Tells) (run : List Step) (count : ℕ) →
-        ClosesExactly (start tag limits old new)
-        (last_of (start tag limits old new) (first_moments count (start tag limits old new) run)).state
-        (last_of (start tag limits old new) (first_moments count (start tag limits old new) run)).writers }
+        ClosesExactly (start_world tag limits old new)
+        (end_world (start_world tag limits old new) (first_moments count (start_world tag limits old new) run)).state
+        (end_world (start_world tag limits old new) (first_moments count (start_world tag limits old new) run)).writers }
     ensures stops { (tag : ℕ) (limits : Limits) (old new : Tells) (run : List Step) (replies : List Reply)
         (stop : Stop) (writers : List Writer) (readers : List Reader) →
-        play [] (start tag limits old new) run ≡ Halts replies stop writers readers →
-        ClosesExactly (start tag limits old new)
-        (last_of (start tag limits old new) (host_moments (start tag limits old new) run)).state writers }
+        host_play [] (start_world tag limits old new) run ≡ Halts replies stop writers readers →
+        ClosesExactly (start_world tag limits old new)
+        (end_world (start_world tag limits old new) (host_moments (start_world tag limits old new) run)).state writers }
     ensures gone { (tag : ℕ) (limits : Limits) (old new : Tells) (run : List Step) (replies : List Reply)
         (stop : Stop) (writers : List Writer) (readers : List Reader) →
-        play [] (start tag limits old new) run ≡ Halts replies stop writers readers →
-        EndsExactly (last_of (start tag limits old new) (host_moments (start tag limits old new) run)).state
+        host_play [] (start_world tag limits old new) run ≡ Halts replies stop writers readers →
+        EndsExactly (end_world (start_world tag limits old new) (host_moments (start_world tag limits old new) run)).state
         writers }
 {}
 
 /// Exactly the host readers that became gone were closed, as for host writers.
 pub fn readers_close_exactly()
     ensures runs { (tag : ℕ) (limits : Limits) (old new : Tells) (run : List Step) (replies : List Reply)
-        (end : World) → play [] (start tag limits old new) run ≡ Ends replies end →
-        ReadersCloseExactly (start tag limits old new) end.state end.readers }
+        (end : World) → host_play [] (start_world tag limits old new) run ≡ Ends replies end →
+        ReadersCloseExactly (start_world tag limits old new) end.state end.readers }
     ensures moments { (tag : ℕ) (limits : Limits) (old new : Tells) (run : List Step) (count : ℕ) →
-        ReadersCloseExactly (start tag limits old new)
-        (last_of (start tag limits old new) (first_moments count (start tag limits old new) run)).state
-        (last_of (start tag limits old new) (first_moments count (start tag limits old new) run)).readers }
+        ReadersCloseExactly (start_world tag limits old new)
+        (end_world (start_world tag limits old new) (first_moments count (start_world tag limits old new) run)).state
+        (end_world (start_world tag limits old new) (first_moments count (start_world tag limits old new) run)).readers }
     ensures stops { (tag : ℕ) (limits : Limits) (old new : Tells) (run : List Step) (replies : List Reply)
         (stop : Stop) (writers : List Writer) (readers : List Reader) →
-        play [] (start tag limits old new) run ≡ Halts replies stop writers readers →
-        ReadersCloseExactly (start tag limits old new)
-        (last_of (start tag limits old new) (host_moments (start tag limits old new) run)).state readers }
+        host_play [] (start_world tag limits old new) run ≡ Halts replies stop writers readers →
+        ReadersCloseExactly (start_world tag limits old new)
+        (end_world (start_world tag limits old new) (host_moments (start_world tag limits old new) run)).state readers }
 {}
 
 /// A host writer uses its records in order, each once, and hears exactly the accepted feeds to it, in
@@ -70,10 +70,10 @@ pub fn readers_close_exactly()
 pub fn writers_are_fed_exactly()
     ensures runs { (first : World) (run : List Step) (count : ℕ) (n : ℕ) →
         WriterGoesOn n (first_moments count first run) (writer_at first n)
-        (writer_at (last_of first (first_moments count first run)) n) }
+        (writer_at (end_world first (first_moments count first run)) n) }
     ensures stops { (first : World) (run : List Step) (replies : List Reply) (stop : Stop)
-        (writers : List Writer) (readers : List Reader) → play [] first run ≡ Halts replies stop writers readers →
-        (n : ℕ) → WriterStops (writer_at (last_of first (host_moments first run)) n) (writer_in writers n) }
+        (writers : List Writer) (readers : List Reader) → host_play [] first run ≡ Halts replies stop writers readers →
+        (n : ℕ) → WriterHalts (writer_at (end_world first (host_moments first run)) n) (writer_in writers n) }
 {}
 
 /// A host reader uses its records in order, each once, and hears exactly the accepted grants to it, in order,
@@ -82,10 +82,10 @@ pub fn writers_are_fed_exactly()
 pub fn readers_are_granted_exactly()
     ensures runs { (first : World) (run : List Step) (count : ℕ) (r : ℕ) →
         ReaderGoesOn r (first_moments count first run) (reader_at first r)
-        (reader_at (last_of first (first_moments count first run)) r) }
+        (reader_at (end_world first (first_moments count first run)) r) }
     ensures stops { (first : World) (run : List Step) (replies : List Reply) (stop : Stop)
-        (writers : List Writer) (readers : List Reader) → play [] first run ≡ Halts replies stop writers readers →
-        (r : ℕ) → ReaderStops (reader_at (last_of first (host_moments first run)) r) (reader_in readers r) }
+        (writers : List Writer) (readers : List Reader) → host_play [] first run ≡ Halts replies stop writers readers →
+        (r : ℕ) → ReaderHalts (reader_at (end_world first (host_moments first run)) r) (reader_in readers r) }
 {}
 
 /// On each stream of a host writer, what the writer held when the stream was made and the items of all
@@ -96,9 +96,9 @@ pub fn readers_are_granted_exactly()
 /// writer passes one item at most, if the writer held no more than one when the future was made.
 pub fn producers_deliver_in_order()
     ensures { (tag : ℕ) (limits : Limits) (old new : Tells) (run : List Step) (count : ℕ) (s : ℕ) →
-        ((n : ℕ) → Supplies (writer_at (start tag limits old new) n)) → length run ≤ 4294967295 →
-        DeliversAll s (first_moments count (start tag limits old new) run)
-        (last_of (start tag limits old new) (first_moments count (start tag limits old new) run)) }
+        ((n : ℕ) → Supplies (writer_at (start_world tag limits old new) n)) → length run ≤ 4294967295 →
+        DeliversAll s (first_moments count (start_world tag limits old new) run)
+        (end_world (start_world tag limits old new) (first_moments count (start_world tag limits old new) run)) }
 {}
 
 /// What host readers take of a stream are items, each of them. A host reader that got the read end of a
@@ -107,10 +107,10 @@ pub fn producers_deliver_in_order()
 /// writer held and produced: so what it tells is what was taken.
 pub fn readers_tell_what_they_took()
     ensures { (tag : ℕ) (limits : Limits) (old new : Tells) (run : List Step) (count : ℕ) (s r : ℕ) → AreSteps run →
-        TellsTaken s r (first_moments count (start tag limits old new) run)
-        (reader_at (start tag limits old new) r)
-        (reader_at (last_of (start tag limits old new)
-        (first_moments count (start tag limits old new) run)) r) }
+        TellsTaken s r (first_moments count (start_world tag limits old new) run)
+        (reader_at (start_world tag limits old new) r)
+        (reader_at (end_world (start_world tag limits old new)
+        (first_moments count (start_world tag limits old new) run)) r) }
 {}
 
 /// Streams are isolated: the codes answered for a stream are those of its kind and of its own events,
@@ -119,6 +119,6 @@ pub fn readers_tell_what_they_took()
 /// that stops.
 pub fn streams_are_isolated()
     ensures { (tag : ℕ) (limits : Limits) (old new : Tells) (run : List Step) (count : ℕ) →
-        AreIsolated (first_moments count (start tag limits old new) run)
-        (last_of (start tag limits old new) (first_moments count (start tag limits old new) run)) }
+        AreIsolated (first_moments count (start_world tag limits old new) run)
+        (end_world (start_world tag limits old new) (first_moments count (start_world tag limits old new) run)) }
 {}

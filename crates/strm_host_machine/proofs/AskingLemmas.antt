@@ -43,14 +43,14 @@ use Rattle.strm_host_machine.specs.Ends.{Writer, Reader, polled_writer, polled_r
 use Rattle.strm_host_machine.specs.World.{World, stream_in, writer_at, reader_at, held_of, with_kept, with_writer, with_reader, leaves_reader, with_stream_in}
 use Rattle.strm_host_machine.specs.Outcomes.{Outcome, Goes, Stops, Stuck, stops, done, then_on, of_reply}
 use Rattle.strm_host_machine.specs.Polls.{AfterWriter, is_failed, is_writer_poll, writer_says, AfterReader, is_reader_poll, are_items, tells_truly, reader_says}
-use Rattle.strm_host_machine.specs.Producing.{receives, with_answer, produced_result, produces, producer_turn}
-use Rattle.strm_host_machine.specs.Consuming.{lifted, with_taken, gives_up, consumer_turn}
-use Rattle.strm_host_machine.specs.Settling.{answered_with, answered}
+use Rattle.strm_host_machine.specs.WriterTurn.{receives, with_answer, produced_result, produces, writer_turn}
+use Rattle.strm_host_machine.specs.ReaderTurn.{lifted_items, reader_with_taken, gives_up, reader_turn}
+use Rattle.strm_host_machine.specs.Settling.{answered_with, turn_answered}
 use Rattle.strm_host_machine.specs.Piping.{wants_items, fetches, gathered, passed_on, offers, is_done_with, is_run_dry, ends_if_done, pipe_round}
 use Rattle.strm_host_machine.specs.Driving.{if_open, driven_by, drive_turn, driven, numbers_from, round_of}
 use Rattle.strm_host_machine.specs.Attaching.{has_items, hosts_new, pipes, forsakes}
 use Rattle.strm_host_machine.specs.HostRefusals.{refusal_in}
-use Rattle.strm_host_machine.specs.Steps.{Touch, Operates, Drops, Hosts, Drives, TouchesNone, touch_of, reacts, writes_to, operates_by, on_host, performs_by, performs_in, unless_refused_in, outcome, step_of}
+use Rattle.strm_host_machine.specs.Steps.{Touch, Operates, Drops, Hosts, Drives, TouchesNone, touch_of, reacts, writes_to, operates_by, on_host, performs_by, performs_in, unless_refused_in, outcome, outcome_of_step}
 use Rattle.strm_host_machine.specs.Asking.{asked_by, GuestAsksBad, ReaderAsksBad, with_write, WriteAsksBad, DriveAsksBad, AsksBadItem, ByGuest, InCall, InDrive, after_asking, stands_at}
 use Rattle.strm_machine.proofs.TableLemmas.{set-keeps}
 use Rattle.strm_host_machine.proofs.SettleLemmas.{leaves_writer-stays, leaves_reader-stays}
@@ -65,7 +65,7 @@ none_by : (o : Option (List Item)) (n : ℕ) → ((xs : List Item) → o ≡ Som
 none_by None n h e = refl
 none_by (Some xs) n h e = absurd (let wrong = sym e ∙ eq-eqb (length xs) n (h xs refl) in cc)
 
-next_none : (state : State) (s : ℕ) (write : Operation) (n : ℕ) → are_items (lifted state.guests (stream_at state s).payload write) n ≡ false → items_next state s write n ≡ None
+next_none : (state : State) (s : ℕ) (write : Operation) (n : ℕ) → are_items (lifted_items state.guests (stream_at state s).payload write) n ≡ false → items_next state s write n ≡ None
 next_none state s write n e =
     none_by (items_next state s write n) n
     (length-items (scalars_of (stream_at state s).payload) (drop write.address (memory_in state.guests write.guest)) n) e
@@ -88,7 +88,7 @@ unfolding items
 no_items state s write e = cc
 
 -- the items that a reader asks for are none only where it tells of a bad one
-bad_asked : (state : State) (s offered : ℕ) (write : Operation) (said : ReaderSaid) → tells_truly offered (lifted state.guests (stream_at state s).payload write) said ≡ true → items_next state s write (asked_by said) ≡ None → said.bad ≡ true
+bad_asked : (state : State) (s offered : ℕ) (write : Operation) (said : ReaderSaid) → tells_truly offered (lifted_items state.guests (stream_at state s).payload write) said ≡ true → items_next state s write (asked_by said) ≡ None → said.bad ≡ true
 bad_asked state s offered write said t e = by said.bad refl
   where
     some_taken : (o : Option (List Item)) (n : ℕ) → o ≡ None → (length (listed o) == n ≡ true) → n ≡ 0
@@ -99,7 +99,7 @@ bad_asked state s offered write said t e = by said.bad refl
     by true f = refl
     by false f =
         let taken : items_next state s write said.taken ≡ None = subst (λ x. items_next state s write (cond x (said.taken + 1) said.taken) ≡ None) f e in
-        let first = lifted state.guests (stream_at state s).payload write in
+        let first = lifted_items state.guests (stream_at state s).payload write in
         let good = (and_parts (are_items first said.taken) (not said.bad || (nat_lt said.taken offered && not (are_items first (said.taken + 1)))) t).0 in
         let nothing = some_taken (items_next state s write said.taken) said.taken taken good in
         absurd (no_items state s write (subst (λ n. items_next state s write n ≡ None) nothing taken))
@@ -152,8 +152,8 @@ module _ (P : ℕ → Type 0) where
       (λ after said. done (receives (with_answer after n said.answer (drop read.left said.items)) s read (take read.left said.items) (produced_result said.answer (drop read.left said.items))))
       (λ v said. tt))
 
-  produced-bad : (w : World) (s n : ℕ) (read : Operation) → IfBad P (producer_turn w s n read)
-  unfolding producer_turn
+  produced-bad : (w : World) (s n : ℕ) (read : Operation) → IfBad P (writer_turn w s n read)
+  unfolding writer_turn
   produced-bad w s n read = produces-bad w s n read (writer_at w n).holds
 
 -- ## A poll of a host reader
@@ -191,12 +191,12 @@ record AsksOf (w : World) (s : ℕ) (write : Operation) (t : ℕ) : Type 0 where
   same : t ≡ s
   asks : ReaderAsksBad w s write
 
-consumed-bad : (w : World) (s r : ℕ) (write : Operation) → (stream_in w s).reader.owner ≡ Host r → IfBad (AsksOf w s write) (consumer_turn w s r write)
-unfolding consumer_turn
+consumed-bad : (w : World) (s r : ℕ) (write : Operation) → (stream_in w s).reader.owner ≡ Host r → IfBad (AsksOf w s write) (reader_turn w s r write)
+unfolding reader_turn
 consumed-bad w s r write o =
-    let first = lifted w.state.guests (stream_in w s).payload write in
+    let first = lifted_items w.state.guests (stream_in w s).payload write in
     reader-bad (AsksOf w s write) w s r write.left write.asked first (reader_at w r).coming
-    (λ after said. done (gives_up (with_taken after r said.answer said.taken) s write said.taken said.answer))
+    (λ after said. done (gives_up (reader_with_taken after r said.answer said.taken) s write said.taken said.answer))
     refl
     (λ said u. record {
       same = refl;
@@ -220,13 +220,13 @@ module _ (w : World) (s : ℕ) (write : Operation) (a : ReaderAsksBad w s write)
   r = a.reader
 
   abbrev first : ℕ → List Item
-  first = lifted w.state.guests (stream_in w s).payload write
+  first = lifted_items w.state.guests (stream_in w s).payload write
 
   abbrev after : World
   after = after_asking w s write a
 
   abbrev goes_on : AfterReader
-  goes_on v said = done (gives_up (with_taken v r said.answer said.taken) s write said.taken said.answer)
+  goes_on v said = done (gives_up (reader_with_taken v r said.answer said.taken) s write said.taken said.answer)
 
   abbrev broke_or : Bool → Outcome
   broke_or b = cond b (stops (HostBroke (ends.Reader r)) after) (goes_on after a.said)
@@ -237,8 +237,8 @@ module _ (w : World) (s : ℕ) (write : Operation) (a : ReaderAsksBad w s write)
   abbrev failed_or : Bool → Outcome
   failed_or b = cond b (stops (HostFailed (ends.Reader r)) after) (bad_or a.said.bad)
 
-  turn-asked : consumer_turn w s r write ≡ stops (BadItem s) after
-  unfolding consumer_turn
+  turn-asked : reader_turn w s r write ≡ stops (BadItem s) after
+  unfolding reader_turn
   turn-asked =
       ap (λ rs. reader_says w s r write.left write.asked first rs goes_on) a.next
       ∙ ap (λ b. cond (b && tells_truly write.left first a.said) (failed_or (is_failed a.said.answer)) Stuck) a.polled
@@ -308,16 +308,16 @@ open-bad P w None turn h = tt
 open-bad P w (Some operation) turn h = cond_both operation.is_open _ _ (IfBad P) (λ e. h operation refl e) (λ e. tt)
 
 -- a guest's open write, which a host reader reads
-read-bad : (w : World) (s r : ℕ) → is_host (stream_in w s).writer.owner ≡ false → (stream_in w s).reader.owner ≡ Host r → IfBad (TurnBad w s) (if_open w (stream_in w s).writer.operation (consumer_turn w s r))
+read-bad : (w : World) (s r : ℕ) → is_host (stream_in w s).writer.owner ≡ false → (stream_in w s).reader.owner ≡ Host r → IfBad (TurnBad w s) (if_open w (stream_in w s).writer.operation (reader_turn w s r))
 read-bad w s r u o =
-    open-bad (TurnBad w s) w (stream_in w s).writer.operation (consumer_turn w s r)
-    (λ write e f. bad_weaker (AsksOf w s write) (TurnBad w s) (consumer_turn w s r write)
+    open-bad (TurnBad w s) w (stream_in w s).writer.operation (reader_turn w s r)
+    (λ write e f. bad_weaker (AsksOf w s write) (TurnBad w s) (reader_turn w s r write)
     (λ t a. record { same = a.same; unhosted = u; write = write; waits = e; opened = f; asks = a.asks })
     (consumed-bad w s r write o))
 
 driven_by-bad : (w : World) (s : ℕ) (writer reader : Owner) → (stream_in w s).writer.owner ≡ writer → (stream_in w s).reader.owner ≡ reader → IfBad (TurnBad w s) (driven_by w s (stream_in w s) writer reader)
 driven_by-bad w s (Host n) (Host r) e f = piped-bad (TurnBad w s) w s n r
-driven_by-bad w s (Host n) _ e f = open-bad (TurnBad w s) w (stream_in w s).reader.operation (producer_turn w s n) (λ read g h. produced-bad (TurnBad w s) w s n read)
+driven_by-bad w s (Host n) _ e f = open-bad (TurnBad w s) w (stream_in w s).reader.operation (writer_turn w s n) (λ read g h. produced-bad (TurnBad w s) w s n read)
 driven_by-bad w s (Held g h) (Host r) e f = read-bad w s r (ap is_host e) f
 driven_by-bad w s Loose (Host r) e f = read-bad w s r (ap is_host e) f
 driven_by-bad w s Gone (Host r) e f = read-bad w s r (ap is_host e) f
@@ -447,24 +447,24 @@ module _ (w : World) (step : Step) (untrapped : w.state.trapped ≡ false) where
       let s = stream_named (named w.state end) in
       let read = begun end.guest address (items_asked end.ty count) in
       let opened = with_stream_in w s (with_operation Reading (stream_in w s) read) in
-      then_bad Bad (producer_turn opened s n read) (λ after. answered after s Reading) (produced-bad Bad opened s n read) (λ reply v g. answered-bad v s Reading _)
+      then_bad Bad (writer_turn opened s n read) (λ after. turn_answered after s Reading) (produced-bad Bad opened s n read) (λ reply v g. turn_answered-bad v s Reading _)
     where
-      answered-bad : (v : World) (s : ℕ) (side : Side) (code : Option ReturnCode) → IfBad Bad (answered_with v s side code)
-      answered-bad v s side (Some code) = tt
-      answered-bad v s side None = tt
+      turn_answered-bad : (v : World) (s : ℕ) (side : Side) (code : Option ReturnCode) → IfBad Bad (answered_with v s side code)
+      turn_answered-bad v s side (Some code) = tt
+      turn_answered-bad v s side None = tt
   operates-bad Writing end address count (Host r) does u e =
       let s = stream_named (named w.state end) in
       let write = begun end.guest address (items_asked end.ty count) in
       let opened = with_write w s write in
-      then_bad Bad (consumer_turn opened s r write) (λ after. answered after s Writing)
-      (bad_weaker (AsksOf opened s write) Bad (consumer_turn opened s r write)
+      then_bad Bad (reader_turn opened s r write) (λ after. turn_answered after s Writing)
+      (bad_weaker (AsksOf opened s write) Bad (reader_turn opened s r write)
       (λ t a. subst Bad (sym a.same) (InCall (record { end = end; address = address; count = count; does = does; unrefused = u; stream = refl; write = write; begins = refl; asks = a.asks })))
       (consumed-bad opened s r write (opened-reader w s write ∙ e)))
-      (λ reply v g. answered-bad v s Writing _)
+      (λ reply v g. turn_answered-bad v s Writing _)
     where
-      answered-bad : (v : World) (s : ℕ) (side : Side) (code : Option ReturnCode) → IfBad Bad (answered_with v s side code)
-      answered-bad v s side (Some code) = tt
-      answered-bad v s side None = tt
+      turn_answered-bad : (v : World) (s : ℕ) (side : Side) (code : Option ReturnCode) → IfBad Bad (answered_with v s side code)
+      turn_answered-bad v s side (Some code) = tt
+      turn_answered-bad v s side None = tt
   operates-bad side end address count (Held g h) does u e = meets-bad side end address count (Held g h) does refl (ap is_host e)
   operates-bad side end address count Loose does u e = meets-bad side end address count Loose does refl (ap is_host e)
   operates-bad side end address count Gone does u e = meets-bad side end address count Gone does refl (ap is_host e)
@@ -512,22 +512,22 @@ module _ (w : World) (step : Step) (untrapped : w.state.trapped ≡ false) where
   unless-bad (Some refused) e = tt
   unless-bad None e = by_touch (act_of step) refl refl e
 
-  step-bad : IfBad Bad (step_of w step)
+  step-bad : IfBad Bad (outcome_of_step w step)
   unfolding outcome
   step-bad =
       let act = act_of step in
       cond_both w.state.trapped (stops StoreTrapped w) (unless_refused_in w act (refusal_in w act)) (IfBad Bad) (λ e. tt) (λ e. unless-bad (refusal_in w act) refl)
 
   -- a step that stops at a bad item asks for it
-  pub stops-asks : (s : ℕ) (writers : List Writer) (readers : List Reader) → step_of w step ≡ Stops (BadItem s) writers readers → AsksBadItem w step s
-  stops-asks s writers readers e = bad_is Bad (step_of w step) s writers readers step-bad e
+  pub stops-asks : (s : ℕ) (writers : List Writer) (readers : List Reader) → outcome_of_step w step ≡ Stops (BadItem s) writers readers → AsksBadItem w step s
+  stops-asks s writers readers e = bad_is Bad (outcome_of_step w step) s writers readers step-bad e
 
   -- ## And a step that asks for a bad item stops at it
 
-  performed : (act : Act) → act_of step ≡ act → refusal_in w (act_of step) ≡ None → step_of w step ≡ performs_in w act
+  performed : (act : Act) → act_of step ≡ act → refusal_in w (act_of step) ≡ None → outcome_of_step w step ≡ performs_in w act
   performed act e u = outcome-performs w (act_of step) untrapped u ∙ ap (performs_in w) e
 
-  guest-stops : (s : ℕ) (g : GuestAsksBad w step s) → step_of w step ≡ stops (BadItem s) w
+  guest-stops : (s : ℕ) (g : GuestAsksBad w step s) → outcome_of_step w step ≡ stops (BadItem s) w
   unfolding performs_in
   guest-stops s g =
       let a = g.asks.asked in
@@ -539,7 +539,7 @@ module _ (w : World) (step : Step) (untrapped : w.state.trapped ≡ false) where
       ∙ ap (reacts w) (sym a.does)
       ∙ ap (λ (r : Reaction). of_reply r.reply (record w { state = r.state })) (bad-traps w.state step s untrapped g.asks)
 
-  call-stops : (s : ℕ) (c : WriteAsksBad w step s) → step_of w step ≡ stops (BadItem s) (after_asking (with_write w s c.write) s c.write c.asks)
+  call-stops : (s : ℕ) (c : WriteAsksBad w step s) → outcome_of_step w step ≡ stops (BadItem s) (after_asking (with_write w s c.write) s c.write c.asks)
   unfolding performs_in
   call-stops s c =
       let owner : (stream_in w s).reader.owner ≡ Host c.asks.reader = sym (opened-reader w s c.write) ∙ c.asks.owner in
@@ -548,15 +548,15 @@ module _ (w : World) (step : Step) (untrapped : w.state.trapped ≡ false) where
       ∙ ap (operates_by w Writing c.end c.address c.count) owner
       ∙ ap (λ n. writes_to w n c.asks.reader (begun c.end.guest c.address (items_asked c.end.ty c.count))) c.stream
       ∙ ap (writes_to w s c.asks.reader) (sym c.begins)
-      ∙ ap (λ o. then_on o (λ after. answered after s Writing)) (turn-asked (with_write w s c.write) s c.write c.asks)
+      ∙ ap (λ o. then_on o (λ after. turn_answered after s Writing)) (turn-asked (with_write w s c.write) s c.write c.asks)
 
-  drive-stops : (s : ℕ) (d : DriveAsksBad w step s) → step_of w step ≡ stops (BadItem s) (after_asking d.turn s d.write d.asks)
+  drive-stops : (s : ℕ) (d : DriveAsksBad w step s) → outcome_of_step w step ≡ stops (BadItem s) (after_asking d.turn s d.write d.asks)
   unfolding performs_in
   drive-stops s d =
       performed Drive d.does (ap (refusal_in w) d.does ∙ refusal_in-drive w)
       ∙ driven-asked w (length w.state.streams) s (record { there = d.there; turn = d.turn; before = d.before; unhosted = d.unhosted; write = d.write; waits = d.waits; opened = d.opened; asks = d.asks })
 
-  pub asks-stops : (s : ℕ) (a : AsksBadItem w step s) → step_of w step ≡ stops (BadItem s) (stands_at w step s a)
+  pub asks-stops : (s : ℕ) (a : AsksBadItem w step s) → outcome_of_step w step ≡ stops (BadItem s) (stands_at w step s a)
   asks-stops s (ByGuest g) = guest-stops s g
   asks-stops s (InCall c) = call-stops s c
   asks-stops s (InDrive d) = drive-stops s d

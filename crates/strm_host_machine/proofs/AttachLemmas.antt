@@ -2,7 +2,7 @@
 use Rattle.std.proofs.Common.{◌≡◌, ℕ, zero, suc, ◌<◌, List, [], ◌∷◌, ◌++◌, length, drop, Ok, refl, sym, ap, ◌∙◌, arith}
 use Rattle.std.specs.Prelude.{slice_set, slice_index_or}
 use Rattle.strm_buffers.specs.Said.{WriterSaid}
-use Rattle.strm_buffers.specs.Tells.{WriterTells, Tells, no_tells, told_by, with_told, fed}
+use Rattle.strm_buffers.specs.Tells.{WriterTells, Tells, no_tells, told_by, with_told, writer_fed}
 use Rattle.strm_machine.specs.State.{State, no_producer, producer_at}
 use Rattle.strm_machine.specs.declared.acts.HostAct.TheVariants.{Feed}
 use Rattle.strm_machine.specs.declared.streams.Duty.{Duty}
@@ -72,16 +72,16 @@ Does-hosts_new state tells n l u =
 
 -- BYTES FROM OUTSIDE
 
-fed-at : (state : State) (tells : Tells) (logs : Logs) (n : ℕ) (bytes : List ℕ) → n < length tells.writers
-    → with_writer (world_of state tells logs) n (fed_writer (writer_at (world_of state tells logs) n) bytes) ≡ world_of state (with_told tells n (fed (told_by tells n) bytes)) logs
-fed-at state tells logs n bytes l =
+writer_fed-at : (state : State) (tells : Tells) (logs : Logs) (n : ℕ) (bytes : List ℕ) → n < length tells.writers
+    → with_writer (world_of state tells logs) n (fed_writer (writer_at (world_of state tells logs) n) bytes) ≡ world_of state (with_told tells n (writer_fed (told_by tells n) bytes)) logs
+writer_fed-at state tells logs n bytes l =
     ap (λ w. with_writer (world_of state tells logs) n (fed_writer w bytes)) (writer_in-from state.producers tells.writers logs.writers n no_tells l)
-    ∙ ap (λ ws. record (world_of state tells logs) { writers = ws }) (sym (writers_from-set state.producers tells.writers logs.writers n (fed (told_by tells n) bytes) l))
+    ∙ ap (λ ws. record (world_of state tells logs) { writers = ws }) (sym (writers_from-set state.producers tells.writers logs.writers n (writer_fed (told_by tells n) bytes) l))
 
 -- a writer is fed
 pub Does-feed : (state : State) (tells : Tells) (n : ℕ) (bytes : List ℕ) → n < length tells.writers
-    → Does state state tells (with_told tells n (fed (told_by tells n) bytes)) (Ok replies.Done) (λ w. on_host w n (Feed bytes))
+    → Does state state tells (with_told tells n (writer_fed (told_by tells n) bytes)) (Ok replies.Done) (λ w. on_host w n (Feed bytes))
 Does-feed state tells n bytes l =
-    Does-told state state tells n (fed (told_by tells n) bytes) (Ok replies.Done) (λ w. on_host w n (Feed bytes)) l
-    (grows-same (told_by tells n) (fed (told_by tells n) bytes) refl refl (omega arith))
-    (λ logs e. ap done (fed-at state tells logs n bytes l)) tt
+    Does-told state state tells n (writer_fed (told_by tells n) bytes) (Ok replies.Done) (λ w. on_host w n (Feed bytes)) l
+    (grows-same (told_by tells n) (writer_fed (told_by tells n) bytes) refl refl (omega arith))
+    (λ logs e. ap done (writer_fed-at state tells logs n bytes l)) tt

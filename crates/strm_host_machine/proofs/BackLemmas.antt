@@ -1,6 +1,6 @@
 -- A part that goes on with a stream written back, as the code leaves the store and its boxes.
 use Rattle.std.proofs.Common.{ℕ, Ok, refl, ap, ◌∙◌, arith}
-use Rattle.strm_buffers.specs.Tells.{WriterTells, Tells, told_by, with_told, closed_reader as closed_tells, told_by_reader}
+use Rattle.strm_buffers.specs.Tells.{WriterTells, Tells, told_by, with_told, reader_tells_closed as closed_tells, told_by_reader}
 use Rattle.strm_machine.specs.State.{State, stream_at}
 use Rattle.strm_machine.specs.Reactions.{with_stream_at}
 use Rattle.strm_machine.specs.declared.streams.Stream.{Stream}
@@ -12,7 +12,7 @@ use Rattle.strm_host_machine.proofs.GrowLemmas.{Part, Follows, follows-told, fol
 use Rattle.strm_host_machine.proofs.CloseLemmas.{ended_in}
 use Rattle.strm_host_machine.proofs.ReaderLemmas.{grows-same_reader, follows-told_reader, ended_reader_in}
 use Rattle.strm_host_machine.proofs.SettleLemmas.{with_stream_in-stays, IsLeft, with_stream_in-left, IsLeftByReader, with_reader_closed, with_stream_in-left_by_reader}
-use Rattle.strm_host_machine.proofs.TurnLemmas.{WritesBack}
+use Rattle.strm_host_machine.proofs.WriterTurnLemmas.{WritesBack}
 
 -- its owners stay
 pub Does-stays : (old but : State) (tells told : Tells) (s : ℕ) (stream : Stream) (part : Part) → Follows tells told

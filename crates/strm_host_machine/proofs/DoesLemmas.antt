@@ -12,7 +12,7 @@ use Rattle.strm_machine.specs.declared.streams.HostEnd.{HostEnd}
 use Rattle.strm_machine.specs.declared.replies.Reply.{Reply}
 use Rattle.strm_host_machine.specs.World.{World}
 use Rattle.strm_host_machine.specs.Outcomes.{Outcome, Stops, then_on}
-use Rattle.strm_host_machine.specs.Does.{Logs, Begins, AllBegin, saids, Extends, world_of, Answered, Gives, faults_of, Caused, Does}
+use Rattle.strm_host_machine.specs.Does.{Logs, LogBegins, AllBegin, saids, Extends, world_of, Answered, Gives, faults_of, Caused, Does}
 
 -- a count that rose has risen since it was less
 pub rose_more : (a b c : ℕ) → a ≤ b → Rose b c → Rose a c
@@ -75,7 +75,7 @@ Does-as a c x z result m n same d = record {
 }
 
 module _ {A : Type 0} where
-  begins_self : (said : List A) → Begins said said
+  begins_self : (said : List A) → LogBegins said said
   begins_self said = sym (ap (λ rest. said ++ rest) (drop-length said) ∙ append-nil said)
 
   all_begin_self : (saids : List (List A)) → AllBegin saids saids

@@ -10,8 +10,8 @@ use Rattle.strm_machine.specs.declared.streams.Owner.TheVariants.{Host}
 use Rattle.strm_machine.specs.declared.streams.Stream.{Stream}
 use Rattle.strm_host_machine.specs.World.{World, stream_in}
 use Rattle.strm_host_machine.specs.Outcomes.{Outcome, Goes, Stops, Stuck, done, then_on}
-use Rattle.strm_host_machine.specs.Producing.{producer_turn}
-use Rattle.strm_host_machine.specs.Consuming.{consumer_turn}
+use Rattle.strm_host_machine.specs.WriterTurn.{writer_turn}
+use Rattle.strm_host_machine.specs.ReaderTurn.{reader_turn}
 use Rattle.strm_host_machine.specs.Piping.{pipe_round}
 use Rattle.strm_host_machine.specs.Driving.{if_open, driven_by, drive_turn, driven, numbers_from}
 use Rattle.strm_host_machine.specs.Does.{Logs, world_of, Answered, Does}
@@ -69,17 +69,17 @@ pub record IsDue (world : World) (s n : ℕ) (read : Operation) : Type 0 where
   pub read_is : (stream_in world s).reader.operation ≡ Some read
   pub is_open : read.is_open ≡ true
 
-driven_by-writer : (world : World) (s : ℕ) (stream : Stream) (n : ℕ) (reader : Owner) → is_host reader ≡ false → driven_by world s stream (Host n) reader ≡ if_open world stream.reader.operation (producer_turn world s n)
+driven_by-writer : (world : World) (s : ℕ) (stream : Stream) (n : ℕ) (reader : Owner) → is_host reader ≡ false → driven_by world s stream (Host n) reader ≡ if_open world stream.reader.operation (writer_turn world s n)
 driven_by-writer world s stream n (Host r) e = cc
 driven_by-writer world s stream n _ e = refl
 
-pub drive_turn-due : (world : World) (s n : ℕ) (read : Operation) → IsDue world s n read → drive_turn world s ≡ producer_turn world s n read
+pub drive_turn-due : (world : World) (s n : ℕ) (read : Operation) → IsDue world s n read → drive_turn world s ≡ writer_turn world s n read
 unfolding drive_turn
 drive_turn-due world s n read d =
     ap (λ o. driven_by world s (stream_in world s) o (stream_in world s).reader.owner) d.owner
     ∙ driven_by-writer world s (stream_in world s) n (stream_in world s).reader.owner d.unpiped
-    ∙ ap (λ o. if_open world o (producer_turn world s n)) d.read_is
-    ∙ ap (λ b. cond b (producer_turn world s n read) (done world)) d.is_open
+    ∙ ap (λ o. if_open world o (writer_turn world s n)) d.read_is
+    ∙ ap (λ b. cond b (writer_turn world s n read) (done world)) d.is_open
 
 -- an operation that is open
 abbrev pub waits_open : Option Operation → Bool
@@ -92,7 +92,7 @@ if_open-idle world (Some operation) turn e = ap (λ b. cond b (turn operation) (
 
 idle_by : (world : World) (s : ℕ) (owner reader : Owner) → waits_open (stream_in world s).reader.operation ≡ false → is_host reader ≡ false → driven_by world s (stream_in world s) owner reader ≡ done world
 idle_by world s owner (Host r) e f = cc
-idle_by world s (Host n) reader e f = driven_by-writer world s (stream_in world s) n reader f ∙ if_open-idle world (stream_in world s).reader.operation (producer_turn world s n) e
+idle_by world s (Host n) reader e f = driven_by-writer world s (stream_in world s) n reader f ∙ if_open-idle world (stream_in world s).reader.operation (writer_turn world s n) e
 idle_by world s _ _ e f = refl
 
 -- a stream without an open read, which no host reader reads
@@ -107,17 +107,17 @@ pub record IsDueWrite (world : World) (s r : ℕ) (write : Operation) : Type 0 w
   pub write_is : (stream_in world s).writer.operation ≡ Some write
   pub is_open : write.is_open ≡ true
 
-driven_by-reader : (world : World) (s : ℕ) (stream : Stream) (writer : Owner) (r : ℕ) → is_host writer ≡ false → driven_by world s stream writer (Host r) ≡ if_open world stream.writer.operation (consumer_turn world s r)
+driven_by-reader : (world : World) (s : ℕ) (stream : Stream) (writer : Owner) (r : ℕ) → is_host writer ≡ false → driven_by world s stream writer (Host r) ≡ if_open world stream.writer.operation (reader_turn world s r)
 driven_by-reader world s stream (Host n) r e = cc
 driven_by-reader world s stream _ r e = refl
 
-pub drive_turn-due_write : (world : World) (s r : ℕ) (write : Operation) → IsDueWrite world s r write → drive_turn world s ≡ consumer_turn world s r write
+pub drive_turn-due_write : (world : World) (s r : ℕ) (write : Operation) → IsDueWrite world s r write → drive_turn world s ≡ reader_turn world s r write
 unfolding drive_turn
 drive_turn-due_write world s r write d =
     ap (driven_by world s (stream_in world s) (stream_in world s).writer.owner) d.owner
     ∙ driven_by-reader world s (stream_in world s) (stream_in world s).writer.owner r d.unhosted
-    ∙ ap (λ o. if_open world o (consumer_turn world s r)) d.write_is
-    ∙ ap (λ b. cond b (consumer_turn world s r write) (done world)) d.is_open
+    ∙ ap (λ o. if_open world o (reader_turn world s r)) d.write_is
+    ∙ ap (λ b. cond b (reader_turn world s r write) (done world)) d.is_open
 
 -- and none
 pub drive_turn-idle_write : (world : World) (s r : ℕ) → (stream_in world s).reader.owner ≡ Host r → is_host (stream_in world s).writer.owner ≡ false → waits_open (stream_in world s).writer.operation ≡ false → drive_turn world s ≡ done world
@@ -125,7 +125,7 @@ unfolding drive_turn
 drive_turn-idle_write world s r o u e =
     ap (driven_by world s (stream_in world s) (stream_in world s).writer.owner) o
     ∙ driven_by-reader world s (stream_in world s) (stream_in world s).writer.owner r u
-    ∙ if_open-idle world (stream_in world s).writer.operation (consumer_turn world s r) e
+    ∙ if_open-idle world (stream_in world s).writer.operation (reader_turn world s r) e
 
 -- a stream from a host writer to a host reader
 pub drive_turn-piped : (world : World) (s n r : ℕ) → (stream_in world s).writer.owner ≡ Host n → (stream_in world s).reader.owner ≡ Host r → drive_turn world s ≡ pipe_round world s n r

@@ -7,7 +7,7 @@ use Rattle.std.proofs.lemmas.Bool.Decides.{nat_tests}
 use Rattle.std.proofs.lemmas.List.{drop_all}
 use Rattle.strm_buffers.specs.Listing.{Item}
 use Rattle.strm_buffers.specs.Said.{WriterSaid}
-use Rattle.strm_buffers.specs.Tells.{WriterTells, Tells, no_tells, told_by, with_told, PollsWriter, KeepsWriter, ClosesWriter, Rises, Rose}
+use Rattle.strm_buffers.specs.Tells.{WriterTells, Tells, no_tells, told_by, with_told, PollsWriter, KeepsWriter, ClosesWriter, RisesOnFailed, Rose}
 use Rattle.strm_buffers.specs.declared.answers.Answer.{Answer}
 use Rattle.strm_buffers.specs.declared.answers.Answer.TheVariants.{Failed}
 use Rattle.strm_machine.specs.State.{State}
@@ -15,7 +15,7 @@ use Rattle.strm_machine.specs.declared.streams.HostEnd.{HostEnd}
 use Rattle.strm_machine.specs.declared.streams.HostEnd.TheVariants as ends
 use Rattle.strm_host_machine.specs.World.{World}
 use Rattle.strm_host_machine.specs.Outcomes.{Outcome}
-use Rattle.strm_host_machine.specs.Does.{Logs, Begins, AllBegin, first_log, Extends, world_of, Answered, Gives, faults_of, Caused, SaidFits, IsSuppliedSince, AreSuppliedSince, Does}
+use Rattle.strm_host_machine.specs.Does.{Logs, LogBegins, AllBegin, first_log, Extends, world_of, Answered, Gives, faults_of, Caused, SaidFits, IsSuppliedSince, AreSuppliedSince, Does}
 use Rattle.strm_host_machine.proofs.WorldLemmas.{begins-before}
 
 -- a writer that told more: records more of its items, and no fault less
@@ -57,7 +57,7 @@ grows-same old new e f g = record {
 rose_at_most : (a b : ℕ) → Rose a b → a ≤ b
 rose_at_most a b r = grind (arith, nat_tests)
 
-rises_at_most : (answer : Answer) (a b : ℕ) → Rises answer a b → a ≤ b
+rises_at_most : (answer : Answer) (a b : ℕ) → RisesOnFailed answer a b → a ≤ b
 rises_at_most Failed a b r = rose_at_most a b r
 rises_at_most _ a b r = r
 
@@ -93,12 +93,12 @@ begin-before [] logs n w g b = b
 begin-before (x ∷ ws) [] zero w g b = b
 begin-before (x ∷ ws) [] (suc n) w g b = b
 begin-before (x ∷ ws) (log ∷ logs) zero w g b =
-    (begins-before x.said g.more log (subst (λ xs. Begins xs log) g.said b.0), b.1)
+    (begins-before x.said g.more log (subst (λ xs. LogBegins xs log) g.said b.0), b.1)
 begin-before (x ∷ ws) (log ∷ logs) (suc n) w g b = (b.0, begin-before ws logs n w g b.1)
 
 -- the log of the one that told more begins with what it said
 pub begins-told : (ws : List WriterTells) (logs : List (List WriterSaid)) (n : ℕ) (w : WriterTells) → n < length ws
-    → AllBegin (map (λ v. v.said) (slice_set ws n w)) logs → Begins w.said (first_log (drop n logs))
+    → AllBegin (map (λ v. v.said) (slice_set ws n w)) logs → LogBegins w.said (first_log (drop n logs))
 begins-told [] logs n w l b = absurd (omega (arith, l))
 begins-told (x ∷ ws) [] zero w l b = absurd b
 begins-told (x ∷ ws) [] (suc n) w l b = absurd b

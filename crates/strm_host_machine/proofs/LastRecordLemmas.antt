@@ -20,7 +20,7 @@ use Rattle.strm_machine.specs.declared.streams.Side.TheVariants.{Writing, Readin
 use Rattle.strm_host_machine.specs.World.{World}
 use Rattle.strm_host_machine.specs.Ends.{no_writer, no_reader}
 use Rattle.strm_host_machine.specs.Steps.{outcome}
-use Rattle.strm_host_machine.specs.Does.{AllBegin, Extends, saids, writers_from, readers_from, world_of, spent, Logs, Fits, Does}
+use Rattle.strm_host_machine.specs.Does.{AllBegin, Extends, saids, writers_from, readers_from, world_of, world_spent, Logs, Fits, Does}
 use Rattle.strm_host_machine.specs.LastRecord.{SaysFailed, SaysBroken, ReaderSaysFailed, ReaderSaysBroken, SaysLast, HaltsByRecord}
 use Rattle.strm_host_machine.proofs.DoesLemmas.{extends_self}
 use Rattle.strm_host_machine.proofs.LaterLemmas.{Behind_one, EndsFit}
@@ -81,7 +81,7 @@ last_said P old new coming rest e r b =
     (b.0, b.1, e ∙ ap (λ xs. old ++ xs) (b.2 ∙ ap (λ ys. b.0 ++ b.1 ∷ ys) r), b.3)
 
 -- a step that stops by this has used all records that are told, and the last of them says why
-halted_by : (now new : Tells) (state next : State) (stop : Stop) → Extends now (saids new) → NamedBy (world_of state now (saids new)) stop (spent next new).writers (spent next new).readers → HaltsByRecord now new stop
+halted_by : (now new : Tells) (state next : State) (stop : Stop) → Extends now (saids new) → NamedBy (world_of state now (saids new)) stop (world_spent next new).writers (world_spent next new).readers → HaltsByRecord now new stop
 halted_by now new state next (HostFailed (ends.Writer n)) b h = last_said SaysFailed _ _ _ _ (writer-coming state.producers now.writers new.writers n b.0) (writer-spent next.producers new.writers n) h
 halted_by now new state next (HostFailed (ends.Reader r)) b h = last_said ReaderSaysFailed _ _ _ _ (reader-coming now.readers new.readers r b.1) (reader-spent new.readers r) h
 halted_by now new state next (HostBroke (ends.Writer n)) b h =

@@ -10,7 +10,7 @@ use Rattle.strm_machine.specs.declared.streams.Side.TheVariants.{Writing, Readin
 use Rattle.strm_machine.specs.declared.streams.Stream.{Stream}
 use Rattle.strm_host_machine.specs.World.{World, stream_in, writer_at, reader_at}
 use Rattle.strm_host_machine.specs.Ends.{Writer, Reader}
-use Rattle.strm_host_machine.specs.Settling.{went, settled, let_go, moved_on, with_some_received}
+use Rattle.strm_host_machine.specs.Settling.{went, operation_settled, let_go, moved_on, with_some_received}
 use Rattle.strm_host_machine.specs.Attaching.{without_ends}
 use Rattle.std.specs.Prelude.{All}
 use Rattle.std.proofs.lemmas.List.Elements.{All-nil, All-push}
@@ -70,12 +70,12 @@ pub record StreamLater (old new : Stream) : Type 0 where
   pub reader : (r : ℕ) → new.reader.owner ≡ Host r → old.reader.owner ≡ Host r
 
 -- a host writer of which one more was used, which says why the step stops
-pub record WriterStops (stop : Stop) (n : ℕ) (old new : Writer) : Type 0 where
+pub record WriterStopsSo (stop : Stop) (n : ℕ) (old new : Writer) : Type 0 where
   pub coming : UsedLast (KeepsRules old.kind) (SaysWhy stop n old.kind) old.coming new.coming
   pub kind : new.kind ≡ old.kind
 
 -- the same of a host reader
-pub record ReaderStops (stop : Stop) (r : ℕ) (old new : Reader) : Type 0 where
+pub record ReaderStopsSo (stop : Stop) (r : ℕ) (old new : Reader) : Type 0 where
   pub coming : UsedLast (ReaderKeepsRules old.kind) (ReaderSaysWhy stop r old.kind) old.coming new.coming
   pub kind : new.kind ≡ old.kind
 
@@ -135,7 +135,7 @@ pub moved_later : (side : Side) (stream : Stream) (operation : Operation) (n : �
 unfolding moved_on
 moved_later side stream operation n result =
     let received = with_some_received stream n in
-    let moved = with_operation side received (settled result (went stream.payload operation n)) in
+    let moved = with_operation side received (operation_settled result (went stream.payload operation n)) in
     stream_twice _ received _ (received_later stream n)
     (stream_twice received moved _ (operation_later side received _) (let_go_later (opposite side) result moved))
 

@@ -10,11 +10,11 @@ use Rattle.strm_machine.specs.declared.streams.Operation.{Operation}
 use Rattle.strm_machine.proofs.BoundLemmas.{length-stored_front}
 use Rattle.strm_machine.proofs.SideLemmas.{IsPlaced-advanced}
 use Rattle.strm_machine.proofs.TurnLemmas.{GuestsKeep, with_memory-keeps, size_in}
-use Rattle.strm_host_machine.specs.Producing.{lowered}
-use Rattle.strm_host_machine.specs.Settling.{went, settled}
+use Rattle.strm_host_machine.specs.WriterTurn.{lowered_items}
+use Rattle.strm_host_machine.specs.Settling.{went, operation_settled}
 
-pub lowered-keeps : (guests : List Guest) (payload : Payload) (read : Operation) (items : List Item) → IsPlaced (sizes_of guests) payload read → length items ≤ read.left → GuestsKeep guests (lowered guests payload read items)
-lowered-keeps guests payload read items p l =
+pub lowered_items-keeps : (guests : List Guest) (payload : Payload) (read : Operation) (items : List Item) → IsPlaced (sizes_of guests) payload read → length items ≤ read.left → GuestsKeep guests (lowered_items guests payload read items)
+lowered_items-keeps guests payload read items p l =
     let inside = p.inside in
     with_memory-keeps guests read.guest _
     (length-stored_front (scalars_of payload) (memory_in guests read.guest) read.address read.left items l (rw (size_in guests read.guest) at inside))
@@ -24,6 +24,6 @@ went-placed sizes payload read n l p =
     let q = IsPlaced-advanced sizes payload read n l p in
     record { there = q.there; inside = q.inside; counted = q.counted }
 
-pub settled-placed : (sizes : List ℕ) (payload : Payload) (operation : Operation) (result : Option StreamResult) → IsPlaced sizes payload operation → IsPlaced sizes payload (settled result operation)
-settled-placed sizes payload operation None p = p
-settled-placed sizes payload operation (Some result) p = record { there = p.there; inside = p.inside; counted = p.counted }
+pub operation_settled-placed : (sizes : List ℕ) (payload : Payload) (operation : Operation) (result : Option StreamResult) → IsPlaced sizes payload operation → IsPlaced sizes payload (operation_settled result operation)
+operation_settled-placed sizes payload operation None p = p
+operation_settled-placed sizes payload operation (Some result) p = record { there = p.there; inside = p.inside; counted = p.counted }

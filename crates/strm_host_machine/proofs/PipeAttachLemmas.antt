@@ -2,7 +2,7 @@
 use Rattle.std.proofs.Common.{◌≡◌, ℕ, ◌<◌, ◌&&◌, Bool, true, false, cond, length, Ok, refl, sym, ap, ◌∙◌, arith}
 use Rattle.std.specs.Prelude.{slice_set, not}
 use Rattle.std.proofs.lemmas.List.{get_or-set_same}
-use Rattle.strm_buffers.specs.Tells.{WriterTells, Tells, told_by, with_told, granted, closed_reader as closed_tells, told_by_reader, with_told_reader}
+use Rattle.strm_buffers.specs.Tells.{WriterTells, Tells, told_by, with_told, reader_granted, reader_tells_closed as closed_tells, told_by_reader, with_told_reader}
 use Rattle.strm_machine.specs.State.{State, no_stream, no_consumer, producer_at, stream_at, is_host}
 use Rattle.strm_machine.specs.Reactions.{with_stream_at}
 use Rattle.strm_machine.specs.declared.acts.HostAct.TheVariants.{Grant}
@@ -21,17 +21,17 @@ use Rattle.strm_host_machine.proofs.DoesLemmas.{Does-untold}
 use Rattle.strm_host_machine.proofs.GrowLemmas.{follows-told, follows-then, grows-closed, Does-follows}
 use Rattle.strm_host_machine.proofs.PollLemmas.{IsServing, writer_at-serving}
 use Rattle.strm_host_machine.proofs.CloseLemmas.{ended_in}
-use Rattle.strm_host_machine.proofs.ReaderLemmas.{granted-box, grows-same_reader, follows-told_reader, Does-told_reader, ended_reader_in}
+use Rattle.strm_host_machine.proofs.ReaderLemmas.{reader_granted-box, grows-same_reader, follows-told_reader, Does-told_reader, ended_reader_in}
 use Rattle.strm_host_machine.proofs.SettleLemmas.{with_stream_in-unread, with_reader_closed, with_stream_in-left_by_reader, AreBothLeft, with_stream_in-both_left}
 
 -- ## A grant
 
 pub Does-grant : (state : State) (tells : Tells) (r count : ℕ) → r < length tells.readers
-    → Does state state tells (with_told_reader tells r (granted (told_by_reader tells r) count)) (Ok replies.Done) (λ w. on_host w r (Grant count))
+    → Does state state tells (with_told_reader tells r (reader_granted (told_by_reader tells r) count)) (Ok replies.Done) (λ w. on_host w r (Grant count))
 Does-grant state tells r count there =
-    Does-told_reader state state tells r (granted (told_by_reader tells r) count) (Ok replies.Done) (λ w. on_host w r (Grant count)) there
-    (grows-same_reader (told_by_reader tells r) (granted (told_by_reader tells r) count) refl (omega arith))
-    (λ logs e. ap done (granted-box state tells logs r count there)) tt
+    Does-told_reader state state tells r (reader_granted (told_by_reader tells r) count) (Ok replies.Done) (λ w. on_host w r (Grant count)) there
+    (grows-same_reader (told_by_reader tells r) (reader_granted (told_by_reader tells r) count) refl (omega arith))
+    (λ logs e. ap done (reader_granted-box state tells logs r count there)) tt
 
 -- ## A pipe
 

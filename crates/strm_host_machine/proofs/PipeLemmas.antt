@@ -10,7 +10,7 @@ use Rattle.strm_buffers.specs.declared.answers.ReaderSaid.{ReaderSaid}
 use Rattle.strm_buffers.specs.HostRules.{breaks_as_writer, breaks_as_reader}
 use Rattle.strm_buffers.specs.Listing.{Item}
 use Rattle.strm_buffers.specs.Said.{WriterSaid}
-use Rattle.strm_buffers.specs.Tells.{WriterTells, ReaderTells, Tells, no_tells, told_by, with_told, PollsWriter, PollsReader, Rises, Rose, given, told_by_reader, with_told_reader}
+use Rattle.strm_buffers.specs.Tells.{WriterTells, ReaderTells, Tells, no_tells, told_by, with_told, PollsWriter, PollsReader, RisesOnFailed, Rose, writer_given, told_by_reader, with_told_reader}
 use Rattle.strm_machine.specs.State.{State, no_producer, producer_at, kept_at, consumer_at, stream_at}
 use Rattle.strm_machine.specs.Reactions.{with_stream_at}
 use Rattle.strm_machine.specs.declared.stops.Stop.{Stop}
@@ -26,10 +26,10 @@ use Rattle.strm_host_machine.specs.World.{World, writer_at, held_of, with_produc
 use Rattle.strm_host_machine.specs.Outcomes.{Outcome, Stops, done, stops}
 use Rattle.strm_host_machine.specs.Polls.{AfterWriter, AfterReader, is_failed, same_flag, same_room, is_writer_poll, writer_judged, is_reader_poll, reader_judged, polls_writer, polls_reader}
 use Rattle.strm_host_machine.specs.Settling.{with_some_received, since_after}
-use Rattle.strm_host_machine.specs.Producing.{is_last, with_answer}
+use Rattle.strm_host_machine.specs.WriterTurn.{is_last, with_answer}
 use Rattle.strm_host_machine.specs.Attaching.{has_items, without_ends}
 use Rattle.strm_host_machine.specs.Piping.{wants_items, fetches, gathered, is_resting, passed_on, offers, is_done_with, is_run_dry, both_gone, ends_if_done, pipe_round}
-use Rattle.strm_host_machine.specs.Does.{Logs, Begins, first_log, Extends, writers_from, readers_from, world_of, Answered, Does}
+use Rattle.strm_host_machine.specs.Does.{Logs, LogBegins, first_log, Extends, writers_from, readers_from, world_of, Answered, Does}
 use Rattle.strm_host_machine.proofs.WorldLemmas.{writers_from-duty}
 use Rattle.strm_host_machine.proofs.DoesLemmas.{Does-then, Does-stop, Does-untold}
 use Rattle.strm_host_machine.proofs.GrowLemmas.{Does-told, grows-polled, begins-told, told_by-told}
@@ -146,7 +146,7 @@ module _ (old : State) (tells : Tells) (n s r : ℕ) (said : WriterSaid) (w : Wr
   faults_rise : said.answer ≡ Failed → Rose (told_by tells n).faults (told_by (with_told tells n w) n).faults
   faults_rise g =
       subst (λ (v : WriterTells). Rose (told_by tells n).faults v.faults) (sym (told_by-told tells.writers n w no_tells f.serving.there))
-      (subst (λ a. Rises a (told_by tells n).faults w.faults) g f.polls.faults)
+      (subst (λ a. RisesOnFailed a (told_by tells n).faults w.faults) g f.polls.faults)
 
   pub Does-fetches_failed : (new : State) → said.answer ≡ Failed → new.producers ≡ old.producers
       → Does old new tells (with_told tells n w) (Err (Some (HostFailed (ends.Writer n)))) (λ v. fetches v s n r)
@@ -174,7 +174,7 @@ gathered_in state tells n = record state {
 }
 
 abbrev pub gathered_tells : Tells → ℕ → Tells
-gathered_tells tells n = with_told tells n (given (told_by tells n) None)
+gathered_tells tells n = with_told tells n (writer_given (told_by tells n) None)
 
 module _ (state : State) (tells : Tells) (n s : ℕ) (i : IsServing state tells n s) where
   pub gathered-box : (logs : Logs) → gathered (world_of state tells logs) n ≡ world_of (gathered_in state tells n) (gathered_tells tells n) logs
@@ -183,7 +183,7 @@ module _ (state : State) (tells : Tells) (n s : ℕ) (i : IsServing state tells 
       let none = record (producer_at state n) { holding = false } in
       ap (λ xs. with_producer (with_writer (with_kept (world_of state tells logs) n xs) n (record (writer_at (world_of state tells logs) n) { holds = [] })) n none) (held-told state tells n s i logs)
       ∙ ap (λ (w : Writer). with_producer (with_writer (world_of kept tells logs) n (record w { holds = [] })) n none) (writer_at-serving state tells logs n s i)
-      ∙ ap (λ v. with_producer v n none) (with_writer-serving kept tells logs n s (record { there = i.there; kept = i.kept; duty = i.duty }) (given (told_by tells n) None))
+      ∙ ap (λ v. with_producer v n none) (with_writer-serving kept tells logs n s (record { there = i.there; kept = i.kept; duty = i.duty }) (writer_given (told_by tells n) None))
       ∙ ap (λ ws. record (world_of kept (gathered_tells tells n) logs) { state = gathered_in state tells n; writers = ws })
       (sym (writers_from-duty state.producers (gathered_tells tells n).writers logs.writers n none no_producer refl))
 
@@ -231,7 +231,7 @@ module _ (old : State) (tells : Tells) (n s r : ℕ) (said : ReaderSaid) (t : Re
 
   -- the log of the reader begins with what it said
   abbrev pub BeginsSo : Logs → Type 0
-  BeginsSo logs = Begins t.said (first_log (drop r logs.readers))
+  BeginsSo logs = LogBegins t.said (first_log (drop r logs.readers))
 
   is_polled : (logs : Logs) → BeginsSo logs → IsReaderPolled (gathered_in old tells n) (gathered_tells tells n) logs r (length held) false (λ k. take k held) said t
   is_polled logs e = record { took = take said.taken held; there = o.there; polls = o.polls; taken = refl; asked = poll_is; next = λ b. absurd (let f = sym o.good ∙ b in cc); begins = e }

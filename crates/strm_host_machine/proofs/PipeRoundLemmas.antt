@@ -4,7 +4,7 @@ use Rattle.strm_buffers.specs.declared.answers.Answer.{Answer}
 use Rattle.strm_buffers.specs.declared.answers.Answer.TheVariants.{Failed}
 use Rattle.strm_buffers.specs.declared.answers.ReaderSaid.{ReaderSaid}
 use Rattle.strm_buffers.specs.HostRules.{breaks_as_reader}
-use Rattle.strm_buffers.specs.Tells.{WriterTells, ReaderTells, Tells, no_reader_tells, told_by, with_told, Rises, Rose, given, closed_reader as closed_tells, told_by_reader}
+use Rattle.strm_buffers.specs.Tells.{WriterTells, ReaderTells, Tells, no_reader_tells, told_by, with_told, RisesOnFailed, Rose, writer_given, reader_tells_closed as closed_tells, told_by_reader}
 use Rattle.strm_machine.specs.State.{State, stream_at}
 use Rattle.strm_machine.specs.declared.stops.Stop.{Stop}
 use Rattle.strm_machine.specs.declared.stops.Stop.TheVariants.{HostFailed, HostBroke, BadItem}
@@ -38,7 +38,7 @@ module _ (old : State) (tells : Tells) (n s r : ℕ) (said : ReaderSaid) (t : Re
   follows_is : Follows tells told
   follows_is =
       follows-then tells (gathered_tells tells n) told
-      (follows-told tells n (given (told_by tells n) None) o.serving.there (grows-same (told_by tells n) (given (told_by tells n) None) refl refl (omega arith)))
+      (follows-told tells n (writer_given (told_by tells n) None) o.serving.there (grows-same (told_by tells n) (writer_given (told_by tells n) None) refl refl (omega arith)))
       (follows-told_reader (gathered_tells tells n) r t o.there (grows-polled_reader (told_by_reader tells r) t said (take said.taken _) o.polls))
 
   begins_is : (logs : Logs) → Extends told logs → BeginsSo old tells n s r said t o logs
@@ -92,7 +92,7 @@ module _ (old : State) (tells : Tells) (n s r : ℕ) (said : ReaderSaid) (t : Re
   faults_rise : said.answer ≡ Failed → Rose (told_by_reader tells r).faults (told_by_reader told r).faults
   faults_rise f =
       subst (λ (v : ReaderTells). Rose (told_by_reader tells r).faults v.faults) (sym (told_by_reader-told tells.readers r t no_reader_tells o.there))
-      (subst (λ a. Rises a (told_by_reader tells r).faults t.faults) f o.polls.faults)
+      (subst (λ a. RisesOnFailed a (told_by_reader tells r).faults t.faults) f o.polls.faults)
 
   pub Does-offers_failed : (new : State) → said.answer ≡ Failed → new.producers ≡ (gathered_in old tells n).producers
       → Does old new tells told (Err (Some (HostFailed (ends.Reader r)))) (offers_and_ends s n r)

@@ -9,7 +9,7 @@ use Rattle.strm_host_machine.specs.Ends.{Writer, polled_writer}
 use Rattle.strm_host_machine.specs.World.{World, stream_in, writer_at, with_writer}
 use Rattle.strm_host_machine.specs.Outcomes.{Stuck}
 use Rattle.strm_host_machine.specs.Polls.{AfterWriter, is_writer_poll, writer_judged, writer_says, polls_writer}
-use Rattle.strm_host_machine.specs.Does.{Logs, Begins, first_duty, first_log, writer_of, world_of}
+use Rattle.strm_host_machine.specs.Does.{Logs, LogBegins, first_duty, first_log, writer_of, world_of}
 use Rattle.strm_host_machine.proofs.WorldLemmas.{writers_from-set, writer_in-from, first_duty-drop, coming-next, polled-writer_of}
 
 -- a host writer in use, of a store that keeps something of it
@@ -24,7 +24,7 @@ pub record IsRecorded (tells : Tells) (logs : Logs) (n : ℕ) (room : Option ℕ
   pub polls : PollsWriter (told_by tells n) w said marked
   pub asked : is_writer_poll room finish said ≡ true
   pub room_is : said.room ≡ room
-  pub begins : Begins w.said (first_log (drop n logs.writers))
+  pub begins : LogBegins w.said (first_log (drop n logs.writers))
 
 module _ (state : State) (tells : Tells) (logs : Logs) (n t : ℕ) (i : IsServing state tells n t) where
   abbrev before : World
@@ -59,7 +59,7 @@ module _ (state : State) (tells : Tells) (logs : Logs) (n t : ℕ) (i : IsServin
   next_is : (writer_at polled n).coming ≡ said ∷ more
   next_is =
       ap (λ (x : Writer). x.coming) (writer_at-serving state tells logs n t i)
-      ∙ coming-next (told_by tells n).said log said (subst (λ xs. Begins xs log) h.polls.said_more h.begins)
+      ∙ coming-next (told_by tells n).said log said (subst (λ xs. LogBegins xs log) h.polls.said_more h.begins)
       ∙ ap (λ (xs : List WriterSaid). said ∷ drop (length xs) log) (sym h.polls.said_more)
 
   end_is : polled_writer (writer_at polled n) room said more ≡ writer_of (Serves t) w log

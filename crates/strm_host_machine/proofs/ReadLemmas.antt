@@ -8,8 +8,8 @@ use Rattle.strm_machine.specs.declared.streams.Operation.{Operation}
 use Rattle.strm_machine.specs.declared.streams.Side.TheVariants.{Reading}
 use Rattle.strm_host_machine.specs.World.{World}
 use Rattle.strm_host_machine.specs.Outcomes.{Outcome, then_on}
-use Rattle.strm_host_machine.specs.Producing.{producer_turn}
-use Rattle.strm_host_machine.specs.Settling.{answered}
+use Rattle.strm_host_machine.specs.WriterTurn.{writer_turn}
+use Rattle.strm_host_machine.specs.Settling.{turn_answered}
 use Rattle.strm_host_machine.specs.Steps.{reads_from}
 use Rattle.strm_machine.specs.declared.replies.Reply.TheVariants as replies
 use Rattle.strm_machine.specs.declared.stops.Stop.{Stop}
@@ -23,7 +23,7 @@ opened state s read = with_stream_at state s (with_operation Reading (stream_at 
 
 -- the writer's turn, and the answer
 abbrev pub turned_and_answered : ℕ → ℕ → Operation → World → Outcome
-turned_and_answered s n read world = then_on (producer_turn world s n read) (λ after. answered after s Reading)
+turned_and_answered s n read world = then_on (writer_turn world s n read) (λ after. turn_answered after s Reading)
 
 reads_from-opened : (state : State) (tells : Tells) (logs : Logs) (s n : ℕ) (read : Operation) → reads_from (world_of state tells logs) s n read ≡ turned_and_answered s n read (world_of (opened state s read) tells logs)
 reads_from-opened state tells logs s n read =
@@ -42,18 +42,18 @@ Does-reads_from old new tells told result s n read d = record {
 
 -- the writer's turn for a read that begins
 abbrev pub DoesTurn : State → State → Tells → Tells → Answered → ℕ → ℕ → Operation → Type 0
-DoesTurn old mid tells told result s n read = Does (opened old s read) mid tells told result (λ w. producer_turn w s n read)
+DoesTurn old mid tells told result s n read = Does (opened old s read) mid tells told result (λ w. writer_turn w s n read)
 
 -- a read that the writer's turn settled, or left waiting, is answered
-pub Does-read : (old mid new : State) (tells told : Tells) (s n : ℕ) (read : Operation) (result : Answered) → DoesTurn old mid tells told (Ok replies.Done) s n read → Does mid new told told result (λ w. answered w s Reading)
+pub Does-read : (old mid new : State) (tells told : Tells) (s n : ℕ) (read : Operation) (result : Answered) → DoesTurn old mid tells told (Ok replies.Done) s n read → Does mid new told told result (λ w. turn_answered w s Reading)
     → Does old new tells told result (λ w. reads_from w s n read)
 Does-read old mid new tells told s n read result turn answer =
     Does-reads_from old new tells told result s n read
-    (Does-then (opened old s read) mid new tells told told replies.Done result (λ w. producer_turn w s n read) (λ w. answered w s Reading) turn answer)
+    (Does-then (opened old s read) mid new tells told told replies.Done result (λ w. writer_turn w s n read) (λ w. turn_answered w s Reading) turn answer)
 
 -- or its turn stops
 pub Does-read_stop : (old new : State) (tells told : Tells) (s n : ℕ) (read : Operation) (stop : Option Stop) → DoesTurn old new tells told (Err stop) s n read
     → Does old new tells told (Err stop) (λ w. reads_from w s n read)
 Does-read_stop old new tells told s n read stop turn =
     Does-reads_from old new tells told (Err stop) s n read
-    (Does-stop (opened old s read) new tells told stop (λ w. producer_turn w s n read) (λ w. answered w s Reading) turn)
+    (Does-stop (opened old s read) new tells told stop (λ w. writer_turn w s n read) (λ w. turn_answered w s Reading) turn)

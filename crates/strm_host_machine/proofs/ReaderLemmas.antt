@@ -11,7 +11,7 @@ use Rattle.strm_buffers.specs.declared.answers.Answer.{Answer}
 use Rattle.strm_buffers.specs.declared.answers.Answer.TheVariants.{Failed}
 use Rattle.strm_buffers.specs.declared.answers.ReaderSaid.{ReaderSaid}
 use Rattle.strm_buffers.specs.Listing.{Item}
-use Rattle.strm_buffers.specs.Tells.{Heard, ReaderTells, Tells, no_reader_tells, PollsReader, Rises, closed_reader as closed_tells, granted, told_by_reader, with_told_reader}
+use Rattle.strm_buffers.specs.Tells.{Heard, ReaderTells, Tells, no_reader_tells, PollsReader, RisesOnFailed, reader_tells_closed as closed_tells, reader_granted, told_by_reader, with_told_reader}
 use Rattle.strm_machine.specs.State.{State, consumer_at}
 use Rattle.strm_machine.specs.declared.streams.Consumer.{Consumer}
 use Rattle.strm_machine.specs.declared.streams.Duty.TheVariants.{Ended}
@@ -21,7 +21,7 @@ use Rattle.strm_host_machine.specs.Ends.{Reader, reader_in, polled_reader, close
 use Rattle.strm_host_machine.specs.World.{World, stream_in, reader_at, with_reader, without_reader}
 use Rattle.strm_host_machine.specs.Outcomes.{Stuck}
 use Rattle.strm_host_machine.specs.Polls.{AfterReader, is_reader_poll, are_items, tells_truly, reader_judged, reader_says, polls_reader}
-use Rattle.strm_host_machine.specs.Does.{Logs, Begins, AllBegin, Extends, first_log, reader_of, readers_from, world_of, faults_of, Answered, Gives, Caused, Does}
+use Rattle.strm_host_machine.specs.Does.{Logs, LogBegins, AllBegin, Extends, first_log, reader_of, readers_from, world_of, faults_of, Answered, Gives, Caused, Does}
 use Rattle.strm_host_machine.proofs.WorldLemmas.{drop_one, coming-next, begins-before}
 use Rattle.strm_host_machine.proofs.GrowLemmas.{Follows, Part, Does-follows}
 
@@ -63,7 +63,7 @@ pub record GrowsReader (old new : ReaderTells) : Type 0 where
   pub said : new.said ≡ old.said ++ more
   pub faults : old.faults ≤ new.faults
 
-rises_at_most : (answer : Answer) (a b : ℕ) → Rises answer a b → a ≤ b
+rises_at_most : (answer : Answer) (a b : ℕ) → RisesOnFailed answer a b → a ≤ b
 rises_at_most Failed a b r = grind (arith, nat_tests)
 rises_at_most _ a b r = r
 
@@ -78,12 +78,12 @@ begin_before : (rs : List ReaderTells) (logs : List (List ReaderSaid)) (n : ℕ)
 begin_before [] logs n t g b = b
 begin_before (x ∷ rs) [] zero t g b = b
 begin_before (x ∷ rs) [] (suc n) t g b = b
-begin_before (x ∷ rs) (log ∷ logs) zero t g b = (begins-before x.said g.more log (subst (λ xs. Begins xs log) g.said b.0), b.1)
+begin_before (x ∷ rs) (log ∷ logs) zero t g b = (begins-before x.said g.more log (subst (λ xs. LogBegins xs log) g.said b.0), b.1)
 begin_before (x ∷ rs) (log ∷ logs) (suc n) t g b = (b.0, begin_before rs logs n t g b.1)
 
 -- the log of the one that told more begins with what it said
 pub begins-told_reader : (rs : List ReaderTells) (logs : List (List ReaderSaid)) (n : ℕ) (t : ReaderTells) → n < length rs
-    → AllBegin (map (λ v. v.said) (slice_set rs n t)) logs → Begins t.said (first_log (drop n logs))
+    → AllBegin (map (λ v. v.said) (slice_set rs n t)) logs → LogBegins t.said (first_log (drop n logs))
 begins-told_reader [] logs n t l b = absurd (omega (arith, l))
 begins-told_reader (x ∷ rs) [] zero t l b = absurd b
 begins-told_reader (x ∷ rs) [] (suc n) t l b = absurd b
@@ -171,7 +171,7 @@ pub record IsReaderPolled (state : State) (tells : Tells) (logs : Logs) (r offer
   pub taken : first said.taken ≡ took
   pub asked : is_reader_poll offered (consumer_at state r).since finish said ≡ true
   pub next : said.bad ≡ true → IsBadNext offered first said.taken
-  pub begins : Begins t.said (first_log (drop r logs.readers))
+  pub begins : LogBegins t.said (first_log (drop r logs.readers))
 
 module _ (state : State) (tells : Tells) (logs : Logs) (r offered : ℕ) (finish : Bool) (first : ℕ → List Item) (said : ReaderSaid) (t : ReaderTells) (h : IsReaderPolled state tells logs r offered finish first said t) where
   abbrev log : List ReaderSaid
@@ -186,7 +186,7 @@ module _ (state : State) (tells : Tells) (logs : Logs) (r offered : ℕ) (finish
   next_is : (reader_at before r).coming ≡ said ∷ more
   next_is =
       ap (λ (x : Reader). x.coming) (reader_at-from state tells logs r h.there)
-      ∙ coming-next (told_by_reader tells r).said log said (subst (λ xs. Begins xs log) h.polls.said_more h.begins)
+      ∙ coming-next (told_by_reader tells r).said log said (subst (λ xs. LogBegins xs log) h.polls.said_more h.begins)
       ∙ ap (λ (xs : List ReaderSaid). said ∷ drop (length xs) log) (sym h.polls.said_more)
 
   end_is : polled_reader (reader_at before r) (first said.taken) more ≡ reader_of t log
@@ -228,10 +228,10 @@ without_reader-box state tells logs r there =
 
 -- what host ends tell once host reader r took a grant
 abbrev pub told_granted : Tells → ℕ → ℕ → Tells
-told_granted tells r count = with_told_reader tells r (granted (told_by_reader tells r) count)
+told_granted tells r count = with_told_reader tells r (reader_granted (told_by_reader tells r) count)
 
-pub granted-box : (state : State) (tells : Tells) (logs : Logs) (r count : ℕ) → r < length tells.readers
+pub reader_granted-box : (state : State) (tells : Tells) (logs : Logs) (r count : ℕ) → r < length tells.readers
     → with_reader (world_of state tells logs) r (granted_reader (reader_at (world_of state tells logs) r) count) ≡ world_of state (told_granted tells r count) logs
-granted-box state tells logs r count there =
+reader_granted-box state tells logs r count there =
     ap (λ x. with_reader (world_of state tells logs) r (granted_reader x count)) (reader_at-from state tells logs r there)
-    ∙ with_reader-from state tells logs r there (granted (told_by_reader tells r) count)
+    ∙ with_reader-from state tells logs r there (reader_granted (told_by_reader tells r) count)

@@ -4,7 +4,7 @@ use Rattle.strm_codes.specs.declared.codes.ReturnCode.{ReturnCode}
 use Rattle.strm_codes.specs.declared.codes.ReturnCode.TheVariants.{Blocked}
 use Rattle.strm_codes.specs.declared.codes.StreamResult.{StreamResult}
 use Rattle.strm_codes.specs.declared.codes.StreamResult.TheVariants as results
-use Rattle.strm_buffers.specs.Tells.{WriterTells, Tells, told_by, with_told, ClosesWriter, closed_reader as closed_tells, told_by_reader, with_told_reader}
+use Rattle.strm_buffers.specs.Tells.{WriterTells, Tells, told_by, with_told, ClosesWriter, reader_tells_closed as closed_tells, told_by_reader, with_told_reader}
 use Rattle.strm_machine.specs.State.{State, no_stream, stream_at, is_host}
 use Rattle.strm_machine.specs.Sides.{end_of, with_end}
 use Rattle.strm_machine.specs.Reactions.{Reaction, goes, with_stream_at, told, tells as tells_end}
@@ -19,7 +19,7 @@ use Rattle.strm_machine.specs.declared.streams.Stream.{Stream}
 use Rattle.strm_machine.specs.declared.replies.Reply.TheVariants as replies
 use Rattle.strm_host_machine.specs.World.{World, leaves_writer, leaves_reader, with_stream_in}
 use Rattle.strm_host_machine.specs.Outcomes.{Goes}
-use Rattle.strm_host_machine.specs.Settling.{moved_on, answered_with, answered}
+use Rattle.strm_host_machine.specs.Settling.{moved_on, answered_with, turn_answered}
 use Rattle.strm_host_machine.specs.Does.{Logs, world_of, Does}
 use Rattle.strm_machine.proofs.TableLemmas.{OwnersStay, with_end-owners}
 use Rattle.strm_host_machine.proofs.WorldLemmas.{set-same}
@@ -198,17 +198,17 @@ delivered-owners side stream = with_end-owners side stream (told_end (report_on 
 
 -- its end has a report
 pub Does-delivered : (state : State) (tells : Tells) (s : ℕ) (side : Side) (code : ReturnCode) → report_on side (stream_at state s) ≡ Some code
-    → Does state (told state s side) tells tells (Ok (replies.Code code)) (λ w. answered w s side)
+    → Does state (told state s side) tells tells (Ok (replies.Code code)) (λ w. turn_answered w s side)
 Does-delivered state tells s side code e =
-    Does-untold state (told state s side) tells (Ok (replies.Code code)) (λ w. answered w s side)
+    Does-untold state (told state s side) tells (Ok (replies.Code code)) (λ w. turn_answered w s side)
     (λ logs. ap (answered_with (world_of state tells logs) s side) e
     ∙ ap (Goes (replies.Code code)) (with_stream_in-stays state tells logs s (delivered side (stream_at state s)) (delivered-owners side (stream_at state s)))) tt
 
 -- it has none
 pub Does-blocked : (state : State) (tells : Tells) (s : ℕ) (side : Side) → report_on side (stream_at state s) ≡ None
-    → Does state state tells tells (Ok (replies.Code Blocked)) (λ w. answered w s side)
+    → Does state state tells tells (Ok (replies.Code Blocked)) (λ w. turn_answered w s side)
 Does-blocked state tells s side e =
-    Does-untold state state tells (Ok (replies.Code Blocked)) (λ w. answered w s side)
+    Does-untold state state tells (Ok (replies.Code Blocked)) (λ w. turn_answered w s side)
     (λ logs. ap (answered_with (world_of state tells logs) s side) e) tt
 
 -- what is answered where this is to be told
@@ -229,16 +229,16 @@ told-nothing state s side e =
     ∙ ap (λ xs. record state { streams = xs }) (set-same state.streams s no_stream)
 
 answers_by : (state : State) (tells : Tells) (s : ℕ) (side : Side) (report : Option ReturnCode) → report_on side (stream_at state s) ≡ report
-    → Does state (told state s side) tells tells (Ok (replies.Code (code_told report))) (λ w. answered w s side)
+    → Does state (told state s side) tells tells (Ok (replies.Code (code_told report))) (λ w. turn_answered w s side)
 answers_by state tells s side (Some code) e = Does-delivered state tells s side code e
 answers_by state tells s side None e =
-    subst (λ (new : State). Does state new tells tells (Ok (replies.Code Blocked)) (λ w. answered w s side)) (sym (told-nothing state s side e)) (Does-blocked state tells s side e)
+    subst (λ (new : State). Does state new tells tells (Ok (replies.Code Blocked)) (λ w. turn_answered w s side)) (sym (told-nothing state s side e)) (Does-blocked state tells s side e)
 
 -- a call that told an end its report, if there was one, answers that
 pub Does-answers : (old new : State) (s : ℕ) (side : Side) (report : Option ReturnCode) → tells_end old s side ≡ goes (replies.Event report) new → (tells : Tells)
-    → Does old new tells tells (Ok (replies.Code (code_told report))) (λ w. answered w s side)
+    → Does old new tells tells (Ok (replies.Code (code_told report))) (λ w. turn_answered w s side)
 Does-answers old new s side report e tells =
     let reply_is : replies.Event (report_on side (stream_at old s)) ≡ replies.Event report = ap (λ (r : Reaction). r.reply) e in
     let report_is : report_on side (stream_at old s) ≡ report = cc in
     let state_is : told old s side ≡ new = ap (λ (r : Reaction). r.state) e in
-    subst (λ (x : State). Does old x tells tells (Ok (replies.Code (code_told report))) (λ w. answered w s side)) state_is (answers_by old tells s side report report_is)
+    subst (λ (x : State). Does old x tells tells (Ok (replies.Code (code_told report))) (λ w. turn_answered w s side)) state_is (answers_by old tells s side report report_is)

@@ -33,8 +33,8 @@ use Rattle.strm_host_machine.specs.World.{World, stream_in, writer_at, reader_at
 use Rattle.strm_host_machine.specs.Ends.{Writer, Reader, no_writer, no_reader, writer_in, reader_in, polled_writer, polled_reader, given_writer, fed_writer, granted_reader, closed_writer, closed_reader}
 use Rattle.strm_host_machine.specs.Outcomes.{Outcome, Goes, Stops, Stuck, stops, done, then_on, of_reply}
 use Rattle.strm_host_machine.specs.Polls.{AfterWriter, is_failed, is_writer_poll, writer_judged, writer_says, polls_writer, AfterReader, is_reader_poll, tells_truly, reader_judged, reader_says, polls_reader}
-use Rattle.strm_host_machine.specs.Producing.{receives, with_answer, produced_result, hands_out, is_produced, produces, producer_turn, lowered}
-use Rattle.strm_host_machine.specs.Consuming.{lifted, with_taken, gives_up, consumer_turn}
+use Rattle.strm_host_machine.specs.WriterTurn.{receives, with_answer, produced_result, hands_out, is_produced, produces, writer_turn, lowered_items}
+use Rattle.strm_host_machine.specs.ReaderTurn.{lifted_items, reader_with_taken, gives_up, reader_turn}
 use Rattle.strm_host_machine.specs.Settling.{answered_with, result_of}
 use Rattle.strm_host_machine.specs.Piping.{wants_items, fetches, gathered, passed_on, offers, is_done_with, is_run_dry, both_gone, ends_if_done, pipe_round}
 use Rattle.strm_host_machine.specs.Driving.{if_open, driven_by, drive_turn, driven}
@@ -48,7 +48,7 @@ use Rattle.strm_codes.specs.declared.codes.StreamResult.{StreamResult}
 use Rattle.strm_codes.specs.declared.codes.StreamResult.TheVariants as results
 use Rattle.strm_machine.specs.declared.replies.Reply.TheVariants as replies
 use Rattle.strm_machine.specs.declared.streams.HostEnd.TheVariants as ends
-use Rattle.strm_host_machine.proofs.LaterLemmas.{Behind_one, used_more, all-set, set-there, WriterLater, ReaderLater, StreamLater, WriterStops, ReaderStops, EndsLater, IsLater, EndsFit, itself_later, stream_twice, operation_later, received_later, moved_later, without_ends_later}
+use Rattle.strm_host_machine.proofs.LaterLemmas.{Behind_one, used_more, all-set, set-there, WriterLater, ReaderLater, StreamLater, WriterStopsSo, ReaderStopsSo, EndsLater, IsLater, EndsFit, itself_later, stream_twice, operation_later, received_later, moved_later, without_ends_later}
 
 -- a step from this world
 module _ (first : World) where
@@ -65,11 +65,11 @@ module _ (first : World) where
 
   -- a host writer where it stopped
   abbrev pub WriterFares : Stop → List Writer → ℕ → Type 0
-  WriterFares stop ws n = WriterLater (writer_at first n) (writer_in ws n) ⊎ WriterStops stop n (writer_at first n) (writer_in ws n)
+  WriterFares stop ws n = WriterLater (writer_at first n) (writer_in ws n) ⊎ WriterStopsSo stop n (writer_at first n) (writer_in ws n)
 
   -- and a host reader
   abbrev pub ReaderFares : Stop → List Reader → ℕ → Type 0
-  ReaderFares stop rs r = ReaderLater (reader_at first r) (reader_in rs r) ⊎ ReaderStops stop r (reader_at first r) (reader_in rs r)
+  ReaderFares stop rs r = ReaderLater (reader_at first r) (reader_in rs r) ⊎ ReaderStopsSo stop r (reader_at first r) (reader_in rs r)
 
   -- it stopped by that record, and no other record that was used says why
   pub record StoppedBy (stop : Stop) (ws : List Writer) (rs : List Reader) : Type 0 where
@@ -202,7 +202,7 @@ module _ (first : World) where
       → (k : ℕ) → WriterFares stop (writer_used w n room said more).writers k
   writer_stopped w stop n room said more e p t =
       let was = (t.writers n).coming in
-      all-set (λ k v. WriterLater (writer_at first k) v ⊎ WriterStops stop k (writer_at first k) v) no_writer w.writers n (polled_writer (writer_at w n) room said more)
+      all-set (λ k v. WriterLater (writer_at first k) v ⊎ WriterStopsSo stop k (writer_at first k) v) no_writer w.writers n (polled_writer (writer_at w n) room said more)
       (λ k. inl (t.writers k))
       (inr (record { coming = (was.0, said, was.1 ∙ ap (λ rest. was.0 ++ rest) e, was.2, p); kind = (t.writers n).kind }))
 
@@ -234,7 +234,7 @@ module _ (first : World) where
   -- a read that receives items from a host writer
   received-later : (w : World) (s : ℕ) (read : Operation) (items : List Item) (result : Option StreamResult) → IsLater first w → IsLater first (receives w s read items result)
   received-later w s read items result t =
-      let guests = lowered w.state.guests (stream_in w s).payload read items in
+      let guests = lowered_items w.state.guests (stream_in w s).payload read items in
       with_stream-later (with_guests w guests) s _ (moved_later Reading (stream_in w s) read (length items) result)
       (record { writers = t.writers; readers = t.readers; streams = t.streams })
 
@@ -252,8 +252,8 @@ module _ (first : World) where
       cond_both (producer_at w.state n).over (done (receives w s read [] (Some results.Dropped))) (is_produced w s n read) Fares
       (λ o. received-later w s read [] _ t) (λ o. produced-fares w s n read q t)
 
-  turn-fares : (w : World) (s n : ℕ) (read : Operation) → Writes s n → IsLater first w → Fares (producer_turn w s n read)
-  unfolding producer_turn
+  turn-fares : (w : World) (s n : ℕ) (read : Operation) → Writes s n → IsLater first w → Fares (writer_turn w s n read)
+  unfolding writer_turn
   turn-fares w s n read q t = produces-fares w s n read _ q t
 
   -- A HOST READER'S TURN
@@ -277,7 +277,7 @@ module _ (first : World) where
       → (k : ℕ) → ReaderFares stop (reader_used w r took more).readers k
   reader_stopped w stop r took said more e p t =
       let was = (t.readers r).coming in
-      all-set (λ k v. ReaderLater (reader_at first k) v ⊎ ReaderStops stop k (reader_at first k) v) no_reader w.readers r (polled_reader (reader_at w r) took more)
+      all-set (λ k v. ReaderLater (reader_at first k) v ⊎ ReaderStopsSo stop k (reader_at first k) v) no_reader w.readers r (polled_reader (reader_at w r) took more)
       (λ k. inl (t.readers k))
       (inr (record { coming = (was.0, said, was.1 ∙ ap (λ rest. was.0 ++ rest) e, was.2, p); kind = (t.readers r).kind }))
 
@@ -310,13 +310,13 @@ module _ (first : World) where
       (λ k. h after said (reader-later w r x (polled_reader-later w r (took said.taken) said more e (f, b, ap (λ z. breaks_as_reader z said) (sym here) ∙ k) t) t)))))
       (λ p. tt)
 
-  consumer_turn-fares : (w : World) (s r : ℕ) (write : Operation) → Reads s r → IsLater first w → Fares (consumer_turn w s r write)
-  unfolding consumer_turn
-  consumer_turn-fares w s r write q t =
-      reader_says-fares w s r write.left write.asked (lifted w.state.guests (stream_in w s).payload write) (reader_at w r).coming
-      (λ after said. done (gives_up (with_taken after r said.answer said.taken) s write said.taken said.answer))
+  reader_turn-fares : (w : World) (s r : ℕ) (write : Operation) → Reads s r → IsLater first w → Fares (reader_turn w s r write)
+  unfolding reader_turn
+  reader_turn-fares w s r write q t =
+      reader_says-fares w s r write.left write.asked (lifted_items w.state.guests (stream_in w s).payload write) (reader_at w r).coming
+      (λ after said. done (gives_up (reader_with_taken after r said.answer said.taken) s write said.taken said.answer))
       refl q t
-      (λ v x k. with_stream-later (with_taken v r x.answer x.taken) s _ (moved_later Writing (stream_in v s) write x.taken (result_of x.answer))
+      (λ v x k. with_stream-later (reader_with_taken v r x.answer x.taken) s _ (moved_later Writing (stream_in v s) write x.taken (result_of x.answer))
       (record { writers = k.writers; readers = k.readers; streams = k.streams }))
 
   -- THE ROUND OF A PIPE
@@ -421,7 +421,7 @@ module _ (first : World) where
     driven_by-fares : (w : World) (s : ℕ) (stream : Stream) (writer reader : Owner) → (stream_in w s).writer.owner ≡ writer → (stream_in w s).reader.owner ≡ reader → IsLater first w → Fares (driven_by w s stream writer reader)
     driven_by-fares w s stream (Host n) (Host r) e f t = pipe_round-fares w s n r (written_kind w s n t e) (read_kind w s r t f) t
     driven_by-fares w s stream (Host n) _ e f t = open-fares w stream.reader.operation _ t (λ o. turn-fares w s n o (written_kind w s n t e) t)
-    driven_by-fares w s stream _ (Host r) e f t = open-fares w stream.writer.operation _ t (λ o. consumer_turn-fares w s r o (read_kind w s r t f) t)
+    driven_by-fares w s stream _ (Host r) e f t = open-fares w stream.writer.operation _ t (λ o. reader_turn-fares w s r o (read_kind w s r t f) t)
     driven_by-fares w s stream _ _ e f t = t
 
     drive_turn-fares : (w : World) (s : ℕ) → IsLater first w → Fares (drive_turn w s)
@@ -443,7 +443,7 @@ module _ (first : World) where
         let s = stream_named (named first.state end) in
         let write = begun end.guest address (items_asked end.ty count) in
         let t = itself_later first in
-        then-halts _ _ (consumer_turn-fares _ s r write (read_kind first s r t e) (with_stream-later first s _ (operation_later Writing (stream_in first s) write) t))
+        then-halts _ _ (reader_turn-fares _ s r write (read_kind first s r t e) (with_stream-later first s _ (operation_later Writing (stream_in first s) write) t))
         (λ v k. answered-halts v s Writing _ (ends_later v k))
     operates-halts side end address count _ e = reacts-halts (OnEnd side end (Operate address count))
 

@@ -10,7 +10,7 @@ use Rattle.strm_buffers.specs.Tells.{Heard, WriterTells, PollsWriter}
 use Rattle.strm_machine.specs.declared.streams.Duty.TheVariants.{Serves}
 use Rattle.strm_machine.specs.declared.streams.Producer.{Producer}
 use Rattle.strm_host_machine.specs.Ends.{Writer, writer_in, polled_writer}
-use Rattle.strm_host_machine.specs.Does.{Begins, first_duty, first_log, writer_of, writers_from}
+use Rattle.strm_host_machine.specs.Does.{LogBegins, first_duty, first_log, writer_of, writers_from}
 
 -- the records of all writers
 abbrev pub Saids : Type 0
@@ -79,13 +79,13 @@ drop-length [] ys = refl
 drop-length (x ∷ xs) ys = drop-length xs ys
 
 -- of a log that begins with what was said and one record more, that record is the next
-pub coming-next : {A : Type 0} (said log : List A) (x : A) → Begins (said ++ x ∷ []) log → drop (length said) log ≡ x ∷ drop (length (said ++ x ∷ [])) log
+pub coming-next : {A : Type 0} (said log : List A) (x : A) → LogBegins (said ++ x ∷ []) log → drop (length said) log ≡ x ∷ drop (length (said ++ x ∷ [])) log
 coming-next said log x b =
     ap (drop (length said)) (b ∙ append_assoc said (x ∷ []) (drop (length (said ++ x ∷ [])) log))
     ∙ drop-length said (x ∷ drop (length (said ++ x ∷ [])) log)
 
 -- and it begins with what was said before
-pub begins-before : {A : Type 0} (said more log : List A) → Begins (said ++ more) log → Begins said log
+pub begins-before : {A : Type 0} (said more log : List A) → LogBegins (said ++ more) log → LogBegins said log
 begins-before said more log b =
     let rest = drop (length (said ++ more)) log in
     let e : log ≡ said ++ (more ++ rest) = b ∙ append_assoc said more rest in

@@ -10,8 +10,8 @@ use Rattle.strm_machine.specs.declared.stops.Stop.{Stop}
 use Rattle.strm_machine.specs.declared.replies.Reply.TheVariants as replies
 use Rattle.strm_host_machine.specs.World.{World}
 use Rattle.strm_host_machine.specs.Outcomes.{Outcome, then_on}
-use Rattle.strm_host_machine.specs.Consuming.{consumer_turn}
-use Rattle.strm_host_machine.specs.Settling.{answered}
+use Rattle.strm_host_machine.specs.ReaderTurn.{reader_turn}
+use Rattle.strm_host_machine.specs.Settling.{turn_answered}
 use Rattle.strm_host_machine.specs.Steps.{writes_to}
 use Rattle.strm_host_machine.specs.Does.{Logs, world_of, Answered, Gives, Does}
 use Rattle.strm_host_machine.proofs.DoesLemmas.{Does-then, Does-stop}
@@ -23,7 +23,7 @@ opened_write state s write = with_stream_at state s (with_operation Writing (str
 
 -- the reader's turn, and the answer
 abbrev pub taken_and_answered : ℕ → ℕ → Operation → World → Outcome
-taken_and_answered s r write world = then_on (consumer_turn world s r write) (λ after. answered after s Writing)
+taken_and_answered s r write world = then_on (reader_turn world s r write) (λ after. turn_answered after s Writing)
 
 writes_to-opened : (state : State) (tells : Tells) (logs : Logs) (s r : ℕ) (write : Operation) → writes_to (world_of state tells logs) s r write ≡ taken_and_answered s r write (world_of (opened_write state s write) tells logs)
 writes_to-opened state tells logs s r write =
@@ -41,18 +41,18 @@ Does-writes_to old new tells told result s r write d = record {
 
 -- the reader's turn for a write that begins
 abbrev pub DoesTaking : State → State → Tells → Tells → Answered → ℕ → ℕ → Operation → Type 0
-DoesTaking old mid tells told result s r write = Does (opened_write old s write) mid tells told result (λ w. consumer_turn w s r write)
+DoesTaking old mid tells told result s r write = Does (opened_write old s write) mid tells told result (λ w. reader_turn w s r write)
 
 -- a write that the reader's turn settled, or left waiting, is answered
-pub Does-write : (old mid new : State) (tells told : Tells) (s r : ℕ) (write : Operation) (result : Answered) → DoesTaking old mid tells told (Ok replies.Done) s r write → Does mid new told told result (λ w. answered w s Writing)
+pub Does-write : (old mid new : State) (tells told : Tells) (s r : ℕ) (write : Operation) (result : Answered) → DoesTaking old mid tells told (Ok replies.Done) s r write → Does mid new told told result (λ w. turn_answered w s Writing)
     → Does old new tells told result (λ w. writes_to w s r write)
 Does-write old mid new tells told s r write result turn answer =
     Does-writes_to old new tells told result s r write
-    (Does-then (opened_write old s write) mid new tells told told replies.Done result (λ w. consumer_turn w s r write) (λ w. answered w s Writing) turn answer)
+    (Does-then (opened_write old s write) mid new tells told told replies.Done result (λ w. reader_turn w s r write) (λ w. turn_answered w s Writing) turn answer)
 
 -- or its turn stops
 pub Does-write_stop : (old new : State) (tells told : Tells) (s r : ℕ) (write : Operation) (stop : Option Stop) → DoesTaking old new tells told (Err stop) s r write
     → Does old new tells told (Err stop) (λ w. writes_to w s r write)
 Does-write_stop old new tells told s r write stop turn =
     Does-writes_to old new tells told (Err stop) s r write
-    (Does-stop (opened_write old s write) new tells told stop (λ w. consumer_turn w s r write) (λ w. answered w s Writing) turn)
+    (Does-stop (opened_write old s write) new tells told stop (λ w. reader_turn w s r write) (λ w. turn_answered w s Writing) turn)

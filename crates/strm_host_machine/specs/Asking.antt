@@ -23,7 +23,7 @@ use Rattle.strm_host_machine.specs.Ends.{polled_reader}
 use Rattle.strm_host_machine.specs.World.{World, stream_in, reader_at, with_reader, with_stream_in}
 use Rattle.strm_host_machine.specs.Outcomes.{Goes}
 use Rattle.strm_host_machine.specs.Polls.{is_failed, is_reader_poll, tells_truly}
-use Rattle.strm_host_machine.specs.Consuming.{lifted}
+use Rattle.strm_host_machine.specs.ReaderTurn.{lifted_items}
 use Rattle.strm_host_machine.specs.Driving.{driven, numbers_from}
 use Rattle.strm_host_machine.specs.HostRefusals.{refusal_in}
 
@@ -50,7 +50,7 @@ pub record ReaderAsksBad (world : World) (s : ℕ) (write : Operation) : Type 0 
   pub more : List ReaderSaid
   pub next : (reader_at world reader).coming ≡ said ∷ more
   pub polled : is_reader_poll write.left (consumer_at world.state reader).since write.asked said ≡ true
-  pub truly : tells_truly write.left (lifted world.state.guests (stream_in world s).payload write) said ≡ true
+  pub truly : tells_truly write.left (lifted_items world.state.guests (stream_in world s).payload write) said ≡ true
   pub answered : is_failed said.answer ≡ false
   pub bad : items_next world.state s write (asked_by said) ≡ None
 
@@ -95,7 +95,7 @@ pub data AsksBadItem (world : World) (step : Step) (s : ℕ) : Type 0 where
 -- that it took
 abbrev pub after_asking : (world : World) (s : ℕ) (write : Operation) → ReaderAsksBad world s write → World
 after_asking world s write asks =
-    let took = lifted world.state.guests (stream_in world s).payload write asks.said.taken in
+    let took = lifted_items world.state.guests (stream_in world s).payload write asks.said.taken in
     with_reader world asks.reader (polled_reader (reader_at world asks.reader) took asks.more)
 
 -- nothing is moved: the world at the bad item

@@ -21,7 +21,7 @@ use Rattle.strm_machine.specs.declared.streams.Meeting.{Meeting}
 use Rattle.strm_machine.specs.declared.streams.Meeting.TheVariants.{BothComplete, WriteCompletes, ReadCompletes}
 use Rattle.strm_machine.specs.declared.streams.Side.{Side}
 use Rattle.strm_machine.specs.declared.streams.Side.TheVariants.{Writing, Reading}
-use Rattle.strm_host_machine.specs.Producing.{is_last}
+use Rattle.strm_host_machine.specs.WriterTurn.{is_last}
 use Rattle.strm_host_machine.specs.Settling.{result_of}
 
 -- EVENTS
@@ -35,7 +35,7 @@ pub data Holder : Type 0 where
 
 -- a record of a poll, with the number of its items: those that a host writer produced, or that a host
 -- reader took
-pub record Poll : Type 0 where
+pub record CoursePoll : Type 0 where
   pub items : ℕ
   pub answer : Answer
 
@@ -44,7 +44,7 @@ pub data StreamEvent : Type 0 where
   -- it is made of a host writer that holds so many items; one that is made for guests begins with no event
   Begins : ℕ → StreamEvent
   -- a read or write of so many items is accepted, and uses these records of the host end across
-  Calls : Side → ℕ → List Poll → StreamEvent
+  Calls : Side → ℕ → List CoursePoll → StreamEvent
   -- its end on a side is asked what it is to be told, by an event or by a poll of a set that tells it
   Hears : Side → StreamEvent
   -- its operation on a side is cancelled
@@ -54,7 +54,7 @@ pub data StreamEvent : Type 0 where
   -- its end on a side moves to one who has it then
   Moves : Side → Holder → StreamEvent
   -- its part of a drive round, with the records used of its host writer and of its host reader
-  Turns : List Poll → List Poll → StreamEvent
+  Turns : List CoursePoll → List CoursePoll → StreamEvent
 
 -- STATES
 
@@ -120,25 +120,25 @@ with_progress side course progress =
     with_end_on side course (record (end_on side course) { progress = Some progress })
 
 -- another one has the end on a side
-abbrev pub held_by : Side → Course → Holder → Course
-held_by side course holder = with_end_on side course (record (end_on side course) { holder = holder })
+abbrev pub with_holder : Side → Course → Holder → Course
+with_holder side course holder = with_end_on side course (record (end_on side course) { holder = holder })
 
 -- nobody has the end on a side any more; what a host writer held is given up with it
-abbrev pub gone_on : Side → Course → Course
-gone_on Writing course = record (held_by Writing course NoMore) { held = 0; over = false }
-gone_on Reading course = held_by Reading course NoMore
+abbrev pub course_gone_on : Side → Course → Course
+course_gone_on Writing course = record (with_holder Writing course NoMore) { held = 0; over = false }
+course_gone_on Reading course = with_holder Reading course NoMore
 
 -- both ends are gone
 abbrev pub both_gone : Course → Course
-both_gone course = gone_on Writing (gone_on Reading course)
+both_gone course = course_gone_on Writing (course_gone_on Reading course)
 
 -- items were received: a future's value has passed
 abbrev pub with_value : Course → Course
 with_value course = record course { passed = course.passed || is_future course.kind }
 
 -- n items were received
-abbrev pub with_items : Course → ℕ → Course
-with_items course n = if n == 0 then course else with_value course
+abbrev pub course_with_items : Course → ℕ → Course
+course_with_items course n = if n == 0 then course else with_value course
 
 -- WHAT IS ANSWERED
 
@@ -176,8 +176,8 @@ asked progress = record progress { pending = record progress.pending { asked = t
 
 -- the operation on a side is cancelled: what its report says is answered, and where there is none yet a
 -- host end across is to finish first
-abbrev pub cancels : Side → Course → Reached
-cancels side course =
+abbrev pub course_cancels : Side → Course → Reached
+course_cancels side course =
     let code = report_at side course in
     if is_a_host (end_on (opposite side) course).holder && not (is_some code)
     then reaches (Some codes.Blocked)
@@ -211,23 +211,23 @@ met_by p n = record {
 }
 
 -- the operation opens
-abbrev pub waits : Side → Course → Progress → Reached
-waits side course mine = reaches (Some codes.Blocked) (with_progress side course mine)
+abbrev pub course_waits : Side → Course → Progress → Reached
+course_waits side course mine = reaches (Some codes.Blocked) (with_progress side course mine)
 
 -- a side completes alone
-abbrev pub completes_alone : Side → Side → Course → Progress → Progress → Reached
-completes_alone who side course mine theirs =
+abbrev pub course_completes_alone : Side → Side → Course → Progress → Progress → Reached
+course_completes_alone who side course mine theirs =
     if same_side who side
     then reaches (Some (completed_code course.kind 0)) course
-    else waits side (with_progress (opposite side) course (met_by theirs 0)) mine
+    else course_waits side (with_progress (opposite side) course (met_by theirs 0)) mine
 
 -- mine and theirs meet
 abbrev pub meets_by : Meeting → Side → Course → Progress → Progress → Reached
 meets_by BothComplete side course mine theirs =
     let n = min mine.left theirs.left in
     reaches (Some (completed_code course.kind n)) (with_progress (opposite side) (with_value course) (met_by theirs n))
-meets_by WriteCompletes side course mine theirs = completes_alone Writing side course mine theirs
-meets_by ReadCompletes side course mine theirs = completes_alone Reading side course mine theirs
+meets_by WriteCompletes side course mine theirs = course_completes_alone Writing side course mine theirs
+meets_by ReadCompletes side course mine theirs = course_completes_alone Reading side course mine theirs
 
 -- the items that a write has left and those that a read has, of mine on a side and theirs
 abbrev pub meeting : Side → Progress → Progress → Meeting
@@ -235,29 +235,29 @@ meeting Writing mine theirs = meeting_of mine.left theirs.left
 meeting Reading mine theirs = meeting_of theirs.left mine.left
 
 -- by the operation across, if there is one
-abbrev pub finds : Side → Course → Progress → Option Progress → Reached
-finds side course mine None = waits side course mine
-finds side course mine (Some theirs) =
+abbrev pub course_finds : Side → Course → Progress → Option Progress → Reached
+course_finds side course mine None = course_waits side course mine
+course_finds side course mine (Some theirs) =
     if theirs.pending.is_open
     then meets_by (meeting side mine theirs) side course mine theirs
-    else waits side course mine
+    else course_waits side course mine
 
 -- TURNS OF HOST ENDS
 
 -- an operation that is settled so, if it is
-abbrev pub settled : Option StreamResult → Progress → Progress
-settled None p = p
-settled (Some result) p = record p { pending = record p.pending { is_open = false; met = true; outcome = result } }
+abbrev pub progress_settled : Option StreamResult → Progress → Progress
+progress_settled None p = p
+progress_settled (Some result) p = record p { pending = record p.pending { is_open = false; met = true; outcome = result } }
 
 -- the host end across is gone once it is done
 abbrev pub let_go : Side → Option StreamResult → Course → Course
-let_go side (Some results.Dropped) course = gone_on side course
+let_go side (Some results.Dropped) course = course_gone_on side course
 let_go side _ course = course
 
 -- n items of the operation on a side came from the host end across or went to it, which settles it so
 abbrev pub goes_on : Side → Course → Progress → ℕ → Option StreamResult → Course
 goes_on side course p n result =
-    let_go (opposite side) result (with_progress side (with_items course n) (settled result (went_on p n)))
+    let_go (opposite side) result (with_progress side (course_with_items course n) (progress_settled result (went_on p n)))
 
 -- how an answer settles a read where so many items are held then
 abbrev pub produced_result : Answer → ℕ → Option StreamResult
@@ -265,7 +265,7 @@ produced_result answers.Dropped held = if held == 0 then Some results.Dropped el
 produced_result answer held = result_of answer
 
 -- a poll of the host writer for the read that waits
-abbrev pub produces : Course → Progress → List Poll → Course
+abbrev pub produces : Course → Progress → List CoursePoll → Course
 produces course p [] = course
 produces course p (poll ∷ more) =
     let held = poll.items - p.left in
@@ -273,21 +273,21 @@ produces course p (poll ∷ more) =
     (min p.left poll.items) (produced_result poll.answer held)
 
 -- the host writer's turn for it: what is held goes first, then a poll, unless there is no more to come
-abbrev pub producer_turn : Course → Progress → List Poll → Course
-producer_turn course p polls =
+abbrev pub after_writer_turn : Course → Progress → List CoursePoll → Course
+after_writer_turn course p polls =
     if nat_lt 0 course.held
     then goes_on Reading (record course { held = course.held - p.left }) p (min p.left course.held) (Some results.Completed)
     else (if course.over then goes_on Reading course p 0 (Some results.Dropped) else produces course p polls)
 
 -- a poll of the host reader for the write that waits
-abbrev pub consumer_turn : Course → Progress → List Poll → Course
-consumer_turn course p [] = course
-consumer_turn course p (poll ∷ more) = goes_on Writing course p poll.items (result_of poll.answer)
+abbrev pub after_reader_turn : Course → Progress → List CoursePoll → Course
+after_reader_turn course p [] = course
+after_reader_turn course p (poll ∷ more) = goes_on Writing course p poll.items (result_of poll.answer)
 
 -- the turn of the host end across from a side
-abbrev pub turn_across : Side → Course → Progress → List Poll → Course
-turn_across Reading = producer_turn
-turn_across Writing = consumer_turn
+abbrev pub after_turn_across : Side → Course → Progress → List CoursePoll → Course
+after_turn_across Reading = after_writer_turn
+after_turn_across Writing = after_reader_turn
 
 -- what a call answers that its end is to be told
 abbrev pub code_or_blocked : Option ReturnCode → ReturnCode
@@ -301,7 +301,7 @@ answers_then side course = record (hears side course) { code = Some (code_or_blo
 -- ROUNDS BETWEEN TWO HOST ENDS
 
 -- the host writer produced these
-abbrev pub fills : Course → List Poll → Course
+abbrev pub fills : Course → List CoursePoll → Course
 fills course [] = course
 fills course (poll ∷ more) = record course { held = course.held + poll.items; over = course.over || is_last poll.answer }
 
@@ -323,39 +323,39 @@ both_gone_if true course = both_gone course
 both_gone_if false course = course
 
 -- the host reader took these. Where it was not polled it does not rest
-abbrev pub empties : Course → List Poll → Course
+abbrev pub empties : Course → List CoursePoll → Course
 empties course [] = both_gone_if (is_dry course) course
 empties course (poll ∷ more) =
-    let after = with_items (record course { held = course.held - poll.items }) poll.items in
+    let after = course_with_items (record course { held = course.held - poll.items }) poll.items in
     both_gone_if (ends_round course.kind poll.answer (is_dry after)) after
 
 -- EVENTS ONE BY ONE
 
 -- the turn for an operation that is open
-abbrev pub if_open : Side → Course → Option Progress → List Poll → Course
+abbrev pub if_open : Side → Course → Option Progress → List CoursePoll → Course
 if_open side course None polls = course
-if_open side course (Some p) polls = if p.pending.is_open then turn_across side course p polls else course
+if_open side course (Some p) polls = if p.pending.is_open then after_turn_across side course p polls else course
 
 -- its part of a drive round, by who has its write end and its read end
-abbrev pub driven_by : Holder → Holder → Course → List Poll → List Poll → Course
+abbrev pub driven_by : Holder → Holder → Course → List CoursePoll → List CoursePoll → Course
 driven_by AHost AHost course produced took = empties (fills course produced) took
 driven_by AHost _ course produced took = if_open Reading course course.reader.progress produced
 driven_by _ AHost course produced took = if_open Writing course course.writer.progress took
 driven_by _ _ course produced took = course
 
 -- a read or write of n items, by who has the end across
-abbrev pub called_by : Holder → Side → Course → ℕ → List Poll → Reached
+abbrev pub called_by : Holder → Side → Course → ℕ → List CoursePoll → Reached
 called_by NoMore side course n polls =
     reaches (Some (codes.Dropped 0)) (with_end_on side course (record (end_on side course) { told = true }))
 called_by AHost side course n polls =
-    answers_then side (turn_across side (with_progress side course (begins n)) (begins n) polls)
+    answers_then side (after_turn_across side (with_progress side course (begins n)) (begins n) polls)
 called_by _ side course n polls =
-    finds side course (begins n) (end_on (opposite side) course).progress
+    course_finds side course (begins n) (end_on (opposite side) course).progress
 
 -- the end on a side is dropped; a host end across goes with it
 abbrev pub dropped_by : Holder → Side → Course → Course
 dropped_by AHost side course = both_gone course
-dropped_by _ side course = gone_on side course
+dropped_by _ side course = course_gone_on side course
 
 -- an operation that is open and whose report is withdrawn: it goes on with a host end
 abbrev pub withdrawn : Progress → Progress
@@ -365,7 +365,7 @@ withdrawn p = if p.pending.is_open then record p { pending = record p.pending { 
 -- nothing more is to come
 abbrev pub piped : Course → Course
 piped course =
-    let after = record (held_by Reading course AHost) {
+    let after = record (with_holder Reading course AHost) {
       writer = record course.writer { progress = option_map withdrawn course.writer.progress };
     } in
     both_gone_if (is_no_more course.writer.holder || (is_a_host course.writer.holder && is_dry course)) after
@@ -373,15 +373,15 @@ piped course =
 -- the end on a side has another holder
 abbrev pub moved_to : Side → Holder → Course → Course
 moved_to Reading AHost course = piped course
-moved_to side holder course = held_by side course holder
+moved_to side holder course = with_holder side course holder
 
 -- what the event leads to
 unfoldable pub course_by : StreamEvent → Course → Reached
 course_by (Begins held) course =
-    reaches None (record (held_by Writing (held_by Reading course NoGuest) AHost) { held = held })
+    reaches None (record (with_holder Writing (with_holder Reading course NoGuest) AHost) { held = held })
 course_by (Calls side n polls) course = called_by (end_on (opposite side) course).holder side course n polls
 course_by (Hears side) course = hears side course
-course_by (Cancels side) course = cancels side course
+course_by (Cancels side) course = course_cancels side course
 course_by (Drops side) course = reaches None (dropped_by (end_on (opposite side) course).holder side course)
 course_by (Moves side holder) course = reaches None (moved_to side holder course)
 course_by (Turns produced took) course =

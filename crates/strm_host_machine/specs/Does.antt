@@ -22,7 +22,7 @@ use Rattle.strm_host_machine.specs.World.{World}
 use Rattle.strm_machine.specs.declared.stops.Stop.{Stop}
 use Rattle.strm_machine.specs.declared.stops.Stop.TheVariants.{HostFailed}
 use Rattle.strm_host_machine.specs.Outcomes.{Outcome, Goes, Stops}
-use Rattle.strm_host_machine.specs.HostPlays.{play, Ends, Halts}
+use Rattle.strm_host_machine.specs.HostPlays.{host_play, Ends, Halts}
 
 -- WHAT HOST ENDS SAY
 
@@ -32,13 +32,13 @@ pub record Logs : Type 0 where
   pub readers : List (List ReaderSaid)
 
 -- a log begins with what was said
-abbrev pub Begins : {A : Type 0} → List A → List A → Type 0
-Begins said log = log ≡ said ++ drop (length said) log
+abbrev pub LogBegins : {A : Type 0} → List A → List A → Type 0
+LogBegins said log = log ≡ said ++ drop (length said) log
 
 -- each log begins with what the end at its place said
 abbrev pub AllBegin : {A : Type 0} → List (List A) → List (List A) → Type 0
 AllBegin [] [] = Unit {0}
-AllBegin (said ∷ more) (log ∷ logs) = Begins said log × AllBegin more logs
+AllBegin (said ∷ more) (log ∷ logs) = LogBegins said log × AllBegin more logs
 AllBegin [] (log ∷ logs) = ⊥
 AllBegin (said ∷ more) [] = ⊥
 
@@ -184,18 +184,18 @@ pub record Does (old new : State) (tells told : Tells) (result : Answered) (mach
 -- RUNS
 
 -- an unused store, and what is added to the ends' records as what is to come
-abbrev pub start : ℕ → Limits → Tells → Tells → World
-start tag limits old new = world_of (empty tag limits) old (saids new)
+abbrev pub start_world : ℕ → Limits → Tells → Tells → World
+start_world tag limits old new = world_of (empty tag limits) old (saids new)
 
 -- nothing is to come
-abbrev pub spent : State → Tells → World
-spent state tells = world_of state tells (saids tells)
+abbrev pub world_spent : State → Tells → World
+world_spent state tells = world_of state tells (saids tells)
 
 -- a run that came to its end; its records are those that were used
 abbrev pub RunsTo : World → List Step → List Reply → State → Tells → Type 0
-RunsTo start steps replies state new = play [] start steps ≡ Ends replies (spent state new)
+RunsTo start_world steps replies state new = host_play [] start_world steps ≡ Ends replies (world_spent state new)
 
 -- a run that stopped by this cause, with a store in this state
 abbrev pub StopsWith : World → List Step → List Reply → Stop → Tells → State → Type 0
-StopsWith start steps replies stop new state =
-    play [] start steps ≡ Halts replies stop (spent state new).writers (spent state new).readers
+StopsWith start_world steps replies stop new state =
+    host_play [] start_world steps ≡ Halts replies stop (world_spent state new).writers (world_spent state new).readers

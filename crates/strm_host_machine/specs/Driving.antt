@@ -7,8 +7,8 @@ use Rattle.strm_machine.specs.declared.streams.Operation.{Operation}
 use Rattle.strm_machine.specs.declared.streams.Stream.{Stream}
 use Rattle.strm_host_machine.specs.World.{World, stream_in}
 use Rattle.strm_host_machine.specs.Outcomes.{Outcome, done, then_on}
-use Rattle.strm_host_machine.specs.Producing.{producer_turn}
-use Rattle.strm_host_machine.specs.Consuming.{consumer_turn}
+use Rattle.strm_host_machine.specs.WriterTurn.{writer_turn}
+use Rattle.strm_host_machine.specs.ReaderTurn.{reader_turn}
 use Rattle.strm_host_machine.specs.Piping.{pipe_round}
 
 -- a turn for an operation that is open
@@ -19,8 +19,8 @@ if_open world (Some operation) turn = if operation.is_open then turn operation e
 -- by the owners of its write end and of its read end
 abbrev pub driven_by : World → ℕ → Stream → Owner → Owner → Outcome
 driven_by world s stream (Host n) (Host r) = pipe_round world s n r
-driven_by world s stream (Host n) _ = if_open world stream.reader.operation (producer_turn world s n)
-driven_by world s stream _ (Host r) = if_open world stream.writer.operation (consumer_turn world s r)
+driven_by world s stream (Host n) _ = if_open world stream.reader.operation (writer_turn world s n)
+driven_by world s stream _ (Host r) = if_open world stream.writer.operation (reader_turn world s r)
 driven_by world s stream _ _ = done world
 
 -- the turn of stream s in a drive round

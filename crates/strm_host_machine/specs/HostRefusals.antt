@@ -25,8 +25,8 @@ is_used Unused = false
 is_used _ = true
 
 -- the type of the streams that host reader r reads
-abbrev pub type_read : World → ℕ → TransmitIndex
-type_read world r = type_with (reader_at world r).kind (reader_at world r).payload
+abbrev pub type_for_reader : World → ℕ → TransmitIndex
+type_for_reader world r = type_with (reader_at world r).kind (reader_at world r).payload
 
 -- what is done to host end n
 abbrev pub on_host_reasons : World → ℕ → HostAct → List Reason
@@ -40,7 +40,7 @@ on_host_reasons world n (Feed bytes) =
 on_host_reasons world r (Pipe reader) =
     where_ (is_unknown_host (length world.readers) r) refusals.UnknownHost
     ∷ where_ (is_used (consumer_at world.state r).duty) refusals.HostUsed
-    ∷ reader_reasons world.state reader (type_read world r)
+    ∷ reader_reasons world.state reader (type_for_reader world r)
 on_host_reasons world r (Grant count) =
     where_ (is_unknown_host (length world.readers) r) refusals.UnknownHost ∷ []
 

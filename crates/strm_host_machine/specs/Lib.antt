@@ -4,8 +4,8 @@ pub mod Outcomes
 pub mod Polls
 pub mod LastRecord
 pub mod Settling
-pub mod Producing
-pub mod Consuming
+pub mod WriterTurn
+pub mod ReaderTurn
 pub mod Attaching
 pub mod Releasing
 pub mod Piping

@@ -12,7 +12,7 @@ use Rattle.strm_host_machine.specs.World.{World, stream_in, writer_at, held_of, 
 use Rattle.strm_host_machine.specs.Outcomes.{Outcome, done, then_on}
 use Rattle.strm_host_machine.specs.Polls.{polls_writer, polls_reader}
 use Rattle.strm_host_machine.specs.Settling.{with_some_received, since_after}
-use Rattle.strm_host_machine.specs.Producing.{with_answer}
+use Rattle.strm_host_machine.specs.WriterTurn.{with_answer}
 use Rattle.strm_host_machine.specs.Attaching.{has_items, without_ends}
 
 -- FETCHING

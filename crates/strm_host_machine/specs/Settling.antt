@@ -39,9 +39,9 @@ went payload operation n = record operation {
 }
 
 -- an operation that is settled so, if it is: it is met, and not open any more
-abbrev pub settled : Option StreamResult → Operation → Operation
-settled None operation = operation
-settled (Some result) operation = record operation { is_open = false; met = true; outcome = result }
+abbrev pub operation_settled : Option StreamResult → Operation → Operation
+operation_settled None operation = operation
+operation_settled (Some result) operation = record operation { is_open = false; met = true; outcome = result }
 
 -- n items more were received; a future's value, where there was one, has passed
 abbrev pub with_some_received : Stream → ℕ → Stream
@@ -57,7 +57,7 @@ let_go side _ stream = stream
 unfoldable pub moved_on : Side → Stream → Operation → ℕ → Option StreamResult → Stream
 moved_on side stream operation n result =
     let_go (opposite side) result
-    (with_operation side (with_some_received stream n) (settled result (went stream.payload operation n)))
+    (with_operation side (with_some_received stream n) (operation_settled result (went stream.payload operation n)))
 
 -- the items that a host reader took since it was last ready
 abbrev pub since_after : Answer → ℕ → ℕ → ℕ
@@ -72,5 +72,5 @@ answered_with world s side (Some code) =
 answered_with world s side None = Goes (replies.Code Blocked) world
 
 -- what a call of the end on a side of stream s answers once the host end had its turn
-abbrev pub answered : World → ℕ → Side → Outcome
-answered world s side = answered_with world s side (report_on side (stream_in world s))
+abbrev pub turn_answered : World → ℕ → Side → Outcome
+turn_answered world s side = answered_with world s side (report_on side (stream_in world s))

@@ -26,9 +26,9 @@ use Rattle.strm_host_machine.specs.Ends.{fed_writer, granted_reader}
 use Rattle.strm_host_machine.specs.World.{World, stream_in, writer_at, reader_at, with_writer, with_reader, with_stream_in}
 use Rattle.strm_machine.specs.declared.stops.Stop.TheVariants.{StoreTrapped}
 use Rattle.strm_host_machine.specs.Outcomes.{Outcome, Goes, stops, then_on, done, reacted}
-use Rattle.strm_host_machine.specs.Settling.{answered}
-use Rattle.strm_host_machine.specs.Producing.{producer_turn}
-use Rattle.strm_host_machine.specs.Consuming.{consumer_turn}
+use Rattle.strm_host_machine.specs.Settling.{turn_answered}
+use Rattle.strm_host_machine.specs.WriterTurn.{writer_turn}
+use Rattle.strm_host_machine.specs.ReaderTurn.{reader_turn}
 use Rattle.strm_host_machine.specs.Driving.{driven, round_of}
 use Rattle.strm_host_machine.specs.Attaching.{hosts_new, pipes, forsakes}
 use Rattle.strm_host_machine.specs.HostRefusals.{refusal_in}
@@ -63,13 +63,13 @@ reacts world act = reacted world (reaction world.state act)
 abbrev pub reads_from : World → ℕ → ℕ → Operation → Outcome
 reads_from world s n read =
     let opened = with_stream_in world s (with_operation Reading (stream_in world s) read) in
-    then_on (producer_turn opened s n read) (λ after. answered after s Reading)
+    then_on (writer_turn opened s n read) (λ after. turn_answered after s Reading)
 
 -- a write opens on stream s, and host reader r has its turn at once
 abbrev pub writes_to : World → ℕ → ℕ → Operation → Outcome
 writes_to world s r write =
     let opened = with_stream_in world s (with_operation Writing (stream_in world s) write) in
-    then_on (consumer_turn opened s r write) (λ after. answered after s Writing)
+    then_on (reader_turn opened s r write) (λ after. turn_answered after s Writing)
 
 -- a read or write of the end on a side, by the owner of the other end
 abbrev pub operates_by : World → Side → NamedEnd → ℕ → ℕ → Owner → Outcome
@@ -125,8 +125,8 @@ outcome world act =
     else unless_refused_in world act (refusal_in world act)
 
 -- one step
-abbrev pub step_of : World → Step → Outcome
-step_of world step = outcome world (act_of step)
+abbrev pub outcome_of_step : World → Step → Outcome
+outcome_of_step world step = outcome world (act_of step)
 
 -- WHICH STEPS TOUCH A HOST END
 

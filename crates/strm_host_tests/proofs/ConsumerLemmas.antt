@@ -7,22 +7,22 @@ use Rattle.strm_buffers.specs.declared.answers.Turn.TheVariants.{Pending, Ready,
 use Rattle.strm_memory.specs.Items.{byte_items}
 use Rattle.strm_buffers.specs.Offers.{Offered, left_of}
 use Rattle.strm_buffers.specs.Said.{IfAnswered, IfNoMemory}
-use Rattle.strm_buffers.specs.Tells.{SameOffer, Rises}
+use Rattle.strm_buffers.specs.Tells.{SameOffer, RisesOnFailed}
 use Rattle.strm_buffers.specs.declared.answers.Answer.TheVariants.{Completed}
 use Rattle.strm_host.specs.Futures.{IfFailed}
-use Rattle.strm_host.specs.FutureConsuming.{IfWanting}
-use Rattle.strm_host.specs.Consuming.{Taking, offering_of, with_taken}
+use Rattle.strm_host.specs.FutureConsuming.{IfTurnWanting}
+use Rattle.strm_host.specs.Consuming.{ConsumerPoll, offering_of, took_more}
 use Rattle.strm_host.proofs.OfferingLemmas.{all_left, taken_whole}
-use Rattle.strm_host_tests.specs.Consumers.{TakesAll, Copies, GoesOn}
+use Rattle.strm_host_tests.specs.Consumers.{TakesAll, Copies, TurnGoesOn}
 
-abbrev IsTaking : Taking → Taking → Type 0
+abbrev IsTaking : ConsumerPoll → ConsumerPoll → Type 0
 IsTaking planned done = planned ≡ done
 
 -- what a consumer owes that takes all and never fails, of the offer before and after, and its turn
 pub record Owes (old new : Offered) (turn : Turn StreamResult) : Type 0 where
   pub same : SameOffer old new
   pub untaken : IfNoMemory turn (new.taken ≡ 0)
-  pub failed : IfAnswered turn (λ answer. Rises answer 0 0)
+  pub failed : IfAnswered turn (λ answer. RisesOnFailed answer 0 0)
   pub plan : IfAnswered turn (λ answer. IsTaking (record { taken = length (offering_of old).items; answer = Completed }) (record { taken = new.taken; answer = answer }))
 
 pub owes_all : (old new : Offered) (turn : Turn StreamResult) → old.taken ≡ 0 → TakesAll old new turn → Owes old new turn
@@ -61,7 +61,7 @@ module _ (had has : List ℕ) (old new : Offered) (turn : Turn StreamResult) (e 
   copied_kept (inl w) = rw (w.0, w.2) refl
   copied_kept (inr w) = rw w.2 tt
 
-  pub copied_took : Copies had has old new turn → IfAnswered turn (λ _. Some (byte_items has) ≡ with_taken (Some (byte_items had)) new.taken (offering_of old))
+  pub copied_took : Copies had has old new turn → IfAnswered turn (λ _. Some (byte_items has) ≡ took_more (Some (byte_items had)) new.taken (offering_of old))
   copied_took (inl w) = rw w.0 tt
   copied_took (inr w) =
       let items = (offering_of old).items in
@@ -71,13 +71,13 @@ module _ (had has : List ℕ) (old new : Offered) (turn : Turn StreamResult) (e 
 
 -- FUTURES
 
-pub never_wants : (P : Type 0) (turn : Turn (Unit {0})) → GoesOn turn → IfWanting turn P
+pub never_wants : (P : Type 0) (turn : Turn (Unit {0})) → TurnGoesOn turn → IfTurnWanting turn P
 never_wants P Pending g = tt
 never_wants P (Ready u) g = tt
 never_wants P Failed g = tt
 never_wants P NoMemory g = absurd g
 
-pub never_fails : (P : Type 0) (turn : Turn (Unit {0})) → GoesOn turn → IfFailed turn P
+pub never_fails : (P : Type 0) (turn : Turn (Unit {0})) → TurnGoesOn turn → IfFailed turn P
 never_fails P Pending g = tt
 never_fails P (Ready u) g = tt
 never_fails P Failed g = absurd g

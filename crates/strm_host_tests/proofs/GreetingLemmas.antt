@@ -9,7 +9,7 @@ use Rattle.strm_buffers.specs.declared.answers.Turn.TheVariants.{Pending, Ready,
 use Rattle.strm_memory.specs.Items.{byte_items}
 use Rattle.strm_buffers.specs.Windows.{Lent, stored_in, with_direct}
 use Rattle.strm_buffers.specs.Said.{IfAnswered}
-use Rattle.strm_buffers.specs.Tells.{Fills, Rises}
+use Rattle.strm_buffers.specs.Tells.{Fills, RisesOnFailed}
 use Rattle.strm_buffers.proofs.EndLemmas.{Fills-same}
 use Rattle.strm_host.specs.Producing.{with_written}
 use Rattle.strm_host_tests.specs.Greetings.{Greets, NeverFails}
@@ -42,7 +42,7 @@ few_greeted old new (inr e) m =
     let is : length new.marked ≡ length (old.marked ++ byte_items (take k two)) = ap (λ (w : Lent). length w.marked) e in
     omega (arith, is, all, none, size, items, least)
 
-pub never_failed : (turn : Turn StreamResult) → NeverFails turn → IfAnswered turn (λ answer. Rises answer 0 0)
+pub never_failed : (turn : Turn StreamResult) → NeverFails turn → IfAnswered turn (λ answer. RisesOnFailed answer 0 0)
 never_failed Pending n = omega arith
 never_failed (Ready result.Completed) n = omega arith
 never_failed (Ready result.Cancelled) n = omega arith

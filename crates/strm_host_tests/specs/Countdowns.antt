@@ -5,7 +5,7 @@ use Rattle.strm_codes.specs.declared.codes.StreamResult.TheVariants as result
 use Rattle.strm_buffers.specs.declared.answers.Answer.TheVariants as answer
 use Rattle.strm_buffers.specs.declared.answers.Turn.{Turn}
 use Rattle.strm_buffers.specs.declared.answers.Turn.TheVariants.{Ready}
-use Rattle.strm_host.specs.Producing.{Plan, Poll}
+use Rattle.strm_host.specs.Producing.{Plan, ProducerPoll}
 
 -- with so many numbers left, the next one
 abbrev pub given_at : ℕ → Option ℕ
@@ -18,7 +18,7 @@ turn_at zero = Ready result.Dropped
 turn_at (suc n) = Ready result.Completed
 
 -- both together
-abbrev pub poll_at : ℕ → Poll
+abbrev pub poll_at : ℕ → ProducerPoll
 poll_at zero = record { items = []; answer = answer.Dropped }
 poll_at (suc n) = record { items = (pos (suc n) ∷ []) ∷ []; answer = answer.Completed }
 

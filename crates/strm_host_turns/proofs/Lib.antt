@@ -1,5 +1,5 @@
 pub mod RegionLemmas
-pub mod PollLemmas
+pub mod WriterPollLemmas
 pub mod ReaderPollLemmas
-pub mod TurnLemmas
+pub mod WriterTurnLemmas
 pub mod StepLemmas

@@ -28,12 +28,12 @@ use Rattle.strm_machine.specs.declared.streams.Operation.{Operation}
 use Rattle.strm_machine.proofs.StateLemmas.{with_memory-same}
 use Rattle.strm_machine.proofs.CarryLemmas.{no_scalars}
 use Rattle.strm_memory.proofs.ItemLemmas.{items-add}
-use Rattle.strm_host_machine.specs.Consuming.{lifted}
+use Rattle.strm_host_machine.specs.ReaderTurn.{lifted_items}
 use Rattle.strm_host_machine.proofs.ReaderLemmas.{IsBadNext as BadBehind}
 use Rattle.strm_host_turns.specs.Regions.{region_address, lent_items}
 use Rattle.strm_host_turns.specs.ReaderPolls.{IsBadBehind, PollsFrom}
 use Rattle.strm_host_turns.proofs.RegionLemmas.{not_zero}
-use Rattle.strm_host_turns.proofs.PollLemmas.{Reads, of_answer}
+use Rattle.strm_host_turns.proofs.WriterPollLemmas.{Reads, of_answer}
 
 -- ## Its address
 
@@ -80,7 +80,7 @@ module _ (guests : List Guest) (payload : Payload) (write : Operation) where
   region_by_size (suc w) (suc n) k e l = rw (not_zero w, not_zero n) refl
 
   -- items that the write has left lie there as at its own address
-  lifted_region : (k : ℕ) → k ≤ write.left → items_in ss memory (region_address payload write) k ≡ lifted guests payload write k
+  lifted_region : (k : ℕ) → k ≤ write.left → items_in ss memory (region_address payload write) k ≡ lifted_items guests payload write k
   lifted_region k l = ap listed (region_by_size (item_size ss) write.left k refl l)
 
   -- and one that is none as well
@@ -100,11 +100,11 @@ module _ (guests : List Guest) (payload : Payload) (write : Operation) where
   there_is : (k : ℕ) → k < write.left → region_item k ≡ decode ss (drop (region_address payload write + item_size ss * k) memory)
   there_is k l = let less : nat_lt k write.left ≡ true = grind (arith, nat_tests) in rw less refl
 
-  before_bad : (k : ℕ) → k ≡ length (lifted guests payload write k) → IsSome (items ss (drop write.address memory) k)
+  before_bad : (k : ℕ) → k ≡ length (lifted_items guests payload write k) → IsSome (items ss (drop write.address memory) k)
   before_bad zero e = none_read ss (drop write.address memory)
   before_bad (suc k) e = were_read (items ss (drop write.address memory) (suc k)) (suc k) e (omega arith)
 
-  bad_region : (k : ℕ) → k ≡ length (lifted guests payload write k) → k < write.left → region_item k ≡ None → IsBadBehind guests payload write k
+  bad_region : (k : ℕ) → k ≡ length (lifted_items guests payload write k) → k < write.left → region_item k ≡ None → IsBadBehind guests payload write k
   bad_region k e l b = record {
     within = l;
     before = before_bad k e;
@@ -209,7 +209,7 @@ none_listed None n e = ne_eqb 0 (n + 1) (λ f. omega (arith, f))
 none_listed (Some xs) n e = cc
 
 -- the first bad item of a write is the one behind those that are items
-pub bad_behind : (guests : List Guest) (payload : Payload) (write : Operation) (n : ℕ) → IsBadBehind guests payload write n → BadBehind write.left (lifted guests payload write) n
+pub bad_behind : (guests : List Guest) (payload : Payload) (write : Operation) (n : ℕ) → IsBadBehind guests payload write n → BadBehind write.left (lifted_items guests payload write) n
 bad_behind guests payload write n b = record {
   within = b.within;
   bad = none_listed _ n (more_none (scalars_of payload) (drop write.address (memory_in guests write.guest)) n b.bad);

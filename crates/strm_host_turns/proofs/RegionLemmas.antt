@@ -17,9 +17,9 @@ use Rattle.strm_memory.specs.Linear.{LinearMemory, untold}
 use Rattle.strm_machine.proofs.CarryLemmas.{no_scalars}
 use Rattle.strm_channels.specs.Guests.{linear_in, with_linear}
 use Rattle.strm_channels.proofs.GuestLemmas.{with_linear-twice}
-use Rattle.strm_host_machine.specs.Producing.{lowered}
+use Rattle.strm_host_machine.specs.WriterTurn.{lowered_items}
 use Rattle.strm_host_turns.specs.Regions.{region_address}
-use Rattle.strm_host_turns.specs.Polls.{Lowers}
+use Rattle.strm_host_turns.specs.WriterPolls.{LowersForRead}
 
 -- ## Its address
 
@@ -79,7 +79,7 @@ module _ (guests : List Guest) (payload : Payload) (read : Operation) where
     pub marked_few : length filled.marked ≤ read.left
     marked_few = omega (arith, subst (λ (p : Place). HasRoom p (length filled.marked) 0) place_is h.room)
 
-    pub marked_lowered : after ≡ lowered guests payload read filled.marked
+    pub marked_lowered : after ≡ lowered_items guests payload read filled.marked
     marked_lowered =
         let at : region_address payload read + item_size (scalars_of payload) * 0 ≡ region_address payload read = omega arith in
         let memory = ap memory_of place_is ∙ ap (λ k. stored_at (scalars_of payload) (memory_in guests read.guest) k filled.marked) at ∙ stored_region payload read (memory_in guests read.guest) filled.marked marked_few in
@@ -88,18 +88,18 @@ module _ (guests : List Guest) (payload : Payload) (read : Operation) where
         ∙ ap (λ b. with_linear guests read.guest (record { bytes = memory_of filled.place; base = b })) lies
         ∙ ap (with_memory guests read.guest) memory
 
-    pub marked_lowers : Lowers guests after payload read
+    pub marked_lowers : LowersForRead guests after payload read
     marked_lowers = record { items = filled.marked; few = marked_few; lowered = marked_lowered }
 
   -- no items leave all as it is
-  pub lowered-none : lowered guests payload read [] ≡ guests
-  lowered-none = rw (stored_at-nil (scalars_of payload) (memory_in guests read.guest) read.address) (with_memory-same guests read.guest)
+  pub lowered_items-none : lowered_items guests payload read [] ≡ guests
+  lowered_items-none = rw (stored_at-nil (scalars_of payload) (memory_in guests read.guest) read.address) (with_memory-same guests read.guest)
 
   -- a region lent, and returned without a call
-  pub unpolled : (between after : List Guest) (window : Lent) → window ≡ region_window false → between ≡ with_linear guests read.guest (untold []) → after ≡ with_linear between read.guest (given_back window) → Lowers guests after payload read
+  pub unpolled : (between after : List Guest) (window : Lent) → window ≡ region_window false → between ≡ with_linear guests read.guest (untold []) → after ≡ with_linear between read.guest (given_back window) → LowersForRead guests after payload read
   unpolled between after window l o b =
       let whole : given_back window ≡ linear_in guests read.guest = rw l refl in
       let same : after ≡ guests =
       b ∙ ap (with_linear between read.guest) whole
       ∙ rw o (with_linear-twice guests read.guest (untold []) (linear_in guests read.guest) ∙ with_memory-same guests read.guest) in
-      record { items = []; few = omega arith; lowered = same ∙ sym lowered-none }
+      record { items = []; few = omega arith; lowered = same ∙ sym lowered_items-none }

@@ -1,6 +1,6 @@
 pub mod Regions
-pub mod Polls
+pub mod WriterPolls
 pub mod ReaderPolls
-pub mod Turning
-pub mod Taking
+pub mod WriterTurns
+pub mod ReaderTurns
 pub mod Piping

@@ -8,9 +8,9 @@
 #![tactic(auto)]
 
 pub mod pipes;
-mod polls;
 mod reader_polls;
+pub mod reader_turns;
 mod regions;
 mod settling;
-pub mod taking;
-pub mod turns;
+mod writer_polls;
+pub mod writer_turns;

@@ -5,12 +5,12 @@
 //! `WriteState::HostReady`. Ours: items that the reader does not take are kept as their bytes.
 
 ghost use Rattle.std.specs.Prelude.{◌≡◌, ◌++◌, [], length, None, IfOk, OnOk, OnErr};
-ghost use Rattle.strm_buffers.specs.Tells.{KeepsWriter, KeepsReader, given};
-ghost use Rattle.strm_host_turns.specs.Piping.{fetching, Fetches, offering, Offers, FetchedSo, PassedSo, GathersNone, judged_fetch};
+ghost use Rattle.strm_buffers.specs.Tells.{KeepsWriter, KeepsReader, writer_given};
+ghost use Rattle.strm_host_turns.specs.Piping.{fetching, Fetches, offering, Offers, FetchedSo, PassedSo, GathersNone, fetch_verdict};
 
+use crate::reader_turns::{ReaderStops, judge_reader, since_after};
 use crate::settling::receive_some;
-use crate::taking::{TakeError, judge, since_after};
-use crate::turns::{TurnError, note_answer};
+use crate::writer_turns::{WriterStops, note_answer};
 use std::alloc::Global;
 use std::mem;
 use strm_buffers::answers::{Answer, ReaderSaid};
@@ -49,14 +49,14 @@ fn poll_all(
 }
 
 // Why an answer to such a poll, in which so many items were produced, stops the step, if it does.
-fn judge_fetch(kind: TransmitKind, answer: Answer, produced: usize) -> Result<(), TurnError>
-    ensures { result ≡ judged_fetch kind answer produced }
+fn judge_fetch(kind: TransmitKind, answer: Answer, produced: usize) -> Result<(), WriterStops>
+    ensures { result ≡ fetch_verdict kind answer produced }
 {
     if answer == Answer::Failed {
-        return Err(TurnError::Failed);
+        return Err(WriterStops::Failed);
     }
     if answer.breaks_as_writer(kind, None, false, produced) {
-        return Err(TurnError::Broke);
+        return Err(WriterStops::Broke);
     }
     Ok(())
 }
@@ -69,7 +69,7 @@ pub fn fetch(
     producer: &mut Producer,
     kept: &mut Items,
     writer: &mut Box<dyn HostWriter>,
-) -> Result<(), TurnError>
+) -> Result<(), WriterStops>
     requires payload { (writer_tells writer.old).payload ≡ kept.old.payload }
     requires nothing_held { (writer_tells writer.old).holds ≡ [] }
     ensures fetches { Fetches result kind
@@ -79,7 +79,7 @@ pub fn fetch(
 {
     let (items, answer) = match poll_all(alloc, kept.payload(), writer) {
         Ok(polled) => polled,
-        Err(_) => return Err(TurnError::OutOfMemory),
+        Err(_) => return Err(WriterStops::OutOfMemory),
     };
     judge_fetch(kind, answer, items.len())?;
     note_answer(producer, answer, 0);
@@ -97,7 +97,7 @@ fn gather(
     requires payload { (writer_tells writer.old).payload ≡ kept.old.payload }
     ensures payload { kept.new.payload ≡ kept.old.payload }
     ensures items { OnOk result (kept.new.items ≡ kept.old.items ++ (writer_tells writer.old).holds) }
-    ensures ok { OnOk result (writer_tells writer.new ≡ given (writer_tells writer.old) None) }
+    ensures ok { OnOk result (writer_tells writer.new ≡ writer_given (writer_tells writer.old) None) }
     ensures no_memory { OnErr result (GathersNone (writer_tells writer.old) (writer_tells writer.new)) }
 {
     let holds = held_by(writer);
@@ -161,7 +161,7 @@ pub fn offer(
     kept: &mut Items,
     writer: &mut Box<dyn HostWriter>,
     reader: &mut Box<dyn HostReader>,
-) -> Result<Answer, TakeError>
+) -> Result<Answer, ReaderStops>
     requires writer { (writer_tells writer.old).payload ≡ kept.old.payload }
     requires reader { (reader_tells reader.old).payload ≡ kept.old.payload }
     ensures offers { Offers result
@@ -171,14 +171,14 @@ pub fn offer(
 {
     match gather(alloc, kept, writer) {
         Ok(()) => {}
-        Err(_) => return Err(TakeError::OutOfMemory),
+        Err(_) => return Err(ReaderStops::OutOfMemory),
     }
     let since = consumer.since;
     let said = match poll_kept(alloc, kept, reader, since) {
         Ok(said) => said,
-        Err(_) => return Err(TakeError::OutOfMemory),
+        Err(_) => return Err(ReaderStops::OutOfMemory),
     };
-    judge(stream.kind(), &said)?;
+    judge_reader(stream.kind(), &said)?;
     kept.skip(said.taken as usize);
     consumer.since = since_after(said.answer, since, said.taken);
     consumer.resting = said.answer == Answer::Pending;

@@ -5,7 +5,7 @@
 ghost use Rattle.std.specs.Prelude.{◌≡◌, IfOk, OnErr};
 ghost use Rattle.strm_machine.specs.Soundness.{sizes_of, IsPlaced};
 ghost use Rattle.strm_buffers.specs.Tells.{KeepsReader};
-ghost use Rattle.strm_channels.specs.Guests.{seen};
+ghost use Rattle.strm_channels.specs.Guests.{guests_of};
 ghost use Rattle.strm_host_turns.specs.ReaderPolls.{PollsFrom};
 
 use crate::regions::{lend_items, return_items};
@@ -29,11 +29,11 @@ pub fn poll_from(
     write: &Operation,
     since: u32,
 ) -> Result<ReaderSaid, OutOfMemory>
-    requires placed { IsPlaced (sizes_of (seen guests.old.items)) payload.now write.now }
+    requires placed { IsPlaced (sizes_of (guests_of guests.old.items)) payload.now write.now }
     requires payload { (reader_tells reader.old).payload ≡ payload.now }
-    ensures guests { seen guests.new.items ≡ seen guests.old.items }
+    ensures guests { guests_of guests.new.items ≡ guests_of guests.old.items }
     ensures ok { IfOk result (λ said. PollsFrom (reader_tells reader.old) (reader_tells reader.new)
-        (seen guests.old.items) payload.now since write.now said) }
+        (guests_of guests.old.items) payload.now since write.now said) }
     ensures no_memory { OnErr result (KeepsReader (reader_tells reader.old) (reader_tells reader.new)) }
 {
     let mut offer = lend_items(alloc, guests, payload, write, since);

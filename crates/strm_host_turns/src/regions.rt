@@ -9,7 +9,7 @@ ghost use Rattle.strm_memory.specs.Linear.{LinearMemory, untold};
 ghost use Rattle.strm_machine.specs.Soundness.{sizes_of, IsPlaced};
 ghost use Rattle.strm_buffers.specs.Windows.{Between, HasRoom, lent_memory, given_back};
 ghost use Rattle.strm_buffers.specs.Offers.{IsRegion, IsMemoryOf};
-ghost use Rattle.strm_channels.specs.Guests.{seen, linear_in, with_linear};
+ghost use Rattle.strm_channels.specs.Guests.{guests_of, linear_in, with_linear};
 ghost use Rattle.strm_host_turns.specs.Regions.{region_address, lent_items};
 
 use std::alloc::Global;
@@ -40,11 +40,11 @@ pub fn lend_region(
     payload: &Payload,
     read: &Operation,
 ) -> Window
-    requires placed { IsPlaced (sizes_of (seen guests.old.items)) payload.now read.now }
-    ensures window { result ≡ lent_memory payload.now (linear_in (seen guests.old.items) read.now.guest)
+    requires placed { IsPlaced (sizes_of (guests_of guests.old.items)) payload.now read.now }
+    ensures window { result ≡ lent_memory payload.now (linear_in (guests_of guests.old.items) read.now.guest)
         (region_address payload.now read.now) read.now.left }
-    ensures guests { seen guests.new.items
-        ≡ with_linear (seen guests.old.items) read.now.guest (untold []) }
+    ensures guests { guests_of guests.new.items
+        ≡ with_linear (guests_of guests.old.items) read.now.guest (untold []) }
     ensures count { length guests.new.items ≡ length guests.old.items }
 {
     let memory = take_memory(alloc, guests, read.guest as usize);
@@ -59,8 +59,8 @@ pub fn return_region(guests: &mut Vec<Guest>, guest: u32, window: Window) -> u32
     requires memory { window.place ≢ Between }
     ensures marked { result ≡ length window.marked }
     ensures room { HasRoom window.place result 0 }
-    ensures guests { seen guests.new.items ≡
-        with_linear (seen guests.old.items) guest (given_back window) }
+    ensures guests { guests_of guests.new.items ≡
+        with_linear (guests_of guests.old.items) guest (given_back window) }
 {
     // For the clause `room`: the marked items are within the room.
     let _ = window.marked();
@@ -79,10 +79,10 @@ pub fn lend_items(
     write: &Operation,
     since: u32,
 ) -> Offer
-    requires placed { IsPlaced (sizes_of (seen guests.old.items)) payload.now write.now }
-    ensures offer { result ≡ lent_items (seen guests.old.items) payload.now write.now since }
-    ensures guests { seen guests.new.items
-        ≡ with_linear (seen guests.old.items) write.now.guest (untold []) }
+    requires placed { IsPlaced (sizes_of (guests_of guests.old.items)) payload.now write.now }
+    ensures offer { result ≡ lent_items (guests_of guests.old.items) payload.now write.now since }
+    ensures guests { guests_of guests.new.items
+        ≡ with_linear (guests_of guests.old.items) write.now.guest (untold []) }
     ensures count { length guests.new.items ≡ length guests.old.items }
 {
     let memory = take_memory(alloc, guests, write.guest as usize);
@@ -97,7 +97,7 @@ pub fn return_items(guests: &mut Vec<Guest>, guest: u32, offer: Offer) -> u32
     requires memory { IsRegion offer.source }
     ensures taken { result ≡ offer.taken }
     ensures guests { (memory : LinearMemory) → IsMemoryOf offer.source memory →
-        seen guests.new.items ≡ with_linear (seen guests.old.items) guest memory }
+        guests_of guests.new.items ≡ with_linear (guests_of guests.old.items) guest memory }
 {
     let (memory, taken) = offer.into_memory();
     put_memory(guests, guest as usize, memory);

@@ -8,8 +8,8 @@ ghost use Rattle.std.specs.Option.{option_map};
 ghost use Rattle.strm_codes.specs.Layout.{scalars_of, item_size};
 ghost use Rattle.strm_buffers.specs.Listing.{Item};
 ghost use Rattle.strm_machine.specs.Sides.{opposite, end_of, with_end};
-ghost use Rattle.strm_host_machine.specs.Producing.{produced_result};
-ghost use Rattle.strm_host_machine.specs.Settling.{result_of, settled, with_some_received, let_go, moved_on};
+ghost use Rattle.strm_host_machine.specs.WriterTurn.{produced_result};
+ghost use Rattle.strm_host_machine.specs.Settling.{result_of, operation_settled, with_some_received, let_go, moved_on};
 
 use strm_buffers::answers::Answer;
 use strm_channels::channels::Channel;
@@ -59,7 +59,7 @@ fn settle(stream: &mut Channel, side: Side, outcome: Option<StreamResult>)
     requires open { IsSomeAnd (end_of side stream.old).operation (λ operation.
         operation.is_open ≡ true) }
     ensures { stream.new ≡ with_end side stream.old (record (end_of side stream.old) {
-      operation = option_map (settled outcome) (end_of side stream.old).operation;
+      operation = option_map (operation_settled outcome) (end_of side stream.old).operation;
     }) }
 {
     if let Some(outcome) = outcome {

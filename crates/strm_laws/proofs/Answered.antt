@@ -21,7 +21,7 @@ use Rattle.strm_machine.specs.declared.acts.Act.TheVariants.{Make, OnEnd, Transf
 use Rattle.strm_machine.specs.declared.streams.Side.{Side}
 use Rattle.strm_machine.specs.declared.steps.Step.{Step}
 use Rattle.strm_machine.specs.declared.replies.Reply.TheVariants as replies
-use Rattle.strm_laws.specs.Conservation.{moments, last}
+use Rattle.strm_laws.specs.Conservation.{moments, state_after_steps}
 
 -- whether the end that is to leave its guest is in a set, whether a set that is to go has a member, which
 -- member of a set is ready, and whether what is to be a message is a text
@@ -110,13 +110,13 @@ abbrev pub reaction_by : Answer → State → Act → Reaction
 reaction_by a state act =
     cond state.trapped (goes replies.StoreTrapped state) (unless_by a state act (first_of (reasons_by a state act)))
 
-last-by : (state : State) (side : Side) (end : NamedEnd) (act : EndAct) (a : Answer) → Gives state (OnEnd side end act) a → last_reasons state end act ≡ last_by a state end act
-last-by state side end Lift a e = ap (λ b. where_ b refusals.LiftInSet ∷ []) e
-last-by state side end _ a e = refl
+state_after_steps-by : (state : State) (side : Side) (end : NamedEnd) (act : EndAct) (a : Answer) → Gives state (OnEnd side end act) a → last_reasons state end act ≡ last_by a state end act
+state_after_steps-by state side end Lift a e = ap (λ b. where_ b refusals.LiftInSet ∷ []) e
+state_after_steps-by state side end _ a e = refl
 
 reasons-by : (state : State) (act : Act) (a : Answer) → Gives state act a → reasons state act ≡ reasons_by a state act
 reasons-by state (OnEnd side end act) a e =
-    ap (λ more. front_reasons state end act ++ ((handle_reasons (named state end) ++ own_reasons state side end act) ++ more)) (last-by state side end act a e)
+    ap (λ more. front_reasons state end act ++ ((handle_reasons (named state end) ++ own_reasons state side end act) ++ more)) (state_after_steps-by state side end act a e)
 reasons-by state (Transfer end to) a e =
     ap (λ b. where_ (is_unknown_guest state end.guest || is_unknown_guest state to) refusals.UnknownGuest
     ∷ ((handle_reasons (named state end) ++ leave_reasons state end)
@@ -179,9 +179,9 @@ moments-by state (x ∷ more) all =
     ap (λ (r : Reaction). record { act = act_of x.step; before = state; reply = r.reply; after = r.state } ∷ moments r.state (steps_of more)) (reaction-by state (act_of x.step) x.answer both.0)
     ∙ ap (λ ms. record { act = act_of x.step; before = state; reply = (reaction_by x.answer state (act_of x.step)).reply; after = (reaction_by x.answer state (act_of x.step)).state } ∷ ms) (moments-by (reaction_by x.answer state (act_of x.step)).state more both.1)
 
-pub last-state : (state : State) (run : List Answered) → AllGive state run → last state (steps_of run) ≡ last_state state run
-last-state state [] all = refl
-last-state state (x ∷ more) all =
+pub state_after_steps-state : (state : State) (run : List Answered) → AllGive state run → state_after_steps state (steps_of run) ≡ last_state state run
+state_after_steps-state state [] all = refl
+state_after_steps-state state (x ∷ more) all =
     let both = answers_then state (question_of (act_of x.step)) x.answer (AllGive (reaction_by x.answer state (act_of x.step)).state more) all in
-    ap (λ (r : Reaction). last r.state (steps_of more)) (reaction-by state (act_of x.step) x.answer both.0)
-    ∙ last-state (reaction_by x.answer state (act_of x.step)).state more both.1
+    ap (λ (r : Reaction). state_after_steps r.state (steps_of more)) (reaction-by state (act_of x.step) x.answer both.0)
+    ∙ state_after_steps-state (reaction_by x.answer state (act_of x.step)).state more both.1

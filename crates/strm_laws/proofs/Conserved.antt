@@ -15,8 +15,8 @@ use Rattle.strm_machine.proofs.TallyLemmas.{received_one}
 use Rattle.strm_machine.proofs.Lawful.{Reacts}
 use Rattle.strm_machine.proofs.MomentLemmas.{unnamed}
 use Rattle.strm_machine.proofs.NamedEndLemmas.{names-unmade}
-use Rattle.strm_laws.specs.Conservation.{moments, last, calls, writes, all_reported, got, all_handed}
-use Rattle.strm_laws.specs.Laws.{AreSteps, total, waiting, moved_at, IsAsked, Conserves, Stands}
+use Rattle.strm_laws.specs.Conservation.{moments, state_after_steps, calls, writes, all_reported, got, all_handed}
+use Rattle.strm_laws.specs.Laws.{AreSteps, total_of_calls, waiting, moved_at, IsWithinAsked, Conserves, Stands}
 use Rattle.strm_laws.proofs.Calls.{calls-push, all_reported-push, got-push}
 use Rattle.strm_laws.proofs.Handed.{length-all_handed}
 use Rattle.strm_laws.proofs.Kept.{kind_at, Kept}
@@ -50,8 +50,8 @@ rekind one other s side all state q k =
       stands = k.stands;
       items = λ e. k.items e ∙ ap (all_handed one s all moved 0) q.none ∙ sym (ap (all_handed other s all moved 0) q.none);
       alone = k.alone;
-      count = k.count ∙ ap (λ cs. total one moved cs + 0) q.none ∙ sym (ap (λ cs. total other moved cs + 0) q.none);
-      within = subst (All (IsAsked other moved)) (sym q.none) (All-nil (IsAsked other moved));
+      count = k.count ∙ ap (λ cs. total_of_calls one moved cs + 0) q.none ∙ sym (ap (λ cs. total_of_calls other moved cs + 0) q.none);
+      within = subst (All (IsWithinAsked other moved)) (sym q.none) (All-nil (IsWithinAsked other moved));
       told = ap (λ n. n + moved + 0) (q.silent other ∙ sym (q.silent one)) ∙ k.told;
       reached = k.reached;
     }
@@ -92,25 +92,25 @@ whole_from s state (step ∷ more) h =
     All-append IsSome (got_in s (moment_of state step)) (got s (moments (react state step).state more)) (r.whole s) (whole_from s (react state step).state more (IsReady-next state step more h))
 
 -- the account of an end of a stream is kept
-account_from : (s : ℕ) (side : Side) (all : List Moment) (state : State) (steps : List Step) → IsReady state steps → Account s side all state → Account s side (all ++ moments state steps) (last state steps)
+account_from : (s : ℕ) (side : Side) (all : List Moment) (state : State) (steps : List Step) → IsReady state steps → Account s side all state → Account s side (all ++ moments state steps) (state_after_steps state steps)
 account_from s side all state [] h a = rw (append-nil all) a
 account_from s side all state (step ∷ more) h a =
     let m = moment_of state step in
     let after = (react state step).state in
     let here = account_next s side all state step h.lawful.sound (first_reacts state step more h) a in
     let next = account_from s side (all ++ m ∷ []) after more (IsReady-next state step more h) here in
-    subst (λ l. Account s side l (last after more)) (append_assoc all (m ∷ []) (moments after more)) next
+    subst (λ l. Account s side l (state_after_steps after more)) (append_assoc all (m ∷ []) (moments after more)) next
 
 module _ (tag : ℕ) (limits : Limits) (run : List Step) (s : ℕ) (a : AreSteps run) where
-  kept : (side : Side) → Kept (kind_at s (last (empty tag limits) run)) s side (moments (empty tag limits) run) (got s (moments (empty tag limits) run)) 0 (last (empty tag limits) run)
+  kept : (side : Side) → Kept (kind_at s (state_after_steps (empty tag limits) run)) s side (moments (empty tag limits) run) (got s (moments (empty tag limits) run)) 0 (state_after_steps (empty tag limits) run)
   kept side = (account_from s side [] (empty tag limits) run (IsReady-empty tag limits run a) (Account-empty s side tag limits)).kept
 
-  pub conserves : Conserves s (moments (empty tag limits) run) (last (empty tag limits) run)
+  pub conserves : Conserves s (moments (empty tag limits) run) (state_after_steps (empty tag limits) run)
   conserves =
       let all = moments (empty tag limits) run in
-      let end = last (empty tag limits) run in
+      let end = state_after_steps (empty tag limits) run in
       let w = kept Writing in
-      let long : length (got s all) ≡ total (kind_at s end) (moved_at s Writing end) (writes s all) = ap length (w.items refl) ∙ length-all_handed (kind_at s end) s all (moved_at s Writing end) 0 (writes s all) in
+      let long : length (got s all) ≡ total_of_calls (kind_at s end) (moved_at s Writing end) (writes s all) = ap length (w.items refl) ∙ length-all_handed (kind_at s end) s all (moved_at s Writing end) 0 (writes s all) in
       let count : length (got s all) ≡ received s end = omega (arith, long, w.count) in
       record {
         items = w.items refl;
@@ -122,9 +122,9 @@ module _ (tag : ℕ) (limits : Limits) (run : List Step) (s : ℕ) (a : AreSteps
         whole = whole_from s (empty tag limits) run (IsReady-empty tag limits run a);
       }
 
-  pub stands : (side : Side) → Stands (stream_at (last (empty tag limits) run) s).payload (waiting s side (last (empty tag limits) run)) (calls s side (moments (empty tag limits) run))
+  pub stands : (side : Side) → Stands (stream_at (state_after_steps (empty tag limits) run) s).payload (waiting s side (state_after_steps (empty tag limits) run)) (calls s side (moments (empty tag limits) run))
   stands side = (kept side).stands
 
   -- a future passes at most one item
-  pub one : (stream_at (last (empty tag limits) run) s).kind ≡ Future → length (got s (moments (empty tag limits) run)) ≤ 1
-  one k = omega (arith, conserves.count, received_one (stream_at (last (empty tag limits) run) s) (((lawful tag limits run a).tallies s).one k))
+  pub one : (stream_at (state_after_steps (empty tag limits) run) s).kind ≡ Future → length (got s (moments (empty tag limits) run)) ≤ 1
+  one k = omega (arith, conserves.count, received_one (stream_at (state_after_steps (empty tag limits) run) s) (((lawful tag limits run a).tallies s).one k))

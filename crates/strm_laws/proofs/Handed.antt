@@ -3,12 +3,12 @@ use Rattle.std.proofs.Common.{◌≡◌, ℕ, zero, suc, ◌+◌, ◌*◌, ◌�
 use Rattle.std.proofs.lemmas.List.{append-nil, drop-drop}
 use Rattle.std.proofs.lemmas.Bool.{lt-ltb, le-ltb, cond-true, cond-false}
 use Rattle.std.specs.Prelude.{is_some, nat_lt, ◌||◌}
-use Rattle.strm_machine.specs.Words.{scalars_of, item_size, ReturnCode, TransmitKind, Payload, Scalar, memory_in, stream_at, Moment, Call, k_of, items_in, received}
+use Rattle.strm_machine.specs.Words.{scalars_of, item_size, ReturnCode, TransmitKind, Payload, Scalar, memory_in, stream_at, Moment, Call, k_of, items_in_memory, received}
 use Rattle.strm_memory.specs.Items.{decode}
 use Rattle.strm_machine.specs.Moments.{decoded}
 use Rattle.strm_machine.proofs.RefusalLemmas.{neither}
 use Rattle.strm_laws.specs.Conservation.{before_passing, item_handed, handed, all_handed}
-use Rattle.strm_laws.specs.Laws.{total, AreReported}
+use Rattle.strm_laws.specs.Laws.{total_of_calls, AreReported}
 
 -- whether the number received passed n in one of these moments
 abbrev pub reaches : ℕ → List Moment → ℕ → Bool
@@ -65,7 +65,7 @@ module _ (s : ℕ) (all : List Moment) (m : Moment) (e : ℕ) (w : Call) (i : �
   item_handed-new q h = rw (h, q) refl
 
 module _ (s : ℕ) (all : List Moment) (m : Moment) (e : ℕ) (w : Call) (r : ℕ) (payload : Payload) (h : IsReached s all r) (q : payload ≡ (stream_at m.before s).payload) where
-  pub handed-new : (i n : ℕ) → r ≤ e + i → e + i + n ≤ received s m.after → handed s (all ++ m ∷ []) e w i n ≡ items_in payload m.before.guests w.guest (w.address + item_size (scalars_of payload) * i) n
+  pub handed-new : (i n : ℕ) → r ≤ e + i → e + i + n ≤ received s m.after → handed s (all ++ m ∷ []) e w i n ≡ items_in_memory payload m.before.guests w.guest (w.address + item_size (scalars_of payload) * i) n
   unfolding handed
   handed-new i zero le ge = sym (decoded-none (scalars_of payload) _)
   handed-new i (suc n) le ge =
@@ -104,34 +104,34 @@ k_of-reported kind a b None h = cc
 k_of-reported kind a b (Some c) h = refl
 
 -- where all have their reports, what the operation moved doesn't count
-pub total-reported : (kind : TransmitKind) (a b : ℕ) (ws : List Call) → AreReported ws → total kind a ws ≡ total kind b ws
-total-reported kind a b [] h = refl
-total-reported kind a b (w ∷ ws) h = rw (k_of-reported kind a b w.report h.0, total-reported kind a b ws h.1) refl
+pub total_of_calls-reported : (kind : TransmitKind) (a b : ℕ) (ws : List Call) → AreReported ws → total_of_calls kind a ws ≡ total_of_calls kind b ws
+total_of_calls-reported kind a b [] h = refl
+total_of_calls-reported kind a b (w ∷ ws) h = rw (k_of-reported kind a b w.report h.0, total_of_calls-reported kind a b ws h.1) refl
 
 pub all_handed-reported : (kind : TransmitKind) (s : ℕ) (all : List Moment) (a b e : ℕ) (ws : List Call) → AreReported ws → all_handed kind s all a e ws ≡ all_handed kind s all b e ws
 unfolding all_handed
 all_handed-reported kind s all a b e [] h = refl
 all_handed-reported kind s all a b e (w ∷ ws) h = rw (k_of-reported kind a b w.report h.0, all_handed-reported kind s all a b (e + k_of kind b w.report) ws h.1) refl
 
-pub total-append : (kind : TransmitKind) (moved : ℕ) (xs ys : List Call) → total kind moved (xs ++ ys) ≡ total kind moved xs + total kind moved ys
-total-append kind moved [] ys = omega arith
-total-append kind moved (x ∷ xs) ys = omega (arith, total-append kind moved xs ys)
+pub total_of_calls-append : (kind : TransmitKind) (moved : ℕ) (xs ys : List Call) → total_of_calls kind moved (xs ++ ys) ≡ total_of_calls kind moved xs + total_of_calls kind moved ys
+total_of_calls-append kind moved [] ys = omega arith
+total_of_calls-append kind moved (x ∷ xs) ys = omega (arith, total_of_calls-append kind moved xs ys)
 
-pub all_handed-append : (kind : TransmitKind) (s : ℕ) (all : List Moment) (moved e : ℕ) (xs ys : List Call) → all_handed kind s all moved e (xs ++ ys) ≡ all_handed kind s all moved e xs ++ all_handed kind s all moved (e + total kind moved xs) ys
+pub all_handed-append : (kind : TransmitKind) (s : ℕ) (all : List Moment) (moved e : ℕ) (xs ys : List Call) → all_handed kind s all moved e (xs ++ ys) ≡ all_handed kind s all moved e xs ++ all_handed kind s all moved (e + total_of_calls kind moved xs) ys
 unfolding all_handed
 all_handed-append kind s all moved e [] ys = let z : e + 0 ≡ e = omega arith in rw z refl
 all_handed-append kind s all moved e (x ∷ xs) ys =
-    let z : e + k_of kind moved x.report + total kind moved xs ≡ e + (k_of kind moved x.report + total kind moved xs) = omega arith in
+    let z : e + k_of kind moved x.report + total_of_calls kind moved xs ≡ e + (k_of kind moved x.report + total_of_calls kind moved xs) = omega arith in
     rw (all_handed-append kind s all moved (e + k_of kind moved x.report) xs ys, z)
-    (sym (append_assoc (handed s all e x 0 (k_of kind moved x.report)) (all_handed kind s all moved (e + k_of kind moved x.report) xs) (all_handed kind s all moved (e + (k_of kind moved x.report + total kind moved xs)) ys)))
+    (sym (append_assoc (handed s all e x 0 (k_of kind moved x.report)) (all_handed kind s all moved (e + k_of kind moved x.report) xs) (all_handed kind s all moved (e + (k_of kind moved x.report + total_of_calls kind moved xs)) ys)))
 
-pub all_handed-old : (kind : TransmitKind) (s : ℕ) (all : List Moment) (m : Moment) (moved e r : ℕ) (ws : List Call) → IsReached s all r → e + total kind moved ws ≤ r → all_handed kind s (all ++ m ∷ []) moved e ws ≡ all_handed kind s all moved e ws
+pub all_handed-old : (kind : TransmitKind) (s : ℕ) (all : List Moment) (m : Moment) (moved e r : ℕ) (ws : List Call) → IsReached s all r → e + total_of_calls kind moved ws ≤ r → all_handed kind s (all ++ m ∷ []) moved e ws ≡ all_handed kind s all moved e ws
 unfolding all_handed
 all_handed-old kind s all m moved e r [] h le = refl
 all_handed-old kind s all m moved e r (w ∷ ws) h le =
     rw (handed-old s all m e w r 0 (k_of kind moved w.report) h (omega arith), all_handed-old kind s all m moved (e + k_of kind moved w.report) r ws h (omega arith)) refl
 
-pub length-all_handed : (kind : TransmitKind) (s : ℕ) (all : List Moment) (moved e : ℕ) (ws : List Call) → length (all_handed kind s all moved e ws) ≡ total kind moved ws
+pub length-all_handed : (kind : TransmitKind) (s : ℕ) (all : List Moment) (moved e : ℕ) (ws : List Call) → length (all_handed kind s all moved e ws) ≡ total_of_calls kind moved ws
 unfolding all_handed
 length-all_handed kind s all moved e [] = refl
 length-all_handed kind s all moved e (w ∷ ws) =

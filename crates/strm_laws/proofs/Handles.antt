@@ -8,7 +8,7 @@ use Rattle.strm_machine.specs.declared.limits.Limits.{Limits}
 use Rattle.strm_machine.specs.declared.steps.Step.{Step}
 use Rattle.strm_handles.specs.Handles.{entry_at}
 use Rattle.strm_handles.specs.Lookups.{error_context_rep_of}
-use Rattle.strm_error_contexts.specs.Contexts.{Context, context_at, handles_of}
+use Rattle.strm_error_contexts.specs.Contexts.{Context, context_at, handles_of_context}
 use Rattle.strm_machine.specs.ErrorContexts.{context_number}
 use Rattle.strm_machine.proofs.AgreeLemmas.{Agree-single, Agree-unheld}
 use Rattle.strm_machine.proofs.EmptyLemmas.{IsSound-empty, StateIsHeld-empty}
@@ -16,7 +16,7 @@ use Rattle.strm_machine.proofs.ErrorContextLemmas.{context_entry, named_is_there
 use Rattle.strm_machine.proofs.HeldLemmas.{names_in, StateIsHeld, reaction-held}
 use Rattle.strm_machine.proofs.SoundStepLemmas.{reaction-sound}
 use Rattle.strm_machine.proofs.TableLemmas.{owner_in}
-use Rattle.strm_laws.specs.Conservation.{last}
+use Rattle.strm_laws.specs.Conservation.{state_after_steps}
 use Rattle.strm_laws.specs.Laws.{HandlesHold, HandlesAreSingle, MembersAreLive, ContextsCount}
 
 -- ## A state
@@ -40,7 +40,7 @@ members_are_live state h = record {
 }
 
 -- what is not there counts none
-none_there : (o : Option Context) → is_some o ≡ false → handles_of o ≡ 0
+none_there : (o : Option Context) → is_some o ≡ false → handles_of_context o ≡ 0
 none_there None e = refl
 none_there (Some c) e = cc
 
@@ -65,10 +65,10 @@ contexts_count state sound =
 
 -- ## A run
 
-held_from : (state : State) (run : List Step) → IsSound state → StateIsHeld state → StateIsHeld (last state run)
+held_from : (state : State) (run : List Step) → IsSound state → StateIsHeld state → StateIsHeld (state_after_steps state run)
 held_from state [] sound h = h
 held_from state (step ∷ more) sound h =
     held_from (react state step).state more (reaction-sound state (act_of step) sound) (reaction-held state (act_of step) sound h)
 
-pub held : (tag : ℕ) (limits : Limits) (run : List Step) → StateIsHeld (last (empty tag limits) run)
+pub held : (tag : ℕ) (limits : Limits) (run : List Step) → StateIsHeld (state_after_steps (empty tag limits) run)
 held tag limits run = held_from (empty tag limits) run (IsSound-empty tag limits) (StateIsHeld-empty tag limits)

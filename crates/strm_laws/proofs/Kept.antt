@@ -5,14 +5,14 @@ use Rattle.std.proofs.lemmas.List.{append-nil}
 use Rattle.std.proofs.lemmas.Bool.{lt-ltb, le-ltb, cases_lt}
 use Rattle.std.proofs.lemmas.List.Elements.{All-nil, All-cons, All-head, All-tail, All-push}
 use Rattle.std.specs.Prelude.{All, nat_lt, ◌||◌}
-use Rattle.strm_machine.specs.Words.{scalars_of, item_size, ReturnCode, TransmitKind, Payload, State, stream_at, Moment, Call, k_of, items_in, received, report_in, accepted_in}
+use Rattle.strm_machine.specs.Words.{scalars_of, item_size, ReturnCode, TransmitKind, Payload, State, stream_at, Moment, Call, k_of, items_in_memory, received, report_in, accepted_in}
 use Rattle.strm_machine.specs.declared.streams.Side.{Side}
 use Rattle.strm_machine.specs.declared.streams.Side.TheVariants.{Writing}
 use Rattle.strm_machine.specs.declared.streams.Operation.{Operation}
 use Rattle.strm_laws.specs.Conservation.{calls, all_reported, handed, all_handed}
-use Rattle.strm_laws.specs.Laws.{total, waiting, moved_at, IsAsked, AreReported, Carries, Stands}
+use Rattle.strm_laws.specs.Laws.{total_of_calls, waiting, moved_at, IsWithinAsked, AreReported, CarriesLastCall, Stands}
 use Rattle.strm_laws.proofs.Calls.{settled-append, settled-reported, settled-none, calls-push, all_reported-push}
-use Rattle.strm_laws.proofs.Handed.{IsReached, reaches-push, k_of-reported, total-append, handed-old, handed-new, handed-add, all_handed-append, all_handed-old, all_handed-one}
+use Rattle.strm_laws.proofs.Handed.{IsReached, reaches-push, k_of-reported, total_of_calls-append, handed-old, handed-new, handed-add, all_handed-append, all_handed-old, all_handed-one}
 
 abbrev pub kind_at : ℕ → State → TransmitKind
 kind_at s state = (stream_at state s).kind
@@ -30,8 +30,8 @@ pub record Kept (kind : TransmitKind) (s : ℕ) (side : Side) (all : List Moment
   pub stands : Stands (payload_at s state) (waiting s side state) (calls s side all)
   pub items : side ≡ Writing → had ≡ all_handed kind s all (moved_at s side state) 0 (calls s side all)
   pub alone : side ≡ Writing → taken ≡ 0
-  pub count : received s state ≡ total kind (moved_at s side state) (calls s side all) + taken
-  pub within : All (IsAsked kind (moved_at s side state)) (calls s side all)
+  pub count : received s state ≡ total_of_calls kind (moved_at s side state) (calls s side all) + taken
+  pub within : All (IsWithinAsked kind (moved_at s side state)) (calls s side all)
   pub told : all_reported kind s side all + moved_at s side state + taken ≡ received s state
   pub reached : IsReached s all (received s state)
 
@@ -42,22 +42,22 @@ pub reached_more : (s : ℕ) (all : List Moment) (m : Moment) (r t : ℕ) → Is
 reached_more s all m r t h e le n = rw (reaches-push s all m n, h n, e) (or-ltb n r t le)
 
 -- where all have their reports, what the operation moved doesn't count
-pub within_reported : (kind : TransmitKind) (a b : ℕ) (cs : List Call) → AreReported cs → All (IsAsked kind a) cs → All (IsAsked kind b) cs
-within_reported kind a b [] h w = All-nil (IsAsked kind b)
+pub within_reported : (kind : TransmitKind) (a b : ℕ) (cs : List Call) → AreReported cs → All (IsWithinAsked kind a) cs → All (IsWithinAsked kind b) cs
+within_reported kind a b [] h w = All-nil (IsWithinAsked kind b)
 within_reported kind a b (c ∷ cs) h w =
     let here : k_of kind a c.report ≡ k_of kind b c.report = k_of-reported kind a b c.report h.0 in
-    let within : k_of kind a c.report ≤ c.asked = All-head (IsAsked kind a) c cs w in
-    All-cons (IsAsked kind b) c cs (omega (arith, here, within)) (within_reported kind a b cs h.1 (All-tail (IsAsked kind a) c cs w))
+    let within : k_of kind a c.report ≤ c.asked = All-head (IsWithinAsked kind a) c cs w in
+    All-cons (IsWithinAsked kind b) c cs (omega (arith, here, within)) (within_reported kind a b cs h.1 (All-tail (IsWithinAsked kind a) c cs w))
 
-pub within_front : (kind : TransmitKind) (a : ℕ) (cs ds : List Call) → All (IsAsked kind a) (cs ++ ds) → All (IsAsked kind a) cs
-within_front kind a [] ds w = All-nil (IsAsked kind a)
-within_front kind a (c ∷ cs) ds w = All-cons (IsAsked kind a) c cs (All-head (IsAsked kind a) c (cs ++ ds) w) (within_front kind a cs ds (All-tail (IsAsked kind a) c (cs ++ ds) w))
+pub within_front : (kind : TransmitKind) (a : ℕ) (cs ds : List Call) → All (IsWithinAsked kind a) (cs ++ ds) → All (IsWithinAsked kind a) cs
+within_front kind a [] ds w = All-nil (IsWithinAsked kind a)
+within_front kind a (c ∷ cs) ds w = All-cons (IsWithinAsked kind a) c cs (All-head (IsWithinAsked kind a) c (cs ++ ds) w) (within_front kind a cs ds (All-tail (IsWithinAsked kind a) c (cs ++ ds) w))
 
 pub none_reported : (payload : Payload) (o : Option Operation) (ws : List Call) → o ≡ None → Stands payload o ws → AreReported ws
 none_reported payload None ws e h = h
 none_reported payload (Some o) ws e h = cc
 
-pub some_carries : (payload : Payload) (o : Option Operation) (p : Operation) (ws : List Call) → o ≡ Some p → Stands payload o ws → Carries payload p ws
+pub some_carries : (payload : Payload) (o : Option Operation) (p : Operation) (ws : List Call) → o ≡ Some p → Stands payload o ws → CarriesLastCall payload p ws
 some_carries payload None p ws e h = cc
 some_carries payload (Some o) p ws e h = let q : o ≡ p = cc in rw q at h
 
@@ -65,7 +65,7 @@ pub from_none : (payload : Payload) (o : Option Operation) (ws : List Call) → 
 from_none payload None ws e h = h
 from_none payload (Some o) ws e h = cc
 
-pub from_some : (payload : Payload) (o : Option Operation) (p : Operation) (ws : List Call) → o ≡ Some p → Carries payload p ws → Stands payload o ws
+pub from_some : (payload : Payload) (o : Option Operation) (p : Operation) (ws : List Call) → o ≡ Some p → CarriesLastCall payload p ws → Stands payload o ws
 from_some payload None p ws e h = cc
 from_some payload (Some o) p ws e h = let q : p ≡ o = cc in rw q at h
 
@@ -94,11 +94,11 @@ module _ (s : ℕ) (side : Side) (all : List Moment) (m : Moment) where
 
 -- what these calls handed over, and one more of its first x items
 abbrev pub handed_before : TransmitKind → ℕ → List Moment → ℕ → List Call → Call → ℕ → List (Option (List ℤ))
-handed_before kind s all moved earlier w x = all_handed kind s all moved 0 earlier ++ handed s all (total kind moved earlier) w 0 x
+handed_before kind s all moved earlier w x = all_handed kind s all moved 0 earlier ++ handed s all (total_of_calls kind moved earlier) w 0 x
 
 -- the next n items of a call, as they lie before a moment
 abbrev pub items_next : ℕ → Moment → Call → ℕ → ℕ → List (Option (List ℤ))
-items_next s m w x n = items_in (payload_at s m.before) m.before.guests w.guest (w.address + item_size (scalars_of (payload_at s m.before)) * x) n
+items_next s m w x n = items_in_memory (payload_at s m.before) m.before.guests w.guest (w.address + item_size (scalars_of (payload_at s m.before)) * x) n
 
 -- in a moment the last call moves n items after x others
 pub record Moves (kind : TransmitKind) (s : ℕ) (side : Side) (all : List Moment) (m : Moment) (had : Received) (taken : ℕ) (now_got : Received) (earlier : List Call) (w : Call) (moved r x n : ℕ) : Type 0 where
@@ -107,10 +107,10 @@ pub record Moves (kind : TransmitKind) (s : ℕ) (side : Side) (all : List Momen
   pub now : moved_at s side m.after ≡ moved
   pub reached : IsReached s all r
   pub alone : side ≡ Writing → taken ≡ 0
-  pub counted : r ≡ total kind moved earlier + x + taken
+  pub counted : r ≡ total_of_calls kind moved earlier + x + taken
   pub more : received s m.after ≡ r + n
   pub counts : k_of kind moved w.report ≡ x + n
-  pub within : All (IsAsked kind moved) earlier
+  pub within : All (IsWithinAsked kind moved) earlier
   pub fits : x + n ≤ w.asked
   pub told : all_reported kind s side all + x + taken ≡ r
   pub reports : k_of kind 0 (report_in s side m) + moved ≡ x + n
@@ -121,16 +121,16 @@ module _ (kind : TransmitKind) (s : ℕ) (side : Side) (all : List Moment) (m : 
   -- what the writes handed over, where in this moment the last of them hands over n after x others
   all_handed-more : taken ≡ 0 → all_handed kind s (all ++ m ∷ []) moved 0 (earlier ++ w ∷ []) ≡ handed_before kind s all moved earlier w x ++ items_next s m w x n
   all_handed-more none =
-      let t = total kind moved earlier in
+      let t = total_of_calls kind moved earlier in
       let payload = payload_at s m.before in
       let a : all_handed kind s (all ++ m ∷ []) moved 0 earlier ≡ all_handed kind s all moved 0 earlier = all_handed-old kind s all m moved 0 r earlier h.reached (omega (arith, h.counted)) in
       let b : handed s (all ++ m ∷ []) t w 0 x ≡ handed s all t w 0 x = handed-old s all m t w r 0 x h.reached (omega (arith, h.counted)) in
-      let c : handed s (all ++ m ∷ []) t w (0 + x) n ≡ items_in payload m.before.guests w.guest (w.address + item_size (scalars_of payload) * (0 + x)) n = handed-new s all m t w r payload h.reached refl (0 + x) n (omega (arith, h.counted, none)) (omega (arith, h.counted, h.more, none)) in
+      let c : handed s (all ++ m ∷ []) t w (0 + x) n ≡ items_in_memory payload m.before.guests w.guest (w.address + item_size (scalars_of payload) * (0 + x)) n = handed-new s all m t w r payload h.reached refl (0 + x) n (omega (arith, h.counted, none)) (omega (arith, h.counted, h.more, none)) in
       let k = h.counts in
       let z : 0 + x ≡ x = omega arith in
       let y : 0 + t ≡ t = omega arith in
       rw (all_handed-append kind s (all ++ m ∷ []) moved 0 earlier (w ∷ []), y, all_handed-one kind s (all ++ m ∷ []) moved t w, k, handed-add s (all ++ m ∷ []) t w 0 x n (x + n) refl, a, b, c, z)
-      (sym (append_assoc (all_handed kind s all moved 0 earlier) (handed s all t w 0 x) (items_in payload m.before.guests w.guest (w.address + item_size (scalars_of payload) * x) n)))
+      (sym (append_assoc (all_handed kind s all moved 0 earlier) (handed s all t w 0 x) (items_in_memory payload m.before.guests w.guest (w.address + item_size (scalars_of payload) * x) n)))
 
   -- the account is kept
   pub kept_from : Kept kind s side (all ++ m ∷ []) (had ++ now_got) taken m.after
@@ -142,8 +142,8 @@ module _ (kind : TransmitKind) (s : ℕ) (side : Side) (all : List Moment) (m : 
         stands = rw calls_are h.stands;
         items = λ e. rw (h.here e, h.before e, calls_are, now) (sym (all_handed-more (h.alone e)));
         alone = h.alone;
-        count = rw (calls_are, now, total-append kind moved earlier (w ∷ []), more, h.counts) (omega (arith, h.counted));
-        within = rw (calls_are, now) (All-push (IsAsked kind moved) earlier w h.within (omega (arith, h.counts, h.fits)));
+        count = rw (calls_are, now, total_of_calls-append kind moved earlier (w ∷ []), more, h.counts) (omega (arith, h.counted));
+        within = rw (calls_are, now) (All-push (IsWithinAsked kind moved) earlier w h.within (omega (arith, h.counts, h.fits)));
         told = rw (all_reported-push kind s side all m, now, more) (omega (arith, h.told, h.reports));
         reached = reached_more s all m r (received s m.after) h.reached refl (omega (arith, more));
       }

@@ -2,15 +2,15 @@
 use Rattle.std.proofs.Common.{◌≡◌, ◌≢◌, ℕ, ◌+◌, ◌*◌, true, List, [], ◌∷◌, ◌++◌, Option, None, Some, refl, sym, subst, ap, ◌∙◌, arith}
 use Rattle.std.proofs.lemmas.List.{append-nil}
 use Rattle.std.specs.Prelude.{All, is_some}
-use Rattle.strm_machine.specs.Words.{Guest, scalars_of, item_size, ReturnCode, TransmitKind, Payload, State, Moment, Call, report_in, accepted_in, count_reported, k_of, items_in, received}
+use Rattle.strm_machine.specs.Words.{Guest, scalars_of, item_size, ReturnCode, TransmitKind, Payload, State, Moment, Call, report_in, accepted_in, count_reported, k_of, items_in_memory, received}
 use Rattle.strm_machine.specs.declared.streams.Side.{Side}
 use Rattle.strm_machine.specs.declared.streams.Side.TheVariants.{Writing}
 use Rattle.strm_machine.specs.declared.streams.Operation.{Operation}
 use Rattle.strm_machine.specs.Moments.{moved_of}
 use Rattle.strm_laws.specs.Conservation.{calls, all_reported, handed, all_handed}
-use Rattle.strm_laws.specs.Laws.{total, waiting, moved_at, IsAsked, AreReported, Carries}
+use Rattle.strm_laws.specs.Laws.{total_of_calls, waiting, moved_at, IsWithinAsked, AreReported, CarriesLastCall}
 use Rattle.strm_laws.proofs.Calls.{all_reported-push}
-use Rattle.strm_laws.proofs.Handed.{decoded-none, total-append, total-reported, handed-none, handed-place, all_handed-reported, all_handed-append, all_handed-old, all_handed-one}
+use Rattle.strm_laws.proofs.Handed.{decoded-none, total_of_calls-append, total_of_calls-reported, handed-none, handed-place, all_handed-reported, all_handed-append, all_handed-old, all_handed-one}
 use Rattle.strm_machine.proofs.Changes.{Scene, scene, Rests, GoesOn, Settles, Opens, Serves, Change, ByRest, ByGoing, BySettling, ByOpening, ByServing}
 use Rattle.strm_laws.proofs.Kept.{kind_at, payload_at, Received, Kept, reached_more, within_reported, within_front, none_reported, some_carries, from_none, from_some, calls-same, calls-unreported, calls-taken, calls-settled, kept_from}
 
@@ -20,8 +20,8 @@ moved_none o e = ap moved_of e
 moved_some : (o : Option Operation) (p : Operation) → o ≡ Some p → moved_of o ≡ p.moved
 moved_some o p e = ap moved_of e
 
-items_in-none : (payload : Payload) (guests : List Guest) (g address : ℕ) → items_in payload guests g address 0 ≡ []
-items_in-none payload guests g address = decoded-none (scalars_of payload) _
+items_in_memory-none : (payload : Payload) (guests : List Guest) (g address : ℕ) → items_in_memory payload guests g address 0 ≡ []
+items_in_memory-none payload guests g address = decoded-none (scalars_of payload) _
 
 AreReported-push : (ws : List Call) (v : Call) → AreReported ws → is_some v.report ≡ true → AreReported (ws ++ v ∷ [])
 AreReported-push [] v h e = (e, tt)
@@ -45,8 +45,8 @@ place_first a size = omega arith
 record IsIdle (kind : TransmitKind) (s : ℕ) (side : Side) (all : List Moment) (had : Received) (taken : ℕ) (state : State) : Type 0 where
   reported : AreReported (calls s side all)
   items : side ≡ Writing → had ≡ all_handed kind s all 0 0 (calls s side all)
-  count : received s state ≡ total kind 0 (calls s side all) + taken
-  within : All (IsAsked kind 0) (calls s side all)
+  count : received s state ≡ total_of_calls kind 0 (calls s side all) + taken
+  within : All (IsWithinAsked kind 0) (calls s side all)
   told : all_reported kind s side all + 0 + taken ≡ received s state
 
 is_idle : (kind : TransmitKind) (s : ℕ) (side : Side) (all : List Moment) (had : Received) (taken : ℕ) (state : State) → Kept kind s side all had taken state → waiting s side state ≡ None → IsIdle kind s side all had taken state
@@ -55,30 +55,30 @@ is_idle kind s side all had taken state k e =
     record {
       reported = none_reported (payload_at s state) (waiting s side state) (calls s side all) e k.stands;
       items = λ w. k.items w ∙ ap (λ n. all_handed kind s all n 0 (calls s side all)) none;
-      count = k.count ∙ ap (λ n. total kind n (calls s side all) + taken) none;
-      within = subst (λ n. All (IsAsked kind n) (calls s side all)) none k.within;
+      count = k.count ∙ ap (λ n. total_of_calls kind n (calls s side all) + taken) none;
+      within = subst (λ n. All (IsWithinAsked kind n) (calls s side all)) none k.within;
       told = ap (λ n. all_reported kind s side all + n + taken) (sym none) ∙ k.told;
     }
 
 -- and where the last call waits, whatever is counted of it from now on
 record IsBusy (kind : TransmitKind) (s : ℕ) (side : Side) (all : List Moment) (had : Received) (taken : ℕ) (state : State) (o : Operation) (earlier : List Call) (w : Call) (moved : ℕ) : Type 0 where
-  items : side ≡ Writing → had ≡ all_handed kind s all moved 0 earlier ++ handed s all (total kind moved earlier) w 0 o.moved
-  count : received s state ≡ total kind moved earlier + o.moved + taken
-  within : All (IsAsked kind moved) earlier
+  items : side ≡ Writing → had ≡ all_handed kind s all moved 0 earlier ++ handed s all (total_of_calls kind moved earlier) w 0 o.moved
+  count : received s state ≡ total_of_calls kind moved earlier + o.moved + taken
+  within : All (IsWithinAsked kind moved) earlier
   told : all_reported kind s side all + o.moved + taken ≡ received s state
 
 module _ (kind : TransmitKind) (s : ℕ) (side : Side) (all : List Moment) (had : Received) (taken : ℕ) (state : State) (o : Operation) (earlier : List Call) (w : Call) (moved : ℕ) where
   is_busy : Kept kind s side all had taken state → waiting s side state ≡ Some o → calls s side all ≡ earlier ++ w ∷ [] → AreReported earlier → w.report ≡ None → IsBusy kind s side all had taken state o earlier w moved
   is_busy k e split h u =
       let some : moved_at s side state ≡ o.moved = moved_some (waiting s side state) o e in
-      let a : received s state ≡ total kind o.moved (earlier ++ w ∷ []) + taken = k.count ∙ (rw (some, split) refl) in
+      let a : received s state ≡ total_of_calls kind o.moved (earlier ++ w ∷ []) + taken = k.count ∙ (rw (some, split) refl) in
       let b : k_of kind o.moved w.report ≡ o.moved = rw u refl in
-      let z : 0 + total kind moved earlier ≡ total kind moved earlier = omega arith in
+      let z : 0 + total_of_calls kind moved earlier ≡ total_of_calls kind moved earlier = omega arith in
       let now : all_handed kind s all (moved_at s side state) 0 (calls s side all) ≡ all_handed kind s all o.moved 0 (earlier ++ w ∷ []) = rw (some, split) refl in
-      let within : All (IsAsked kind o.moved) (earlier ++ w ∷ []) = rw (some, split) at k.within in
+      let within : All (IsWithinAsked kind o.moved) (earlier ++ w ∷ []) = rw (some, split) at k.within in
       record {
-        items = λ i. k.items i ∙ now ∙ (rw (all_handed-append kind s all o.moved 0 earlier (w ∷ []), total-reported kind o.moved moved earlier h, all_handed-reported kind s all o.moved moved 0 earlier h, z, all_handed-one kind s all o.moved (total kind moved earlier) w, b) refl);
-        count = a ∙ (rw (total-append kind o.moved earlier (w ∷ []), total-reported kind o.moved moved earlier h, b) (omega arith));
+        items = λ i. k.items i ∙ now ∙ (rw (all_handed-append kind s all o.moved 0 earlier (w ∷ []), total_of_calls-reported kind o.moved moved earlier h, all_handed-reported kind s all o.moved moved 0 earlier h, z, all_handed-one kind s all o.moved (total_of_calls kind moved earlier) w, b) refl);
+        count = a ∙ (rw (total_of_calls-append kind o.moved earlier (w ∷ []), total_of_calls-reported kind o.moved moved earlier h, b) (omega arith));
         within = within_reported kind o.moved moved earlier h (within_front kind o.moved earlier (w ∷ []) within);
         told = ap (λ n. all_reported kind s side all + n + taken) (sym some) ∙ k.told;
       }
@@ -94,7 +94,7 @@ module _ (s : ℕ) (side : Side) (all : List Moment) (m : Moment) (had : Receive
   abbrev size : ℕ
   size = item_size (scalars_of (payload_at s m.before))
 
-  carries : (o : Operation) → waiting s side m.before ≡ Some o → Carries (payload_at s m.before) o (calls s side all)
+  carries : (o : Operation) → waiting s side m.before ≡ Some o → CarriesLastCall (payload_at s m.before) o (calls s side all)
   carries o e = some_carries (payload_at s m.before) (waiting s side m.before) o (calls s side all) e k.stands
 
   -- the account is kept after the moment, so many items having been taken
@@ -123,7 +123,7 @@ module _ (s : ℕ) (side : Side) (all : List Moment) (m : Moment) (had : Receive
       let i = is_busy kind s side all had taken m.before o b.earlier w p.moved k c.was b.split b.reported b.unreported in
       let same : calls s side (all ++ m ∷ []) ≡ b.earlier ++ w ∷ [] = calls-unreported s side all m c.unreported c.takes ∙ b.split in
       let place = place_more p.address o.address w.address n o.moved p.moved (payload_at s m.before) (payload_at s m.after) c.address b.address c.moved c.payload in
-      let carried : Carries (payload_at s m.after) p (b.earlier ++ w ∷ []) = record { earlier = b.earlier; last = w; split = refl; reported = b.reported; unreported = b.unreported; guest = c.guest ∙ b.guest; address = place; asked = omega (arith, c.moved, c.left, b.asked) } in
+      let carried : CarriesLastCall (payload_at s m.after) p (b.earlier ++ w ∷ []) = record { earlier = b.earlier; last = w; split = refl; reported = b.reported; unreported = b.unreported; guest = c.guest ∙ b.guest; address = place; asked = omega (arith, c.moved, c.left, b.asked) } in
       let quiet : k_of kind 0 (report_in s side m) ≡ 0 = ap (k_of kind 0) c.unreported in
       kept_from kind s side all m had taken items b.earlier w p.moved (received s m.before) o.moved n
       (record {
@@ -140,7 +140,7 @@ module _ (s : ℕ) (side : Side) (all : List Moment) (m : Moment) (had : Receive
         told = i.told;
         reports = omega (arith, quiet, c.moved);
         before = i.items;
-        here = λ e. c.brings e ∙ ap (λ g. items_in (payload_at s m.before) m.before.guests g o.address n) b.guest ∙ ap (λ a. items_in (payload_at s m.before) m.before.guests w.guest a n) b.address;
+        here = λ e. c.brings e ∙ ap (λ g. items_in_memory (payload_at s m.before) m.before.guests g o.address n) b.guest ∙ ap (λ a. items_in_memory (payload_at s m.before) m.before.guests w.guest a n) b.address;
       })
 
   settles : (o : Operation) (code : ReturnCode) → Settles side (scene_with s side m items) o code → KeptThen taken
@@ -152,7 +152,7 @@ module _ (s : ℕ) (side : Side) (all : List Moment) (m : Moment) (had : Receive
       let same : received s m.after ≡ received s m.before + 0 = omega (arith, c.same) in
       let counts : count_reported kind code ≡ o.moved + 0 = omega (arith, c.counts) in
       let told : k_of kind 0 (report_in s side m) ≡ count_reported kind code = ap (k_of kind 0) c.report in
-      let nothing : items_in (payload_at s m.before) m.before.guests w.guest (w.address + size * o.moved) 0 ≡ [] = items_in-none (payload_at s m.before) m.before.guests w.guest _ in
+      let nothing : items_in_memory (payload_at s m.before) m.before.guests w.guest (w.address + size * o.moved) 0 ≡ [] = items_in_memory-none (payload_at s m.before) m.before.guests w.guest _ in
       kept_from kind s side all m had taken items b.earlier v 0 (received s m.before) o.moved 0
       (record {
         stands = from_none (payload_at s m.after) (waiting s side m.after) (b.earlier ++ v ∷ []) c.is (AreReported-push b.earlier v b.reported refl);
@@ -167,23 +167,23 @@ module _ (s : ℕ) (side : Side) (all : List Moment) (m : Moment) (had : Receive
         fits = omega (arith, b.asked);
         told = i.told;
         reports = omega (arith, told, counts);
-        before = λ e. i.items e ∙ ap (λ l. all_handed kind s all 0 0 b.earlier ++ l) (handed-place s all (total kind 0 b.earlier) w v 0 o.moved refl refl);
+        before = λ e. i.items e ∙ ap (λ l. all_handed kind s all 0 0 b.earlier ++ l) (handed-place s all (total_of_calls kind 0 b.earlier) w v 0 o.moved refl refl);
         here = λ e. c.nothing ∙ sym nothing;
       })
 
   -- what an idle end has, and of one call more nothing
-  opened : (v : Call) (moved : ℕ) → IsIdle kind s side all had taken m.before → side ≡ Writing → had ≡ all_handed kind s all moved 0 (calls s side all) ++ handed s all (total kind moved (calls s side all)) v 0 0
+  opened : (v : Call) (moved : ℕ) → IsIdle kind s side all had taken m.before → side ≡ Writing → had ≡ all_handed kind s all moved 0 (calls s side all) ++ handed s all (total_of_calls kind moved (calls s side all)) v 0 0
   opened v moved i e =
       i.items e ∙ all_handed-reported kind s all 0 moved 0 (calls s side all) i.reported
-      ∙ sym (ap (λ l. all_handed kind s all moved 0 (calls s side all) ++ l) (handed-none s all (total kind moved (calls s side all)) v 0) ∙ append-nil _)
+      ∙ sym (ap (λ l. all_handed kind s all moved 0 (calls s side all) ++ l) (handed-none s all (total_of_calls kind moved (calls s side all)) v 0) ∙ append-nil _)
 
   opens : (g address asked : ℕ) (p : Operation) (n : ℕ) → Opens side (scene_with s side m items) g address asked p n → KeptThen taken
   opens g address asked p n c =
       let i = is_idle kind s side all had taken m.before k c.was in
       let v : Call = record { guest = g; address = address; asked = asked; report = None } in
       let place = place_opened p.address address n p.moved (payload_at s m.before) (payload_at s m.after) c.place c.moved c.payload in
-      let carried : Carries (payload_at s m.after) p (calls s side all ++ v ∷ []) = record { earlier = calls s side all; last = v; split = refl; reported = i.reported; unreported = refl; guest = c.guest; address = place; asked = omega (arith, c.moved, c.left) } in
-      let count : received s m.before ≡ total kind p.moved (calls s side all) + 0 + taken = omega (arith, i.count, total-reported kind 0 p.moved (calls s side all) i.reported) in
+      let carried : CarriesLastCall (payload_at s m.after) p (calls s side all ++ v ∷ []) = record { earlier = calls s side all; last = v; split = refl; reported = i.reported; unreported = refl; guest = c.guest; address = place; asked = omega (arith, c.moved, c.left) } in
+      let count : received s m.before ≡ total_of_calls kind p.moved (calls s side all) + 0 + taken = omega (arith, i.count, total_of_calls-reported kind 0 p.moved (calls s side all) i.reported) in
       let quiet : k_of kind 0 (report_in s side m) ≡ 0 = ap (k_of kind 0) c.unreported in
       kept_from kind s side all m had taken items (calls s side all) v p.moved (received s m.before) 0 n
       (record {
@@ -200,14 +200,14 @@ module _ (s : ℕ) (side : Side) (all : List Moment) (m : Moment) (had : Receive
         told = i.told;
         reports = omega (arith, quiet, c.moved);
         before = opened v p.moved i;
-        here = λ e. c.brings e ∙ ap (λ a. items_in (payload_at s m.before) m.before.guests g a n) (place_first address size);
+        here = λ e. c.brings e ∙ ap (λ a. items_in_memory (payload_at s m.before) m.before.guests g a n) (place_first address size);
       })
 
   serves : (g address asked : ℕ) (code : ReturnCode) → Serves side (scene_with s side m items) g address asked code → KeptThen taken
   serves g address asked code c =
       let i = is_idle kind s side all had taken m.before k c.was in
       let v : Call = record { guest = g; address = address; asked = asked; report = Some code } in
-      let count : received s m.before ≡ total kind 0 (calls s side all) + 0 + taken = omega (arith, i.count) in
+      let count : received s m.before ≡ total_of_calls kind 0 (calls s side all) + 0 + taken = omega (arith, i.count) in
       let k_is : count_reported kind code ≡ 0 + count_reported kind code = omega arith in
       let told : k_of kind 0 (report_in s side m) ≡ count_reported kind code = ap (k_of kind 0) c.report in
       kept_from kind s side all m had taken items (calls s side all) v 0 (received s m.before) 0 (count_reported kind code)
@@ -225,7 +225,7 @@ module _ (s : ℕ) (side : Side) (all : List Moment) (m : Moment) (had : Receive
         told = i.told;
         reports = omega (arith, told);
         before = opened v 0 i;
-        here = λ e. c.brings e ∙ ap (λ a. items_in (payload_at s m.before) m.before.guests g a (count_reported kind code)) (place_first address size);
+        here = λ e. c.brings e ∙ ap (λ a. items_in_memory (payload_at s m.before) m.before.guests g a (count_reported kind code)) (place_first address size);
       })
 
   -- whichever change it is

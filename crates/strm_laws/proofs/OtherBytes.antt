@@ -7,15 +7,15 @@ use Rattle.strm_machine.specs.Moments.{moment_of}
 use Rattle.strm_machine.specs.Untouched.{LieThere, StaysAside}
 use Rattle.strm_machine.proofs.UntouchedLemmas.{reaction-stays}
 use Rattle.strm_machine.proofs.PutLemmas.{reaction-there}
-use Rattle.strm_laws.specs.Conservation.{last}
+use Rattle.strm_laws.specs.Conservation.{state_after_steps}
 use Rattle.strm_laws.specs.Laws.{AreSteps}
 use Rattle.strm_laws.proofs.LawfulRuns.{IsReady-empty, ready_after, sound}
 
-pub other_bytes_stay : (tag : ℕ) (limits : Limits) (run : List Step) (step : Step) → AreSteps (run ++ step ∷ []) → StaysAside (moment_of (last (empty tag limits) run) step)
+pub other_bytes_stay : (tag : ℕ) (limits : Limits) (run : List Step) (step : Step) → AreSteps (run ++ step ∷ []) → StaysAside (moment_of (state_after_steps (empty tag limits) run) step)
 other_bytes_stay tag limits run step a =
-    let end = last (empty tag limits) run in
+    let end = state_after_steps (empty tag limits) run in
     let ready = ready_after (empty tag limits) run (step ∷ []) (IsReady-empty tag limits (run ++ step ∷ []) a) in
     reaction-stays end (act_of step) ready.lawful.sound (λ s. omega (arith, ready.room s))
 
-pub bytes_are_put : (tag : ℕ) (limits : Limits) (run : List Step) (step : Step) → LieThere (moment_of (last (empty tag limits) run) step)
-bytes_are_put tag limits run step = reaction-there (last (empty tag limits) run) (act_of step) (sound tag limits run)
+pub bytes_are_put : (tag : ℕ) (limits : Limits) (run : List Step) (step : Step) → LieThere (moment_of (state_after_steps (empty tag limits) run) step)
+bytes_are_put tag limits run step = reaction-there (state_after_steps (empty tag limits) run) (act_of step) (sound tag limits run)

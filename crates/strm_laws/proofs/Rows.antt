@@ -23,10 +23,10 @@ use Rattle.strm_machine.specs.Reactions.{performs, reaction}
 use Rattle.strm_machine.specs.declared.steps.Step.TheVariants as steps
 use Rattle.strm_machine.specs.declared.replies.Reply.TheVariants as replies
 use Rattle.strm_machine.specs.Moments.{decoded}
-use Rattle.strm_laws.specs.Conservation.{moments, last, got, handed, all_handed, writes, reads}
+use Rattle.strm_laws.specs.Conservation.{moments, state_after_steps, got, handed, all_handed, writes, reads}
 use Rattle.strm_laws.specs.Laws.{moved_at}
 use Rattle.strm_waitable_sets.specs.Sets.{no_sets}
-use Rattle.strm_laws.proofs.Answered.{Answer, Answered, moments_by, last_state, AllGive, steps_of, moments-by, last-state}
+use Rattle.strm_laws.proofs.Answered.{Answer, Answered, moments_by, last_state, AllGive, steps_of, moments-by, state_after_steps-state}
 
 abbrev pub bytes : TransmitIndex
 bytes = index.Stream (One U8)
@@ -64,7 +64,7 @@ account_of s all end = record {
 }
 
 abbrev pub account : ℕ → List Step → Account
-account s run = account_of s (moments start run) (last start run)
+account s run = account_of s (moments start run) (state_after_steps start run)
 
 -- ## Ends that do not move
 
@@ -241,8 +241,8 @@ replies-by run all = ap (map (λ m. m.reply)) (moments-by start run all)
 
 pub account-by : (s : ℕ) (run : List Answered) → AllGive start run → account s (steps_of run) ≡ account_of s (moments_by start run) (last_state start run)
 account-by s run all =
-    ap (λ ms. account_of s ms (last start (steps_of run))) (moments-by start run all)
-    ∙ ap (account_of s (moments_by start run)) (last-state start run all)
+    ap (λ ms. account_of s ms (state_after_steps start (steps_of run))) (moments-by start run all)
+    ∙ ap (account_of s (moments_by start run)) (state_after_steps-state start run all)
 
 abbrev pub unset : Answer
 unset = record { in_set = false; has_member = false; ready = None; text = true }

@@ -20,7 +20,7 @@ use Rattle.strm_machine.specs.Refusals.{refusal}
 use Rattle.strm_machine.specs.Moments.{decoded}
 use Rattle.strm_machine.specs.WaitableSets.{is_in_set, has_member, is_ready, ready_member}
 use Rattle.strm_memory.specs.Items.{decode_from, encode_from, items, stored}
-use Rattle.strm_waitable_sets.specs.Sets.{Sets, no_sets, set_of, is_number, is_member, with_new_set, joined, left}
+use Rattle.strm_waitable_sets.specs.Sets.{Sets, no_sets, set_of, is_number, is_member, with_new_set, handle_joined, handle_left}
 use Rattle.strm_waitable_sets.proofs.SetLemmas.{is_member-left_same, is_member-left_other, is_member-joined_same, is_member-joined_other}
 use Rattle.strm_machine.proofs.SetStepLemmas.{ready_member-least, ready_member-none, has_member-some, has_member-none}
 use Rattle.strm_laws.specs.Conservation.{moments, handed, all_handed}
@@ -60,10 +60,10 @@ abbrev fresh : Sets
 fresh = with_new_set no_sets
 
 abbrev with_one : Sets
-with_one = joined fresh 1 0
+with_one = handle_joined fresh 1 0
 
 abbrev with_two : Sets
-with_two = joined with_one 2 0
+with_two = handle_joined with_one 2 0
 
 -- the set has these two members, and no other
 neither : (handle : ℕ) → handle ≢ 1 → handle ≢ 2 → is_member with_two 0 handle ≡ false
@@ -110,14 +110,14 @@ module _ (state : State) (at : sets_in state.guests 0 ≡ with_two) where
   first_in_set = ap (λ sets. is_some (set_of sets 1)) at ∙ ap is_some (get-insert nat_cmp_total with_one.homes 2 0 1 ∙ get-insert nat_cmp_total fresh.homes 1 0 1)
 
 -- and both have left
-both_left : (state : State) → sets_in state.guests 0 ≡ left (left with_two 1) 2 → has_member state 0 0 ≡ false
+both_left : (state : State) → sets_in state.guests 0 ≡ handle_left (handle_left with_two 1) 2 → has_member state 0 0 ≡ false
 both_left state at = has_member-none state 0 0 (λ handle. ap (λ sets. is_member sets 0 handle) at ∙ none handle)
   where
-    none : (handle : ℕ) → is_member (left (left with_two 1) 2) 0 handle ≡ false
+    none : (handle : ℕ) → is_member (handle_left (handle_left with_two 1) 2) 0 handle ≡ false
     none handle = elim (cases_eq handle 2) [
-      | inl e ↦ ap (is_member (left (left with_two 1) 2) 0) e ∙ is_member-left_same (left with_two 1) 2 0
-      | inr not_two ↦ is_member-left_other (left with_two 1) 2 0 handle not_two ∙ elim (cases_eq handle 1) [
-        | inl e ↦ ap (is_member (left with_two 1) 0) e ∙ is_member-left_same with_two 1 0
+      | inl e ↦ ap (is_member (handle_left (handle_left with_two 1) 2) 0) e ∙ is_member-left_same (handle_left with_two 1) 2 0
+      | inr not_two ↦ is_member-left_other (handle_left with_two 1) 2 0 handle not_two ∙ elim (cases_eq handle 1) [
+        | inl e ↦ ap (is_member (handle_left with_two 1) 0) e ∙ is_member-left_same with_two 1 0
         | inr not_one ↦ is_member-left_other with_two 1 0 handle not_one ∙ neither handle not_one not_two
       ]
     ]
@@ -195,10 +195,10 @@ regrouped =
     ∷ []
 
 abbrev first_home : Sets
-first_home = joined fresh 1 0
+first_home = handle_joined fresh 1 0
 
 abbrev second_home : Sets
-second_home = joined first_home 1 1
+second_home = handle_joined first_home 1 1
 
 alone : (handle number : ℕ) → handle ≢ 1 → is_member second_home number handle ≡ false
 alone handle number ne =
@@ -210,9 +210,9 @@ moved handle = elim (cases_eq handle 1) [
   | inr ne ↦ alone handle 0 ne
 ]
 
-gone : (handle : ℕ) → is_member (left second_home 1) 1 handle ≡ false
+gone : (handle : ℕ) → is_member (handle_left second_home 1) 1 handle ≡ false
 gone handle = elim (cases_eq handle 1) [
-  | inl e ↦ ap (is_member (left second_home 1) 1) e ∙ is_member-left_same second_home 1 1
+  | inl e ↦ ap (is_member (handle_left second_home 1) 1) e ∙ is_member-left_same second_home 1 1
   | inr ne ↦ is_member-left_other second_home 1 1 handle ne ∙ alone handle 1 ne
 ]
 

@@ -4,7 +4,7 @@ use Rattle.strm_codes.specs.Counts.{count_limit}
 use Rattle.strm_codes.specs.Layout.{scalars_of, item_size}
 use Rattle.strm_codes.specs.declared.codes.TransmitKind.{TransmitKind}
 use Rattle.strm_codes.specs.declared.payloads.Payload.{Payload}
-use Rattle.strm_waitable_sets.specs.Sets.{is_there, is_member}
+use Rattle.strm_waitable_sets.specs.Sets.{is_set_there, is_member}
 use Rattle.strm_error_contexts.specs.Contexts.{count_at}
 use Rattle.strm_error_contexts.specs.Contexts as contexts
 use Rattle.strm_machine.specs.State.{State, sets_in, stream_at, is_held}
@@ -24,18 +24,18 @@ use Rattle.strm_machine.specs.Moments.{PutsBytes, Moment, Call, k_of, moved_of, 
 use Rattle.strm_laws.specs.Conservation.{calls, writes, reads, got, all_handed, all_reported}
 
 -- what a step puts into a memory is bytes
-abbrev pub HasBytes : Step → Type 0
-HasBytes step = PutsBytes (act_of step)
+abbrev pub StepHasBytes : Step → Type 0
+StepHasBytes step = PutsBytes (act_of step)
 
 -- steps that a run can be made of
 pub record AreSteps (run : List Step) : Type 0 where
   pub few : length run ≤ 4294967295
-  pub bytes : All HasBytes run
+  pub bytes : All StepHasBytes run
 
 -- k of all these calls together
-abbrev pub total : TransmitKind → ℕ → List Call → ℕ
-total kind moved [] = 0
-total kind moved (c ∷ cs) = k_of kind moved c.report + total kind moved cs
+abbrev pub total_of_calls : TransmitKind → ℕ → List Call → ℕ
+total_of_calls kind moved [] = 0
+total_of_calls kind moved (c ∷ cs) = k_of kind moved c.report + total_of_calls kind moved cs
 
 -- what waits at this end of stream s
 abbrev pub waiting : ℕ → Side → State → Option Operation
@@ -46,8 +46,8 @@ abbrev pub moved_at : ℕ → Side → State → ℕ
 moved_at s side state = moved_of (waiting s side state)
 
 -- a call reports or has moved no more than it asked for
-abbrev pub IsAsked : TransmitKind → ℕ → Call → Type 0
-IsAsked kind moved c = k_of kind moved c.report ≤ c.asked
+abbrev pub IsWithinAsked : TransmitKind → ℕ → Call → Type 0
+IsWithinAsked kind moved c = k_of kind moved c.report ≤ c.asked
 
 -- on stream s, what was received is what the writes handed over, item by item. It is as many items
 -- as the writes report, or have moved so far, and as the reads do, none of them more than it asked
@@ -57,11 +57,11 @@ pub record Conserves (s : ℕ) (all : List Moment) (end : State) : Type 0 where
   pub items :
       got s all ≡ all_handed (stream_at end s).kind s all (moved_at s Writing end) 0 (writes s all)
   pub written :
-      length (got s all) ≡ total (stream_at end s).kind (moved_at s Writing end) (writes s all)
+      length (got s all) ≡ total_of_calls (stream_at end s).kind (moved_at s Writing end) (writes s all)
   pub read :
-      length (got s all) ≡ total (stream_at end s).kind (moved_at s Reading end) (reads s all)
+      length (got s all) ≡ total_of_calls (stream_at end s).kind (moved_at s Reading end) (reads s all)
   pub asked : (side : Side) →
-      All (IsAsked (stream_at end s).kind (moved_at s side end)) (calls s side all)
+      All (IsWithinAsked (stream_at end s).kind (moved_at s side end)) (calls s side all)
   pub told : (side : Side) →
       all_reported (stream_at end s).kind s side all + moved_at s side end ≡ length (got s all)
   pub count : length (got s all) ≡ received s end
@@ -74,7 +74,7 @@ AreReported (c ∷ cs) = (is_some c.report ≡ true) × AreReported cs
 
 -- an operation is that of the last of these calls, which alone has no report: its place is behind
 -- the items that it moved, and with those that it has left they are what the call asked for
-pub record Carries (payload : Payload) (operation : Operation) (cs : List Call) : Type 0 where
+pub record CarriesLastCall (payload : Payload) (operation : Operation) (cs : List Call) : Type 0 where
   pub earlier : List Call
   pub last : Call
   pub split : cs ≡ earlier ++ last ∷ []
@@ -87,7 +87,7 @@ pub record Carries (payload : Payload) (operation : Operation) (cs : List Call) 
 -- where an end has no operation, all its calls have their report
 abbrev pub Stands : Payload → Option Operation → List Call → Type 0
 Stands payload None cs = AreReported cs
-Stands payload (Some operation) cs = Carries payload operation cs
+Stands payload (Some operation) cs = CarriesLastCall payload operation cs
 
 -- the items of an operation, those that it moved and those that it has left, are a count
 abbrev pub IsCounted : Option Operation → Type 0
@@ -127,11 +127,11 @@ pub record MembersAreLive (state : State) : Type 0 where
       is_ok (end_named state g handle) ≡ true
   pub kept : (g number handle : ℕ) →
       is_member (sets_in state.guests g) number handle ≡ true →
-      is_there (sets_in state.guests g) number ≡ true
+      is_set_there (sets_in state.guests g) number ≡ true
   pub there : (g set number : ℕ) →
-      set_named state g set ≡ Ok number → is_there (sets_in state.guests g) number ≡ true
+      set_named state g set ≡ Ok number → is_set_there (sets_in state.guests g) number ≡ true
   pub named : (g number : ℕ) →
-      is_there (sets_in state.guests g) number ≡ true → (set : ℕ) × (set_named state g set ≡ Ok number)
+      is_set_there (sets_in state.guests g) number ≡ true → (set : ℕ) × (set_named state g set ≡ Ok number)
   pub single : (g number set other : ℕ) →
       set_named state g set ≡ Ok number → set_named state g other ≡ Ok number → set ≡ other
 
@@ -141,9 +141,9 @@ pub record ContextsCount (state : State) : Type 0 where
   pub counted : (number : ℕ) →
       count_at state.contexts number ≡ all_handles_to number state.guests
   pub some : (number : ℕ) →
-      contexts.is_there state.contexts number ≡ true → 0 < all_handles_to number state.guests
+      contexts.is_context_there state.contexts number ≡ true → 0 < all_handles_to number state.guests
   pub none : (number : ℕ) →
-      contexts.is_there state.contexts number ≡ false → all_handles_to number state.guests ≡ 0
+      contexts.is_context_there state.contexts number ≡ false → all_handles_to number state.guests ≡ 0
   pub named : (g handle number : ℕ) →
-      context_named state g handle ≡ Ok number → contexts.is_there state.contexts number ≡ true
+      context_named state g handle ≡ Ok number → contexts.is_context_there state.contexts number ≡ true
   pub message : (g handle : ℕ) → IsMessage (message_named state g handle)

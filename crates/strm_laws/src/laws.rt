@@ -13,7 +13,7 @@ ghost use Rattle.strm_machine.specs.declared.replies.Reply.TheVariants as replie
 ghost use Rattle.strm_machine.specs.declared.streams.Side.{Side};
 ghost use Rattle.strm_machine.specs.declared.steps.Step.{Step};
 ghost use Rattle.strm_machine.specs.Moments.{moment_of};
-ghost use Rattle.strm_laws.specs.Conservation.{moments, last, calls, got};
+ghost use Rattle.strm_laws.specs.Conservation.{moments, state_after_steps, calls, got};
 ghost use Rattle.strm_machine.specs.Soundness.{IsSound, both_open, AreUnmoved};
 ghost use Rattle.strm_laws.specs.Laws.{AreSteps, Conserves, waiting, Stands, AreCounted, HandlesHold, HandlesAreSingle, MembersAreLive, ContextsCount};
 ghost use Rattle.strm_machine.specs.Untouched.{LieThere, StaysAside};
@@ -27,37 +27,37 @@ ghost use Rattle.strm_machine.specs.Untouched.{LieThere, StaysAside};
 /// it any.
 pub fn conservation()
     ensures conserves { (tag : ℕ) (limits : Limits) (run : List Step) (s : ℕ) → AreSteps run →
-        Conserves s (moments (empty tag limits) run) (last (empty tag limits) run) }
+        Conserves s (moments (empty tag limits) run) (state_after_steps (empty tag limits) run) }
     ensures stands { (tag : ℕ) (limits : Limits) (run : List Step) (s : ℕ) (side : Side) →
-        AreSteps run → Stands (stream_at (last (empty tag limits) run) s).payload
-        (waiting s side (last (empty tag limits) run))
+        AreSteps run → Stands (stream_at (state_after_steps (empty tag limits) run) s).payload
+        (waiting s side (state_after_steps (empty tag limits) run))
         (calls s side (moments (empty tag limits) run)) }
 {}
 
 /// On a future one item is received at most.
 pub fn futures_pass_one()
     ensures { (tag : ℕ) (limits : Limits) (run : List Step) (s : ℕ) → AreSteps run →
-        (stream_at (last (empty tag limits) run) s).kind ≡ Future →
+        (stream_at (state_after_steps (empty tag limits) run) s).kind ≡ Future →
         length (got s (moments (empty tag limits) run)) ≤ 1 }
 {}
 
 /// No stream or future has both an open write and an open read, after at most 4,294,967,295 steps.
 pub fn never_two_open()
     ensures { (tag : ℕ) (limits : Limits) (run : List Step) (s : ℕ) → AreSteps run →
-        both_open (stream_at (last (empty tag limits) run) s) ≡ false }
+        both_open (stream_at (state_after_steps (empty tag limits) run) s) ≡ false }
 {}
 
 /// A read or write that has not met has moved nothing: so a cancel of it says Cancelled of no item.
 pub fn unmet_has_moved_none()
     ensures { (tag : ℕ) (limits : Limits) (run : List Step) (s : ℕ) → AreSteps run →
-        AreUnmoved (stream_at (last (empty tag limits) run) s) }
+        AreUnmoved (stream_at (state_after_steps (empty tag limits) run) s) }
 {}
 
 /// The items of an operation, those that it moved and those that it has left, are below 2^28
 /// together.
 pub fn totals_are_counts()
     ensures { (tag : ℕ) (limits : Limits) (run : List Step) (s : ℕ) → AreSteps run →
-        AreCounted (stream_at (last (empty tag limits) run) s) }
+        AreCounted (stream_at (state_after_steps (empty tag limits) run) s) }
 {}
 
 /// Every state is sound, after whichever steps: handles name streams that were made, of their type, the
@@ -65,7 +65,7 @@ pub fn totals_are_counts()
 /// waitable sets.
 pub fn states_are_sound()
     ensures { (tag : ℕ) (limits : Limits) (run : List Step) →
-        IsSound (last (empty tag limits) run) }
+        IsSound (state_after_steps (empty tag limits) run) }
 {}
 
 /// An end that a handle names is held under that handle, and an end that is held is named by its
@@ -73,9 +73,9 @@ pub fn states_are_sound()
 /// is gone: no handle names a stream whose both ends are gone.
 pub fn handles_hold_their_ends()
     ensures holds { (tag : ℕ) (limits : Limits) (run : List Step) →
-        HandlesHold (last (empty tag limits) run) }
+        HandlesHold (state_after_steps (empty tag limits) run) }
     ensures single { (tag : ℕ) (limits : Limits) (run : List Step) →
-        HandlesAreSingle (last (empty tag limits) run) }
+        HandlesAreSingle (state_after_steps (empty tag limits) run) }
 {}
 
 /// A member of a waitable set is a live handle of a stream's or future's end, in the table of the set's
@@ -83,7 +83,7 @@ pub fn handles_hold_their_ends()
 /// is there.
 pub fn members_are_live()
     ensures { (tag : ℕ) (limits : Limits) (run : List Step) →
-        MembersAreLive (last (empty tag limits) run) }
+        MembersAreLive (state_after_steps (empty tag limits) run) }
 {}
 
 /// An error context counts the handles to it in all tables together, after whichever steps: it is there
@@ -91,21 +91,21 @@ pub fn members_are_live()
 /// 4,096 bytes.
 pub fn contexts_count_their_handles()
     ensures { (tag : ℕ) (limits : Limits) (run : List Step) →
-        ContextsCount (last (empty tag limits) run) }
+        ContextsCount (state_after_steps (empty tag limits) run) }
 {}
 
 /// Nothing but a poke, a message and the items received changes a memory: in each step of a run all
 /// other bytes of each guest stay as they were, no guest goes, and no memory changes its length.
 pub fn other_bytes_stay()
     ensures { (tag : ℕ) (limits : Limits) (run : List Step) (step : Step) →
-        AreSteps (run ++ step ∷ []) → StaysAside (moment_of (last (empty tag limits) run) step) }
+        AreSteps (run ++ step ∷ []) → StaysAside (moment_of (state_after_steps (empty tag limits) run) step) }
 {}
 
 /// The bytes that a step puts into a memory, those of a poke or of an error context's message, lie there
 /// after it, in whichever run: exactly as many as the step names, or answers.
 pub fn bytes_are_put()
     ensures { (tag : ℕ) (limits : Limits) (run : List Step) (step : Step) →
-        LieThere (moment_of (last (empty tag limits) run) step) }
+        LieThere (moment_of (state_after_steps (empty tag limits) run) step) }
 {}
 
 /// A step stops at a bad item exactly where one of the items that it asks to move at once is none, in

@@ -6,15 +6,15 @@ use Rattle.std.specs.Option.{option_map}
 use Rattle.std.proofs.lemmas.List.Elements.{All-nil, All-cons, All-head, All-tail}
 use Rattle.strm_codes.specs.declared.codes.TransmitIndex.{TransmitIndex}
 use Rattle.strm_codes.specs.declared.codes.TransmitIndex.TheVariants.{Stream, Future}
-use Rattle.strm_lines.specs.Grammar.{Argument, Number, Within, Typed, Count, Bytes, Fed, words, written, operands, named_end, IsArgument}
-use Rattle.strm_lines.specs.Reading.{number, nothing, two_numbers, three_numbers, number_and_type, two_numbers_and_type, named_end_of, end_and_guest, place_of, operands_of, number_and_fed, place_and_bytes, place_and_len}
+use Rattle.strm_lines.specs.Grammar.{Argument, Number, Within, Typed, Count, Bytes, Fed, words, argument_words, operands, named_end, IsArgument}
+use Rattle.strm_lines.specs.Reading.{decimal_number, nothing, two_numbers, three_numbers, number_and_type, two_numbers_and_type, named_end_of, end_and_guest, place_words, operands_of, number_and_fed, place_and_bytes, place_and_len}
 use Rattle.strm_lines.proofs.CutLemmas.{option_map_some}
 use Rattle.strm_lines.proofs.ReadingLemmas.{IsReading, IsReading-number, IsWord-number, IsReading-within, IsReading-hex, IsReading-fed, IsReading-followed_by, IsReading-followed_by_its}
 use Rattle.strm_lines.proofs.TypeLemmas.{IsReading-type, IsWord-type}
 
 -- arguments as they stand in a line
 abbrev pub text : List Argument → List ℕ
-text arguments = words (flat_map written arguments)
+text arguments = words (flat_map argument_words arguments)
 
 -- each can be an argument
 abbrev pub AreArguments : List Argument → Type 0
@@ -52,7 +52,7 @@ AreRead-nothing = record { reading = record { sound = only; complete = λ v h. r
     only [] v e = (refl, tt)
     only (c ∷ rest) v e = cc
 
-pub AreRead-number : AreRead number (λ n. Number n ∷ [])
+pub AreRead-number : AreRead decimal_number (λ n. Number n ∷ [])
 AreRead-number = record { reading = IsReading-number }
 
 pub AreRead-two_numbers : AreRead two_numbers (λ v. Number v.0 ∷ Number v.1 ∷ [])
@@ -82,8 +82,8 @@ AreRead-end_and_guest = record { reading = renamed (IsReading-followed_by IsRead
 abbrev place : TransmitIndex → ℕ × ℕ × ℕ → List Argument
 place ty v = Number v.0 ∷ Number v.1 ∷ Count ty v.2 ∷ []
 
-IsReading-place : (ty : TransmitIndex) → IsReading (place_of ty) (λ v. text (place ty v)) (λ v. AreArguments (place ty v))
-unfolding place_of
+IsReading-place : (ty : TransmitIndex) → IsReading (place_words ty) (λ v. text (place ty v)) (λ v. AreArguments (place ty v))
+unfolding place_words
 IsReading-place (Stream payload) = record { sound = AreRead-three_numbers.reading.sound; complete = AreRead-three_numbers.reading.complete }
 IsReading-place (Future payload) = record {
   sound = λ rest v e. option_map_some _ (two_numbers rest) v e (λ p f g. let r = AreRead-two_numbers.reading.sound rest p f in rw (← g) (r.0, (r.1.0, (r.1.1, refl))));

@@ -11,7 +11,7 @@ use Rattle.strm_machine.specs.declared.steps.Step.{Step}
 use Rattle.strm_lines.specs.declared.parsing.ParseError.{ParseError}
 use Rattle.strm_lines.specs.declared.parsing.ParseError.TheVariants as error
 use Rattle.strm_lines.specs.Grammar.{spelling, HasLine}
-use Rattle.strm_lines.specs.Lines.{on_first, lines_of, feeds, Spells, IsFirstBad}
+use Rattle.strm_lines.specs.Lines.{on_first, lines_of, feeds, Spells, IsFirstBadLine}
 use Rattle.strm_lines.specs.Reading.{cut_at, step_of}
 use Rattle.strm_lines.proofs.CutLemmas.{option_map_some}
 use Rattle.strm_lines.proofs.StepLemmas.{step_sound, step_complete}
@@ -57,7 +57,7 @@ pub fewer : (lines more : List (List ℕ)) (line : List ℕ) (steps : List Step)
 fewer lines more line steps e = omega (arith, ap length e, length-map steps spelling, length-append (map spelling steps) (line ∷ more))
 
 -- a line that spells none
-pub bad_line : (lines more : List (List ℕ)) (line : List ℕ) (steps : List Step) → lines ≡ map spelling steps ++ line ∷ more → All HasLine steps → None ≡ step_of line → IsFirstBad lines (length steps + 1)
+pub bad_line : (lines more : List (List ℕ)) (line : List ℕ) (steps : List Step) → lines ≡ map spelling steps ++ line ∷ more → All HasLine steps → None ≡ step_of line → IsFirstBadLine lines (length steps + 1)
 bad_line lines more line steps e f g =
     let n : length (map spelling steps) ≡ length steps = length-map steps spelling in
     let k : length steps + 1 - 1 ≡ length steps = omega arith in
@@ -79,7 +79,7 @@ pub kept_one : (steps new : List Step) (o : Option Step) → is_some o ≡ true 
 kept_one steps new None t n = cc
 kept_one steps new (Some s) t n = ap length n ∙ length_push steps s
 
-pub unkept_line : (lines more : List (List ℕ)) (line : List ℕ) (steps : List Step) (o : Option Step) → o ≡ step_of line → is_some o ≡ false → lines ≡ map spelling steps ++ line ∷ more → All HasLine steps → IsFirstBad lines (length steps + 1)
+pub unkept_line : (lines more : List (List ℕ)) (line : List ℕ) (steps : List Step) (o : Option Step) → o ≡ step_of line → is_some o ≡ false → lines ≡ map spelling steps ++ line ∷ more → All HasLine steps → IsFirstBadLine lines (length steps + 1)
 unkept_line lines more line steps None r t e f = bad_line lines more line steps e f r
 unkept_line lines more line steps (Some s) r t e f = cc
 
@@ -118,7 +118,7 @@ spells_at lines steps k h f =
     let w = spelled_at steps k (omega (arith, ap length f.each)) f.have in
     (w.0, w.1, ap (λ ls. slice_get ls k) f.each ∙ w.2)
 
-pub spelled_not_bad : (lines : List (List ℕ)) (steps : List Step) (line : ℕ) → Spells lines steps → ¬ IsFirstBad lines line
+pub spelled_not_bad : (lines : List (List ℕ)) (steps : List Step) (line : ℕ) → Spells lines steps → ¬ IsFirstBadLine lines line
 spelled_not_bad lines steps line f b =
     let w = spells_at lines steps (line - 1) (omega (arith, b.first, b.last)) f in b.bad w.0 w.1 w.2
 
@@ -129,13 +129,13 @@ slice_get-take (suc n) (x ∷ xs) zero h = refl
 slice_get-take (suc n) (x ∷ xs) (suc k) h = slice_get-take n xs k (omega arith)
 
 -- no line before a first bad line is bad
-none_before : (lines : List (List ℕ)) (line other : ℕ) → IsFirstBad lines line → IsFirstBad lines other → ¬ (line < other)
+none_before : (lines : List (List ℕ)) (line other : ℕ) → IsFirstBadLine lines line → IsFirstBadLine lines other → ¬ (line < other)
 none_before lines line other b o h =
     let inside : line - 1 < length (take (other - 1) lines) = omega (arith, b.first, b.last, o.first, o.last, length-take-le (other - 1) lines (omega (arith, o.last))) in
     let w = spells_at (take (other - 1) lines) o.before.0 (line - 1) inside o.before.1 in
     b.bad w.0 w.1 (sym (slice_get-take (other - 1) lines (line - 1) (omega (arith, b.first))) ∙ w.2)
 
-pub one_bad_line : (lines : List (List ℕ)) (line other : ℕ) → IsFirstBad lines line → IsFirstBad lines other → line ≡ other
+pub one_bad_line : (lines : List (List ℕ)) (line other : ℕ) → IsFirstBadLine lines line → IsFirstBadLine lines other → line ≡ other
 one_bad_line lines line other b o =
     elim (cases_lt line other) [
       | inl h ↦ absurd (none_before lines line other b o h)
@@ -215,7 +215,7 @@ lines_unended bytes n e h f =
 
 -- lines that spell steps, and are not too many, are not read by running out of memory alone
 module _ (lines : List (List ℕ)) (steps : List Step) (spelled : Spells lines steps) where
-  pub wants_memory : {T L : Type 0} (r : Result T ParseError) (e : ParseError) → r ≡ Err e → (r ≡ Err error.TooLong → L) → ((line : ℕ) → r ≡ Err (error.BadLine line) → IsFirstBad lines line) → ¬ L → e ≡ error.OutOfMemory
+  pub wants_memory : {T L : Type 0} (r : Result T ParseError) (e : ParseError) → r ≡ Err e → (r ≡ Err error.TooLong → L) → ((line : ℕ) → r ≡ Err (error.BadLine line) → IsFirstBadLine lines line) → ¬ L → e ≡ error.OutOfMemory
   wants_memory r error.TooLong is long bad within = absurd (within (long is))
   wants_memory r (error.BadLine line) is long bad within = absurd (spelled_not_bad lines steps line spelled (bad line is))
   wants_memory r error.OutOfMemory is long bad within = refl

@@ -10,7 +10,7 @@ use Rattle.std.specs.Prelude.{option_and_then}
 use Rattle.std.specs.Option.{option_map}
 use Rattle.std.proofs.lemmas.Bool.Decides.{nat_tests}
 use Rattle.std.proofs.lemmas.Bool.{ne_eqb}
-use Rattle.strm_lines.specs.Reading.{cut_at, leading, number, digits_from, read_to, is_digit}
+use Rattle.strm_lines.specs.Reading.{cut_at, leading, decimal_number, digits_from, read_to, is_digit}
 use Rattle.strm_lines.proofs.CutLemmas.{IsWithout}
 use Rattle.strm_lines.proofs.ChoiceLemmas.{chosen, skipped, both_true}
 
@@ -52,8 +52,8 @@ one_zero : (c : ℕ) (cs : List ℕ) → eqb c 48 && ltb 0 (length cs) ≡ false
 one_zero c [] e h = omega arith
 one_zero c (d ∷ cs) e h = let s : ltb 0 (length (d ∷ cs)) ≡ true = lt-ltb 0 (length (d ∷ cs)) (omega arith) in let f = rw (h, s) at e in cc
 
-pub number_sound : (word : List ℕ) (n : ℕ) → number word ≡ Some n → (decimal n ≡ word) × (n < 2 ^ 32)
-unfolding number
+pub number_sound : (word : List ℕ) (n : ℕ) → decimal_number word ≡ Some n → (decimal n ≡ word) × (n < 2 ^ 32)
+unfolding decimal_number
 number_sound [] n e = cc
 number_sound (c ∷ cs) n e =
     let a : (eqb c 48 && ltb 0 (length cs) ≡ false) × (digits_from 0 (c ∷ cs) ≡ Some n) = skipped (eqb c 48 && ltb 0 (length cs)) (digits_from 0 (c ∷ cs)) n e in
@@ -69,8 +69,8 @@ no_zero c cs h =
       | inr f ↦ rw f.0 refl
     ]
 
-read_word : (word : List ℕ) → 0 < length word → all_ascii_digits word ≡ true → (get_or word 0 0 ≡ 48 → length word ≡ 1) → read_on 0 word < 2 ^ 32 → number word ≡ Some (read_on 0 word)
-unfolding number
+read_word : (word : List ℕ) → 0 < length word → all_ascii_digits word ≡ true → (get_or word 0 0 ≡ 48 → length word ≡ 1) → read_on 0 word < 2 ^ 32 → decimal_number word ≡ Some (read_on 0 word)
+unfolding decimal_number
 read_word [] l d z h = absurd (omega arith)
 read_word (c ∷ cs) l d z h = rw (no_zero c cs z) (digits_complete 0 (c ∷ cs) d h)
 
@@ -78,7 +78,7 @@ zero_alone : (n : ℕ) → n < 2 ^ 32 → get_or (decimal n) 0 0 ≡ 48 → leng
 zero_alone zero h e = rw (decimal_digit 0 (omega arith)) refl
 zero_alone (suc n) h e = absurd (omega (arith, first_decimal (suc n) (omega arith) (omega arith)))
 
-pub number_complete : (n : ℕ) → n < 2 ^ 32 → number (decimal n) ≡ Some n
+pub number_complete : (n : ℕ) → n < 2 ^ 32 → decimal_number (decimal n) ≡ Some n
 number_complete n h =
     let v : read_on 0 (decimal n) ≡ n = digits_value-decimal own n (omega arith) in
     read_word (decimal n) (decimal_nonempty n (omega arith)) (digits_decimal own n (omega arith)) (zero_alone n h) (omega (arith, v)) ∙ ap Some v
@@ -145,56 +145,56 @@ before_number : (f : List ℕ → Option ℕ) (c : ℕ) (o : Option (List ℕ ×
 before_number f c None = refl
 before_number f c (Some p) = refl
 
-unzeroed : (c : ℕ) (cs : List ℕ) → c ≢ 48 → number (c ∷ cs) ≡ digits_from 0 (c ∷ cs)
-unfolding number
+unzeroed : (c : ℕ) (cs : List ℕ) → c ≢ 48 → decimal_number (c ∷ cs) ≡ digits_from 0 (c ∷ cs)
+unfolding decimal_number
 unzeroed c cs h = rw (no_zero c cs (λ e. absurd (h e))) refl
 
-zero_alone_read : (cs : List ℕ) → leading number (48 ∷ 32 ∷ cs) ≡ read_to 0 (48 ∷ 32 ∷ cs)
-unfolding leading read_to cut_at number
+zero_alone_read : (cs : List ℕ) → leading decimal_number (48 ∷ 32 ∷ cs) ≡ read_to 0 (48 ∷ 32 ∷ cs)
+unfolding leading read_to cut_at decimal_number
 zero_alone_read cs = refl
 
-zeroed : (ds : List ℕ) → 0 < length ds → number (48 ∷ ds) ≡ None
-unfolding number
+zeroed : (ds : List ℕ) → 0 < length ds → decimal_number (48 ∷ ds) ≡ None
+unfolding decimal_number
 zeroed ds l = rw (lt-ltb 0 (length ds) l) refl
 
 none_either : (b : Bool) (o : Option ℕ) → o ≡ None → cond b None o ≡ None
 none_either true o e = refl
 none_either false o e = e
 
-undigit : (c : ℕ) (ds : List ℕ) → is_digit c ≡ false → number (c ∷ ds) ≡ None
-unfolding number digits_from
+undigit : (c : ℕ) (ds : List ℕ) → is_digit c ≡ false → decimal_number (c ∷ ds) ≡ None
+unfolding decimal_number digits_from
 undigit c ds d = none_either (eqb c 48 && ltb 0 (length ds)) (digits_from 0 (c ∷ ds)) (rw d refl)
 
-pub begins_digit : (line : List ℕ) → 1 < length line → is_digit (get_or line 0 0) ≡ true → (get_or line 0 0 ≡ 48 → get_or line 1 0 ≡ 32) → leading number line ≡ read_to 0 line
+pub begins_digit : (line : List ℕ) → 1 < length line → is_digit (get_or line 0 0) ≡ true → (get_or line 0 0 ≡ 48 → get_or line 1 0 ≡ 32) → leading decimal_number line ≡ read_to 0 line
 unfolding leading read_to cut_at
 begins_digit [] h d z = absurd (omega arith)
 begins_digit (c ∷ []) h d z = absurd (omega arith)
 begins_digit (c ∷ b ∷ cs) h d z =
     elim (eqb_tells c 48) [
       | inl t ↦ (let space : b ≡ 32 = z t.1 in rw (t.1, space) (zero_alone_read cs))
-      | inr t ↦ rw (is_digit_space c d, before_number number c (cut_at 32 (b ∷ cs)), before_number (digits_from 0) c (cut_at 32 (b ∷ cs)))
-          (Numbered-same (λ ds. number (c ∷ ds)) (λ ds. digits_from 0 (c ∷ ds)) (cut_at 32 (b ∷ cs)) (λ ds. unzeroed c ds t.1))
+      | inr t ↦ rw (is_digit_space c d, before_number decimal_number c (cut_at 32 (b ∷ cs)), before_number (digits_from 0) c (cut_at 32 (b ∷ cs)))
+          (Numbered-same (λ ds. decimal_number (c ∷ ds)) (λ ds. digits_from 0 (c ∷ ds)) (cut_at 32 (b ∷ cs)) (λ ds. unzeroed c ds t.1))
     ]
 
-pub begins_zero : (line : List ℕ) → 1 < length line → get_or line 0 0 ≡ 48 → get_or line 1 0 ≢ 32 → leading number line ≡ None
-unfolding leading cut_at number
+pub begins_zero : (line : List ℕ) → 1 < length line → get_or line 0 0 ≡ 48 → get_or line 1 0 ≢ 32 → leading decimal_number line ≡ None
+unfolding leading cut_at decimal_number
 begins_zero [] h z s = absurd (omega arith)
 begins_zero (c ∷ []) h z s = absurd (omega arith)
 begins_zero (c ∷ b ∷ cs) h z s =
-    rw (z, ne_eqb b 32 s, before_number number 48 (option_map {U = List ℕ × List ℕ} (λ p. (b ∷ p.0, p.1)) (cut_at 32 cs)), before_number (λ ds. number (48 ∷ ds)) b (cut_at 32 cs))
-    (Numbered-none (λ ds. number (48 ∷ b ∷ ds)) (cut_at 32 cs) (λ ds. zeroed (b ∷ ds) (omega arith)))
+    rw (z, ne_eqb b 32 s, before_number decimal_number 48 (option_map {U = List ℕ × List ℕ} (λ p. (b ∷ p.0, p.1)) (cut_at 32 cs)), before_number (λ ds. decimal_number (48 ∷ ds)) b (cut_at 32 cs))
+    (Numbered-none (λ ds. decimal_number (48 ∷ b ∷ ds)) (cut_at 32 cs) (λ ds. zeroed (b ∷ ds) (omega arith)))
 
-pub begins_other : (line : List ℕ) → 1 < length line → is_digit (get_or line 0 0) ≡ false → leading number line ≡ None
-unfolding leading cut_at number
+pub begins_other : (line : List ℕ) → 1 < length line → is_digit (get_or line 0 0) ≡ false → leading decimal_number line ≡ None
+unfolding leading cut_at decimal_number
 begins_other [] h d = absurd (omega arith)
 begins_other (c ∷ cs) h d =
     elim (eqb_tells c 32) [
       | inl t ↦ rw t.0 refl
-      | inr t ↦ rw (t.0, before_number number c (cut_at 32 cs)) (Numbered-none (λ ds. number (c ∷ ds)) (cut_at 32 cs) (λ ds. undigit c ds d))
+      | inr t ↦ rw (t.0, before_number decimal_number c (cut_at 32 cs)) (Numbered-none (λ ds. decimal_number (c ∷ ds)) (cut_at 32 cs) (λ ds. undigit c ds d))
     ]
 
-pub begins_short : (line : List ℕ) → length line ≤ 1 → leading number line ≡ None
-unfolding leading cut_at number
+pub begins_short : (line : List ℕ) → length line ≤ 1 → leading decimal_number line ≡ None
+unfolding leading cut_at decimal_number
 begins_short [] h = refl
 begins_short (c ∷ []) h = elim (eqb_tells c 32) [ inl t ↦ rw t.0 refl | inr t ↦ rw t.0 refl ]
 begins_short (c ∷ b ∷ cs) h = absurd (omega arith)

@@ -9,7 +9,7 @@ use Rattle.std.proofs.lemmas.Slice.Eq.{bytes_eq-Decides}
 use Rattle.std.proofs.lemmas.List.Elements.{All-nil}
 use Rattle.strm_lines.specs.Words.{hex_pairs}
 use Rattle.strm_lines.specs.Grammar.{IsU32, IsBetween, IsLineBytes, fed_word, AreFed}
-use Rattle.strm_lines.specs.Reading.{cut_at, behind, leading, followed_by, followed_by_its, number, number_within, hex, fed}
+use Rattle.strm_lines.specs.Reading.{cut_at, behind, leading, followed_by, followed_by_its, decimal_number, number_within, hex, fed_bytes}
 use Rattle.strm_lines.proofs.CutLemmas.{IsWithout, cut_sound, cut_complete}
 use Rattle.strm_lines.proofs.NumberLemmas.{number_sound, number_complete, IsWithout-decimal}
 use Rattle.strm_lines.proofs.HexLemmas.{hex_sound, hex_complete, length-hex_pairs}
@@ -24,7 +24,7 @@ pub record IsReading {A : Type 0} (read : List ℕ → Option A) (write : A → 
 pub record IsWord {A : Type 0} (write : A → List ℕ) (IsFit : A → Type 0) : Type 0 where
   pub spaceless : (x : A) → IsFit x → IsWithout 32 (write x)
 
-pub IsReading-number : IsReading number decimal IsU32
+pub IsReading-number : IsReading decimal_number decimal IsU32
 IsReading-number = record { sound = number_sound; complete = number_complete }
 
 pub IsWord-number : IsWord decimal IsU32
@@ -35,8 +35,8 @@ IsReading-hex = record { sound = hex_sound; complete = hex_complete }
 
 -- what is fed
 
-fed_sound : (word bytes : List ℕ) → fed word ≡ Some bytes → (fed_word bytes ≡ word) × AreFed bytes
-unfolding fed
+fed_sound : (word bytes : List ℕ) → fed_bytes word ≡ Some bytes → (fed_word bytes ≡ word) × AreFed bytes
+unfolding fed_bytes
 fed_sound word bytes e = by_end (bytes_eq word (codes "end")) refl e
   where
     by_bytes : (xs : List ℕ) → (hex_pairs xs ≡ word) × IsLineBytes xs → (fed_word xs ≡ word) × AreFed xs
@@ -57,20 +57,20 @@ not_end word n e = by (bytes_eq word (codes "end")) refl
     by false f = refl
     by true f = let three : length word ≡ 3 = ap length ((bytes_eq-Decides word (codes "end")).0 f) in absurd (omega (arith, e, three))
 
-fed_complete : (bytes : List ℕ) → AreFed bytes → fed (fed_word bytes) ≡ Some bytes
-unfolding fed
+fed_complete : (bytes : List ℕ) → AreFed bytes → fed_bytes (fed_word bytes) ≡ Some bytes
+unfolding fed_bytes
 fed_complete [] h = refl
 fed_complete (b ∷ bytes) h =
     rw (not_end (hex_pairs (b ∷ bytes)) (length (b ∷ bytes)) (length-hex_pairs (b ∷ bytes)))
     (hex_complete (b ∷ bytes) (record { some = omega arith; most = h.most; each = h.each }))
 
-pub IsReading-fed : IsReading fed fed_word AreFed
+pub IsReading-fed : IsReading fed_bytes fed_word AreFed
 IsReading-fed = record { sound = fed_sound; complete = fed_complete }
 
 within_sound : (low high : ℕ) (word : List ℕ) (x : ℕ) → number_within low high word ≡ Some x → (decimal x ≡ word) × IsBetween low high x
 unfolding number_within
 within_sound low high word x e =
-    option_and_then_some _ (number word) x e (λ n p q.
+    option_and_then_some _ (decimal_number word) x e (λ n p q.
     let a : (leb low n && leb n high ≡ true) × (Some n ≡ Some x) = chosen (leb low n && leb n high) (Some n) x q in
     let b : (leb low n ≡ true) × (leb n high ≡ true) = both_true (leb low n) (leb n high) a.0 in
     let same : n ≡ x = same_Some n x a.1 in

@@ -13,7 +13,7 @@ use Rattle.strm_codes.specs.declared.payloads.Payload.{Payload}
 use Rattle.strm_codes.specs.declared.payloads.Payload.TheVariants.{Nothing, One, Tuple}
 use Rattle.strm_codes.specs.declared.codes.TransmitIndex.{TransmitIndex}
 use Rattle.strm_codes.specs.declared.codes.TransmitIndex.TheVariants.{Stream, Future}
-use Rattle.strm_lines.specs.Words.{scalar_word, payload_word, type_word}
+use Rattle.strm_lines.specs.Words.{scalar_word, payload_text, type_text}
 use Rattle.strm_lines.specs.Grammar.{IsBetween, IsPayload, IsType}
 use Rattle.strm_lines.specs.Reading.{cut_at, behind, named_among, early, late, scalar_read, fields_read, shape_read, payload_read, type_read, leading}
 use Rattle.strm_lines.proofs.ChoiceLemmas.{chosen}
@@ -155,28 +155,28 @@ shape_complete shape h = rw (cut_complete 41 (fields_word shape) [] (IsWithout-f
 
 -- payloads
 
-payload_sound : (word : List ℕ) (p : Payload) → payload_read word ≡ Some p → (payload_word p ≡ word) × IsPayload p
+payload_sound : (word : List ℕ) (p : Payload) → payload_read word ≡ Some p → (payload_text p ≡ word) × IsPayload p
 unfolding payload_read
 payload_sound word p e = by_none (bytes_eq word (codes "none")) refl e
   where
-    by_front : (o : Option (List ℕ)) → behind (codes "(") word ≡ o → option_map_or (λ rest. option_map Tuple (shape_read rest)) o (option_map One (scalar_read word)) ≡ Some p → (payload_word p ≡ word) × IsPayload p
+    by_front : (o : Option (List ℕ)) → behind (codes "(") word ≡ o → option_map_or (λ rest. option_map Tuple (shape_read rest)) o (option_map One (scalar_read word)) ≡ Some p → (payload_text p ≡ word) × IsPayload p
     by_front None f e = option_map_some One (scalar_read word) p e (λ s g h. rw (← h) (scalar_sound word s g, tt))
     by_front (Some rest) f e =
         option_map_some Tuple (shape_read rest) p e (λ shape g h.
         let r = shape_sound rest shape g in
         rw (← h) (ap (λ w. codes "(" ++ w) r.0 ∙ sym (behind_sound (codes "(") word rest f), r.1))
 
-    by_none : (b : Bool) → bytes_eq word (codes "none") ≡ b → cond b (Some Nothing) (option_map_or (λ rest. option_map Tuple (shape_read rest)) (behind (codes "(") word) (option_map One (scalar_read word))) ≡ Some p → (payload_word p ≡ word) × IsPayload p
+    by_none : (b : Bool) → bytes_eq word (codes "none") ≡ b → cond b (Some Nothing) (option_map_or (λ rest. option_map Tuple (shape_read rest)) (behind (codes "(") word) (option_map One (scalar_read word))) ≡ Some p → (payload_text p ≡ word) × IsPayload p
     by_none true f e = let same : Nothing ≡ p = same_Some Nothing p e in rw (← same) (sym ((bytes_eq-Decides word (codes "none")).0 f), tt)
     by_none false f e = by_front (behind (codes "(") word) refl e
 
-payload_complete : (p : Payload) → IsPayload p → payload_read (payload_word p) ≡ Some p
+payload_complete : (p : Payload) → IsPayload p → payload_read (payload_text p) ≡ Some p
 unfolding payload_read behind
 payload_complete Nothing h = refl
 payload_complete (One s) h = (named s).alone
 payload_complete (Tuple shape) h = ap (option_map Tuple) (shape_complete shape h)
 
-IsWithout-payload : (p : Payload) → IsWithout 32 (payload_word p)
+IsWithout-payload : (p : Payload) → IsWithout 32 (payload_text p)
 IsWithout-payload Nothing = without_low 32 44 (codes "none") (omega arith) refl
 IsWithout-payload (One s) = IsWithout-scalar 32 (omega arith) s
 IsWithout-payload (Tuple shape) =
@@ -184,37 +184,37 @@ IsWithout-payload (Tuple shape) =
 
 -- types
 
-type_sound : (word : List ℕ) (ty : TransmitIndex) → type_read word ≡ Some ty → (type_word ty ≡ word) × IsType ty
+type_sound : (word : List ℕ) (ty : TransmitIndex) → type_read word ≡ Some ty → (type_text ty ≡ word) × IsType ty
 unfolding type_read
 type_sound word ty e = by_stream (behind (codes "stream:") word) refl e
   where
-    by_future : (o : Option (List ℕ)) → behind (codes "future:") word ≡ o → option_map_or (λ rest. option_map Future (payload_read rest)) o None ≡ Some ty → (type_word ty ≡ word) × IsType ty
+    by_future : (o : Option (List ℕ)) → behind (codes "future:") word ≡ o → option_map_or (λ rest. option_map Future (payload_read rest)) o None ≡ Some ty → (type_text ty ≡ word) × IsType ty
     by_future None f e = absurd (none-some ty e)
     by_future (Some rest) f e =
         option_map_some Future (payload_read rest) ty e (λ p g h.
         let r = payload_sound rest p g in
         rw (← h) (ap (λ w. codes "future:" ++ w) r.0 ∙ sym (behind_sound (codes "future:") word rest f), r.1))
 
-    by_stream : (o : Option (List ℕ)) → behind (codes "stream:") word ≡ o → option_map_or (λ rest. option_map Stream (payload_read rest)) o (option_map_or (λ rest. option_map Future (payload_read rest)) (behind (codes "future:") word) None) ≡ Some ty → (type_word ty ≡ word) × IsType ty
+    by_stream : (o : Option (List ℕ)) → behind (codes "stream:") word ≡ o → option_map_or (λ rest. option_map Stream (payload_read rest)) o (option_map_or (λ rest. option_map Future (payload_read rest)) (behind (codes "future:") word) None) ≡ Some ty → (type_text ty ≡ word) × IsType ty
     by_stream None f e = by_future (behind (codes "future:") word) refl e
     by_stream (Some rest) f e =
         option_map_some Stream (payload_read rest) ty e (λ p g h.
         let r = payload_sound rest p g in
         rw (← h) (ap (λ w. codes "stream:" ++ w) r.0 ∙ sym (behind_sound (codes "stream:") word rest f), r.1))
 
-type_complete : (ty : TransmitIndex) → IsType ty → type_read (type_word ty) ≡ Some ty
+type_complete : (ty : TransmitIndex) → IsType ty → type_read (type_text ty) ≡ Some ty
 unfolding type_read behind
 type_complete (Stream p) h = ap (option_map Stream) (payload_complete p h)
 type_complete (Future p) h = ap (option_map Future) (payload_complete p h)
 
-pub IsReading-type : IsReading type_read type_word IsType
+pub IsReading-type : IsReading type_read type_text IsType
 IsReading-type = record { sound = type_sound; complete = type_complete }
 
-type_spaceless : (ty : TransmitIndex) → IsType ty → IsWithout 32 (type_word ty)
-type_spaceless (Stream p) h = IsWithout-append 32 (codes "stream:") (payload_word p) (without_low 32 44 (codes "stream:") (omega arith) refl) (IsWithout-payload p)
-type_spaceless (Future p) h = IsWithout-append 32 (codes "future:") (payload_word p) (without_low 32 44 (codes "future:") (omega arith) refl) (IsWithout-payload p)
+type_spaceless : (ty : TransmitIndex) → IsType ty → IsWithout 32 (type_text ty)
+type_spaceless (Stream p) h = IsWithout-append 32 (codes "stream:") (payload_text p) (without_low 32 44 (codes "stream:") (omega arith) refl) (IsWithout-payload p)
+type_spaceless (Future p) h = IsWithout-append 32 (codes "future:") (payload_text p) (without_low 32 44 (codes "future:") (omega arith) refl) (IsWithout-payload p)
 
-pub IsWord-type : IsWord type_word IsType
+pub IsWord-type : IsWord type_text IsType
 IsWord-type = record { spaceless = type_spaceless }
 
 -- a line on which this type stands first

@@ -8,7 +8,7 @@ use Rattle.strm_codes.specs.declared.codes.TransmitIndex.{TransmitIndex}
 use Rattle.strm_codes.specs.declared.codes.TransmitIndex.TheVariants.{Stream, Future}
 use Rattle.strm_machine.specs.declared.steps.Step.{Step}
 use Rattle.strm_machine.specs.declared.steps.Step.TheVariants.{Guest, New, Between, Write, Read, DropWrite, DropRead, CancelWrite, CancelRead, Move, Lift, Lower, Close, HostNew, Feed, Pipe, Grant, Drive, Event, SetNew, SetJoin, SetPoll, SetDrop, ErrNew, ErrText, ErrMove, ErrDrop, Poke, Dump}
-use Rattle.strm_lines.specs.Words.{hex_pairs, type_word}
+use Rattle.strm_lines.specs.Words.{hex_pairs, type_text}
 
 -- an argument of a line: a number; a number from low to high; a type; the count of a read or write
 -- of this type; bytes; bytes that are fed, or none where no more will come
@@ -84,9 +84,9 @@ line_of (Dump guest address len) =
 -- how a line is spelled
 
 -- the count of a stream's read or write; a future's is not written
-abbrev pub counted : TransmitIndex → ℕ → List (List ℕ)
-counted (Stream payload) count = decimal count ∷ []
-counted (Future payload) count = []
+abbrev pub count_words : TransmitIndex → ℕ → List (List ℕ)
+count_words (Stream payload) count = decimal count ∷ []
+count_words (Future payload) count = []
 
 -- the word for what is fed: its bytes, or that no more will come
 abbrev pub fed_word : List ℕ → List ℕ
@@ -94,13 +94,13 @@ fed_word [] = codes "end"
 fed_word (b ∷ bytes) = hex_pairs (b ∷ bytes)
 
 -- the words of an argument: one, or none; numbers are decimal, without leading zeros
-abbrev pub written : Argument → List (List ℕ)
-written (Number n) = decimal n ∷ []
-written (Within low high n) = decimal n ∷ []
-written (Typed ty) = type_word ty ∷ []
-written (Count ty count) = counted ty count
-written (Bytes bytes) = hex_pairs bytes ∷ []
-written (Fed bytes) = fed_word bytes ∷ []
+abbrev pub argument_words : Argument → List (List ℕ)
+argument_words (Number n) = decimal n ∷ []
+argument_words (Within low high n) = decimal n ∷ []
+argument_words (Typed ty) = type_text ty ∷ []
+argument_words (Count ty count) = count_words ty count
+argument_words (Bytes bytes) = hex_pairs bytes ∷ []
+argument_words (Fed bytes) = fed_word bytes ∷ []
 
 -- words in a row, exactly one space between each two
 abbrev pub words : List (List ℕ) → List ℕ
@@ -108,7 +108,7 @@ words = join_with_byte 32
 
 -- the line of a step, as its bytes
 abbrev pub spelling : Step → List ℕ
-spelling step = words ((line_of step).command ∷ flat_map written (line_of step).arguments)
+spelling step = words ((line_of step).command ∷ flat_map argument_words (line_of step).arguments)
 
 -- which steps have a line
 

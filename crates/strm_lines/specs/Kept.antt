@@ -9,6 +9,6 @@ abbrev pub AreLines : List ℕ → ℕ → List Reply → Type 0
 AreLines text count told = (text ≡ reply_lines told) × (count ≡ length told)
 
 -- so many of these replies are refusals, so many those of reads and writes that wait, and so many are all
-abbrev pub AreCounted : ℕ → ℕ → ℕ → List Reply → Type 0
-AreCounted refused blocked count told =
+abbrev pub AreRepliesCounted : ℕ → ℕ → ℕ → List Reply → Type 0
+AreRepliesCounted refused blocked count told =
     (refused ≡ count_by is_refusal told) × (blocked ≡ count_by is_blocked told) × (count ≡ length told)

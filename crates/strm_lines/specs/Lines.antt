@@ -28,7 +28,7 @@ pub record Spells (lines : List (List ℕ)) (steps : List Step) : Type 0 where
   pub have : All HasLine steps
 
 -- the line of this number, from 1, spells no step, and the lines before it spell some
-pub record IsFirstBad (lines : List (List ℕ)) (number : ℕ) : Type 0 where
+pub record IsFirstBadLine (lines : List (List ℕ)) (number : ℕ) : Type 0 where
   pub first : 1 ≤ number
   pub last : number ≤ length lines
   pub before : (steps : List Step) × Spells (take (number - 1) lines) steps

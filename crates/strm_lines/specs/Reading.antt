@@ -64,9 +64,9 @@ digits_from n (c ∷ cs) =
     then digits_from (10 * n + (c - 48)) cs else None
 
 -- a number in decimal, without leading zeros
-unfoldable pub number : List ℕ → Option ℕ
-number [] = None
-number (c ∷ cs) = if (c == 48) && nat_lt 0 (length cs) then None else digits_from 0 (c ∷ cs)
+unfoldable pub decimal_number : List ℕ → Option ℕ
+decimal_number [] = None
+decimal_number (c ∷ cs) = if (c == 48) && nat_lt 0 (length cs) then None else digits_from 0 (c ∷ cs)
 
 -- the number that begins with n and goes on to the first space, and what follows that
 unfoldable pub read_to : ℕ → List ℕ → Option (ℕ × List ℕ)
@@ -78,7 +78,7 @@ read_to n line = do
 -- a number from low to high
 unfoldable pub number_within : ℕ → ℕ → List ℕ → Option ℕ
 number_within low high word = do
-  n ← number word
+  n ← decimal_number word
   if nat_le low n && nat_le n high then Some n else None
 
 -- what a lower-case hexadecimal digit stands for
@@ -104,8 +104,8 @@ hex word =
     then None else pairs_from word
 
 -- what is fed: bytes, or that no more will come
-unfoldable pub fed : List ℕ → Option (List ℕ)
-fed word = if bytes_eq word (codes "end") then Some [] else hex word
+unfoldable pub fed_bytes : List ℕ → Option (List ℕ)
+fed_bytes word = if bytes_eq word (codes "end") then Some [] else hex word
 
 -- the first of these scalars that has this name
 abbrev pub named_among : List Scalar → List ℕ → Option Scalar
@@ -165,59 +165,59 @@ nothing (c ∷ rest) = None
 
 -- G H
 unfoldable pub two_numbers : List ℕ → Option (ℕ × ℕ)
-two_numbers rest = followed_by number number rest
+two_numbers rest = followed_by decimal_number decimal_number rest
 
 -- G N H
 unfoldable pub three_numbers : List ℕ → Option (ℕ × ℕ × ℕ)
 three_numbers rest =
-    option_map (λ v. (v.0, v.1.0, v.1.1)) (followed_by number (followed_by number number) rest)
+    option_map (λ v. (v.0, v.1.0, v.1.1)) (followed_by decimal_number (followed_by decimal_number decimal_number) rest)
 
 -- G T
 unfoldable pub number_and_type : List ℕ → Option (ℕ × TransmitIndex)
-number_and_type rest = followed_by number type_read rest
+number_and_type rest = followed_by decimal_number type_read rest
 
 -- W R T
 unfoldable pub two_numbers_and_type : List ℕ → Option (ℕ × ℕ × TransmitIndex)
 two_numbers_and_type rest =
-    option_map (λ v. (v.0, v.1.0, v.1.1)) (followed_by number (followed_by number type_read) rest)
+    option_map (λ v. (v.0, v.1.0, v.1.1)) (followed_by decimal_number (followed_by decimal_number type_read) rest)
 
 -- an end: G T H
 unfoldable pub named_end_of : List ℕ → Option NamedEnd
 named_end_of rest =
     option_map (λ v. record { guest = v.0; ty = v.1.0; handle = v.1.1 })
-    (followed_by number (followed_by type_read number) rest)
+    (followed_by decimal_number (followed_by type_read decimal_number) rest)
 
 -- an end and a guest: G T H R
 unfoldable pub end_and_guest : List ℕ → Option (NamedEnd × ℕ)
 end_and_guest rest =
     option_map (λ v. (record { guest = v.0; ty = v.1.0; handle = v.1.1.0 }, v.1.1.1))
-    (followed_by number (followed_by type_read (followed_by number number)) rest)
+    (followed_by decimal_number (followed_by type_read (followed_by decimal_number decimal_number)) rest)
 
 -- handle, address and, of a stream, count; that of a future is 1
-unfoldable pub place_of : TransmitIndex → List ℕ → Option (ℕ × ℕ × ℕ)
-place_of (Stream payload) rest = three_numbers rest
-place_of (Future payload) rest = option_map (λ v. (v.0, v.1, 1)) (two_numbers rest)
+unfoldable pub place_words : TransmitIndex → List ℕ → Option (ℕ × ℕ × ℕ)
+place_words (Stream payload) rest = three_numbers rest
+place_words (Future payload) rest = option_map (λ v. (v.0, v.1, 1)) (two_numbers rest)
 
 -- an end, address and count: G T H A N, or without N
 unfoldable pub operands_of : List ℕ → Option (NamedEnd × ℕ × ℕ)
 operands_of rest =
     option_map (λ v. (record { guest = v.0; ty = v.1.0; handle = v.1.1.0 }, v.1.1.1, v.1.1.2))
-    (followed_by number (followed_by_its type_read place_of) rest)
+    (followed_by decimal_number (followed_by_its type_read place_words) rest)
 
 -- N HEX, N end
 unfoldable pub number_and_fed : List ℕ → Option (ℕ × List ℕ)
-number_and_fed rest = followed_by number fed rest
+number_and_fed rest = followed_by decimal_number fed_bytes rest
 
 -- G A HEX
 unfoldable pub place_and_bytes : List ℕ → Option (ℕ × ℕ × List ℕ)
 place_and_bytes rest =
-    option_map (λ v. (v.0, v.1.0, v.1.1)) (followed_by number (followed_by number hex) rest)
+    option_map (λ v. (v.0, v.1.0, v.1.1)) (followed_by decimal_number (followed_by decimal_number hex) rest)
 
 -- G A N, of 1 to 64 bytes
 unfoldable pub place_and_len : List ℕ → Option (ℕ × ℕ × ℕ)
 place_and_len rest =
     option_map (λ v. (v.0, v.1.0, v.1.1))
-    (followed_by number (followed_by number (number_within 1 64)) rest)
+    (followed_by decimal_number (followed_by decimal_number (number_within 1 64)) rest)
 
 -- a command: what its lines begin with, and the step behind its arguments
 pub record Command : Type 0 where
@@ -242,7 +242,7 @@ explaining =
 -- those of waitable sets
 unfoldable pub gathering : List Command
 gathering =
-    command (codes "set-new ") number SetNew
+    command (codes "set-new ") decimal_number SetNew
     ∷ command (codes "set-join ") three_numbers (λ v. SetJoin v.0 v.1 v.2)
     ∷ command (codes "set-poll ") two_numbers (λ v. SetPoll v.0 v.1)
     ∷ command (codes "set-drop ") two_numbers (λ v. SetDrop v.0 v.1) ∷ explaining
@@ -250,7 +250,7 @@ gathering =
 -- those of host ends
 unfoldable pub hosting : List Command
 hosting =
-    command (codes "host ") number HostNew
+    command (codes "host ") decimal_number HostNew
     ∷ command (codes "feed ") number_and_fed (λ v. Feed v.0 v.1)
     ∷ command (codes "pipe ") two_numbers (λ v. Pipe v.0 v.1)
     ∷ command (codes "grant ") two_numbers (λ v. Grant v.0 v.1)
@@ -270,12 +270,12 @@ ending =
     ∷ command (codes "drop-read ") named_end_of (λ e. DropRead e.guest e.ty e.handle)
     ∷ command (codes "cancel-write ") named_end_of (λ e. CancelWrite e.guest e.ty e.handle)
     ∷ command (codes "cancel-read ") named_end_of (λ e. CancelRead e.guest e.ty e.handle)
-    ∷ command (codes "close ") number Close ∷ moving
+    ∷ command (codes "close ") decimal_number Close ∷ moving
 
 -- those that make guests and streams
 unfoldable pub making : List Command
 making =
-    command (codes "guest ") number Guest
+    command (codes "guest ") decimal_number Guest
     ∷ command (codes "new ") number_and_type (λ v. New v.0 v.1)
     ∷ command (codes "pair ") two_numbers_and_type (λ v. Between v.0 v.1 v.2) ∷ ending
 

@@ -16,8 +16,8 @@ use Rattle.strm_lines.specs.Words.{hex_pair, hex_pairs}
 use Rattle.strm_lines.specs.Grammar.{words}
 
 -- a text as a line, ended by its line feed
-abbrev pub ended : List ℕ → List ℕ
-ended text = text ++ 10 ∷ []
+abbrev pub line_ended : List ℕ → List ℕ
+line_ended text = text ++ 10 ∷ []
 
 -- a text has more, from the front of these bytes
 abbrev pub HasPart : List ℕ → List ℕ → List ℕ → Type 0
@@ -61,7 +61,7 @@ reply_text StoreTrapped = codes "store-trapped"
 
 -- one line per reply
 abbrev pub reply_lines : List Reply → List ℕ
-reply_lines replies = flat_map (λ reply. ended (reply_text reply)) replies
+reply_lines replies = flat_map (λ reply. line_ended (reply_text reply)) replies
 
 -- what was received on a stream, in items
 abbrev pub stream_text : ℕ → ℕ → List ℕ
@@ -71,7 +71,7 @@ stream_text stream moved =
 -- one line per stream, from this number on
 abbrev pub stream_lines : ℕ → List ℕ → List ℕ
 stream_lines stream [] = []
-stream_lines stream (n ∷ moved) = ended (stream_text stream n) ++ stream_lines (stream + 1) moved
+stream_lines stream (n ∷ moved) = line_ended (stream_text stream n) ++ stream_lines (stream + 1) moved
 
 -- how many steps were done
 abbrev pub done_text : ℕ → List ℕ
@@ -80,7 +80,7 @@ done_text steps = words (codes "done" ∷ decimal steps ∷ [])
 -- the text of a run: its replies, what was received on each stream, the number of steps
 abbrev pub transcript_text : List Reply → List ℕ → List ℕ
 transcript_text replies moved =
-    reply_lines replies ++ stream_lines 0 moved ++ ended (done_text (length replies))
+    reply_lines replies ++ stream_lines 0 moved ++ line_ended (done_text (length replies))
 
 -- a step that was refused
 abbrev pub is_refusal : Reply → Bool
@@ -100,9 +100,9 @@ count_text word count = words (word ∷ decimal count ∷ [])
 -- the number of steps
 abbrev pub summary_text : List Reply → List ℕ → List ℕ
 summary_text replies moved =
-    ended (count_text (codes "refused") (count_by is_refusal replies))
-    ++ ended (count_text (codes "blocked") (count_by is_blocked replies))
-    ++ stream_lines 0 moved ++ ended (done_text (length replies))
+    line_ended (count_text (codes "refused") (count_by is_refusal replies))
+    ++ line_ended (count_text (codes "blocked") (count_by is_blocked replies))
+    ++ stream_lines 0 moved ++ line_ended (done_text (length replies))
 
 -- a host end, by its side and its number
 abbrev pub host_end_text : HostEnd → List ℕ
@@ -121,20 +121,20 @@ stop_text stops.StoreTrapped = codes "store-trapped"
 abbrev pub stopped_text : List Reply → Stop → List ℕ
 stopped_text replies stop =
     reply_lines replies
-    ++ ended (words (codes "stopped" ∷ decimal (length replies + 1) ∷ stop_text stop ∷ []))
+    ++ line_ended (words (codes "stopped" ∷ decimal (length replies + 1) ∷ stop_text stop ∷ []))
 
 -- what is written where the words of the program are none of its own
 abbrev pub usage_text : List ℕ
-usage_text = ended (codes "usage: strm run | strm gen N SEED")
+usage_text = line_ended (codes "usage: strm run | strm gen N SEED")
 
 -- what is written where a line is not in the grammar
 abbrev pub bad_line_text : ℕ → List ℕ
-bad_line_text line = ended (words (codes "bad" ∷ codes "line" ∷ decimal line ∷ []))
+bad_line_text line = line_ended (words (codes "bad" ∷ codes "line" ∷ decimal line ∷ []))
 
 -- what is written where the input is over the limits
 abbrev pub too_long_text : List ℕ
-too_long_text = ended (codes "too long")
+too_long_text = line_ended (codes "too long")
 
 -- what is written where the source failed
 abbrev pub read_fault_text : List ℕ
-read_fault_text = ended (codes "read fault")
+read_fault_text = line_ended (codes "read fault")

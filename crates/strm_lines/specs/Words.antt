@@ -35,12 +35,12 @@ scalar_word U64 = codes "u64"
 scalar_word Char = codes "char"
 
 -- a tuple stands in parentheses, its scalars separated by commas
-abbrev pub payload_word : Payload → List ℕ
-payload_word Nothing = codes "none"
-payload_word (One scalar) = scalar_word scalar
-payload_word (Tuple shape) = codes "(" ++ join_with_byte 44 (map scalar_word shape) ++ codes ")"
+abbrev pub payload_text : Payload → List ℕ
+payload_text Nothing = codes "none"
+payload_text (One scalar) = scalar_word scalar
+payload_text (Tuple shape) = codes "(" ++ join_with_byte 44 (map scalar_word shape) ++ codes ")"
 
 -- the kind, a colon and the payload
-abbrev pub type_word : TransmitIndex → List ℕ
-type_word (Stream payload) = codes "stream:" ++ payload_word payload
-type_word (Future payload) = codes "future:" ++ payload_word payload
+abbrev pub type_text : TransmitIndex → List ℕ
+type_text (Stream payload) = codes "stream:" ++ payload_text payload
+type_text (Future payload) = codes "future:" ++ payload_text payload

@@ -5,7 +5,7 @@
 ghost use Rattle.std.specs.Prelude.{◌≡◌, ◌≢◌, ◌∷◌, ◌≤◌, ◌<◌, ◌↔◌, ℕ, List, [], length, decimal, IfOk, OnOk, MatchResult, Some, Err};
 ghost use Rattle.strm_machine.specs.declared.steps.Step.{Step};
 ghost use Rattle.strm_lines.specs.Grammar.{IsU32};
-ghost use Rattle.strm_lines.specs.Lines.{lines_of, feeds, Spells, IsFirstBad, IsTooLong};
+ghost use Rattle.strm_lines.specs.Lines.{lines_of, feeds, Spells, IsFirstBadLine, IsTooLong};
 ghost use Rattle.strm_lines.specs.declared.parsing.ParseError.TheVariants.{OutOfMemory as NoMemory};
 
 use crate::lines::keep_line;
@@ -50,7 +50,7 @@ pub fn parse(alloc: Global, bytes: &[u8]) -> Result<Steps, ParseError>
     ensures ok { IfOk result (λ steps. Spells (lines_of bytes.now) steps) }
     ensures too_long { (result ≡ Err ParseError.TooLong) ↔ IsTooLong bytes.now }
     ensures bad_line { (line : ℕ) → result ≡ Err (ParseError.BadLine line) →
-        IsFirstBad (lines_of bytes.now) line }
+        IsFirstBadLine (lines_of bytes.now) line }
 
     // What the grammar and the limits allow is read, but for running out of memory.
     ensures complete { (steps : List Step) → Spells (lines_of bytes.now) steps →
@@ -70,7 +70,7 @@ pub fn parse_onto<L: TakesSteps>(steps: &mut L, bytes: &[u8]) -> Result<(), Pars
     ensures ok { OnOk result (Spells (lines_of bytes.now) (L.steps steps.new)) }
     ensures too_long { (result ≡ Err ParseError.TooLong) ↔ IsTooLong bytes.now }
     ensures bad_line { (line : ℕ) → result ≡ Err (ParseError.BadLine line) →
-        IsFirstBad (lines_of bytes.now) line }
+        IsFirstBadLine (lines_of bytes.now) line }
 {
     if bytes.len() > MAX_BYTES {
         return Err(ParseError::TooLong);
@@ -144,7 +144,7 @@ fn parse_lines<L: TakesSteps>(steps: &mut L, bytes: &[u8], lines: usize) -> Resu
     ensures ok { OnOk result (Spells (lines_of bytes.now) (L.steps steps.new)) }
     ensures within { result ≢ Err ParseError.TooLong }
     ensures bad_line { (line : ℕ) → result ≡ Err (ParseError.BadLine line) →
-        IsFirstBad (lines_of bytes.now) line }
+        IsFirstBadLine (lines_of bytes.now) line }
 {
     steps.reserve(lines)?;
     let mut rest = bytes;
@@ -179,7 +179,7 @@ pub fn one_reading()
     ensures steps { (lines : List (List ℕ)) (steps others : List Step) →
         Spells lines steps → Spells lines others → steps ≡ others }
     ensures apart { (lines : List (List ℕ)) (steps : List Step) (line : ℕ) →
-        Spells lines steps → ¬ IsFirstBad lines line }
+        Spells lines steps → ¬ IsFirstBadLine lines line }
     ensures bad_line { (lines : List (List ℕ)) (line other : ℕ) →
-        IsFirstBad lines line → IsFirstBad lines other → line ≡ other }
+        IsFirstBadLine lines line → IsFirstBadLine lines other → line ≡ other }
 {}

@@ -5,7 +5,7 @@
 ghost use Rattle.std.specs.Prelude.{◌≡◌, ℕ, List, [], ◌<◌, length, IfOk, OnOk, OnErr};
 ghost use Rattle.strm_machine.specs.declared.replies.Reply.{Reply};
 ghost use Rattle.strm_lines.specs.Text.{transcript_text, summary_text, stopped_text};
-ghost use Rattle.strm_lines.specs.Kept.{AreLines, AreCounted};
+ghost use Rattle.strm_lines.specs.Kept.{AreLines, AreRepliesCounted};
 
 use crate::lists::TextBytes;
 use crate::one_by_one::KeepsReplies;
@@ -89,7 +89,7 @@ pub struct ReplyCounts {
 impl ReplyCounts {
     /// No replies.
     pub fn new() -> ReplyCounts
-        ensures { AreCounted result.refused result.blocked result.count [] }
+        ensures { AreRepliesCounted result.refused result.blocked result.count [] }
     {
         ReplyCounts {
             refused: 0,
@@ -100,7 +100,7 @@ impl ReplyCounts {
 
     /// The summary of a run, from how many items were received on each stream.
     pub fn summary(&self, alloc: Global, moved: &[u128]) -> Result<TextBytes, OutOfMemory>
-        ensures { (told : List Reply) → AreCounted self.now.refused self.now.blocked self.now.count told →
+        ensures { (told : List Reply) → AreRepliesCounted self.now.refused self.now.blocked self.now.count told →
             IfOk result (λ text. text ≡ summary_text told moved.now) }
     {
         counts_text(
@@ -114,7 +114,7 @@ impl ReplyCounts {
 }
 
 impl KeepsReplies for ReplyCounts {
-    ghost keeps = { λ c told. AreCounted c.refused c.blocked c.count told };
+    ghost keeps = { λ c told. AreRepliesCounted c.refused c.blocked c.count told };
 
     fn keep(&mut self, reply: &Reply) -> Result<(), OutOfMemory> {
         match reply {

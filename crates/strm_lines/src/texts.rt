@@ -6,7 +6,7 @@ ghost use Rattle.std.specs.Prelude.{◌≡◌, ◌∷◌, ◌++◌, [], ◌≤�
 ghost use Rattle.std.specs.List.{flat_map, count_by};
 ghost use Rattle.strm_lines.specs.Grammar.{words};
 ghost use Rattle.strm_lines.specs.Words.{hex_digit, hex_pairs};
-ghost use Rattle.strm_lines.specs.Text.{HasPart, ended, hex_word, count_text, reply_text, reply_lines, stream_text, stream_lines, done_text, transcript_text, is_refusal, is_blocked, summary_text, host_end_text, stop_text, stopped_text, usage_text, bad_line_text, too_long_text, read_fault_text};
+ghost use Rattle.strm_lines.specs.Text.{HasPart, line_ended, hex_word, count_text, reply_text, reply_lines, stream_text, stream_lines, done_text, transcript_text, is_refusal, is_blocked, summary_text, host_end_text, stop_text, stopped_text, usage_text, bad_line_text, too_long_text, read_fault_text};
 
 use crate::lists::TextBytes;
 use itoa::{Buffer, Integer};
@@ -31,7 +31,7 @@ pub fn hex_digit(nibble: u8) -> u8
 
 // A word as eight digits, and a line feed.
 fn hex_line(word: u32) -> [u8; 9]
-    ensures { result ≡ ended (hex_word word) }
+    ensures { result ≡ line_ended (hex_word word) }
 {
     let [first, second, third, fourth] = word.to_be_bytes();
     [
@@ -58,7 +58,7 @@ pub fn push_number<I: Integer>(out: &mut TextBytes, number: I) -> Result<(), Out
 // Adds bytes as pairs of digits, and a line feed.
 fn push_hex(out: &mut TextBytes, bytes: &[u8]) -> Result<(), OutOfMemory>
     requires { length bytes.now ≤ 64 }
-    ensures ok { OnOk result (out.new ≡ out.old ++ ended (hex_pairs bytes.now)) }
+    ensures ok { OnOk result (out.new ≡ out.old ++ line_ended (hex_pairs bytes.now)) }
     ensures err { OnErr result (out.new ≡ out.old) }
 {
     let mut digits = [b'\n'; 129];
@@ -83,8 +83,8 @@ fn push_parts(out: &mut TextBytes, parts: &[&[u8]]) -> Result<(), OutOfMemory>
 
 // Adds the line of a number.
 fn push_number_line(out: &mut TextBytes, number: u32) -> Result<(), OutOfMemory>
-    ensures ok { OnOk result (out.new ≡ out.old ++ ended (decimal number)) }
-    ensures err { OnErr result (HasPart out.old out.new (ended (decimal number))) }
+    ensures ok { OnOk result (out.new ≡ out.old ++ line_ended (decimal number)) }
+    ensures err { OnErr result (HasPart out.old out.new (line_ended (decimal number))) }
 {
     let mut digits = Buffer::new();
     push_parts(out, &[digits.format(number).as_bytes(), b"\n".as_slice()])
@@ -92,8 +92,8 @@ fn push_number_line(out: &mut TextBytes, number: u32) -> Result<(), OutOfMemory>
 
 // Adds the line of a new stream.
 fn push_pair(out: &mut TextBytes, pair: &Pair) -> Result<(), OutOfMemory>
-    ensures ok { OnOk result (out.new ≡ out.old ++ ended (reply_text (Reply.Pair pair.now))) }
-    ensures err { OnErr result (HasPart out.old out.new (ended (reply_text (Reply.Pair pair.now)))) }
+    ensures ok { OnOk result (out.new ≡ out.old ++ line_ended (reply_text (Reply.Pair pair.now))) }
+    ensures err { OnErr result (HasPart out.old out.new (line_ended (reply_text (Reply.Pair pair.now)))) }
 {
     let (mut read, mut write, mut stream) = (Buffer::new(), Buffer::new(), Buffer::new());
     push_parts(
@@ -112,8 +112,8 @@ fn push_pair(out: &mut TextBytes, pair: &Pair) -> Result<(), OutOfMemory>
 
 // Adds the line of a member of a set and of what it was told.
 fn push_member(out: &mut TextBytes, member: &Member) -> Result<(), OutOfMemory>
-    ensures ok { OnOk result (out.new ≡ out.old ++ ended (reply_text (Reply.Member (Some member.now)))) }
-    ensures err { OnErr result (HasPart out.old out.new (ended (reply_text (Reply.Member (Some member.now))))) }
+    ensures ok { OnOk result (out.new ≡ out.old ++ line_ended (reply_text (Reply.Member (Some member.now)))) }
+    ensures err { OnErr result (HasPart out.old out.new (line_ended (reply_text (Reply.Member (Some member.now))))) }
 {
     let mut handle = Buffer::new();
     let code = hex_line(member.code.encode());
@@ -129,8 +129,8 @@ fn push_member(out: &mut TextBytes, member: &Member) -> Result<(), OutOfMemory>
 
 // Adds the line of a refusal.
 fn push_refusal(out: &mut TextBytes, refusal: Refusal) -> Result<(), OutOfMemory>
-    ensures ok { OnOk result (out.new ≡ out.old ++ ended (reply_text (Reply.Refused refusal))) }
-    ensures err { OnErr result (HasPart out.old out.new (ended (reply_text (Reply.Refused refusal)))) }
+    ensures ok { OnOk result (out.new ≡ out.old ++ line_ended (reply_text (Reply.Refused refusal))) }
+    ensures err { OnErr result (HasPart out.old out.new (line_ended (reply_text (Reply.Refused refusal)))) }
 {
     push_parts(
         out,
@@ -144,8 +144,8 @@ fn push_refusal(out: &mut TextBytes, refusal: Refusal) -> Result<(), OutOfMemory
 
 // Adds the line of a bad item.
 fn push_bad_item(out: &mut TextBytes, stream: u32) -> Result<(), OutOfMemory>
-    ensures ok { OnOk result (out.new ≡ out.old ++ ended (reply_text (Reply.BadItem stream))) }
-    ensures err { OnErr result (HasPart out.old out.new (ended (reply_text (Reply.BadItem stream)))) }
+    ensures ok { OnOk result (out.new ≡ out.old ++ line_ended (reply_text (Reply.BadItem stream))) }
+    ensures err { OnErr result (HasPart out.old out.new (line_ended (reply_text (Reply.BadItem stream)))) }
 {
     let mut digits = Buffer::new();
     push_parts(
@@ -160,8 +160,8 @@ fn push_bad_item(out: &mut TextBytes, stream: u32) -> Result<(), OutOfMemory>
 
 // Adds the line of a reply.
 pub(crate) fn push_reply(out: &mut TextBytes, reply: &Reply) -> Result<(), OutOfMemory>
-    ensures ok { OnOk result (out.new ≡ out.old ++ ended (reply_text reply.now)) }
-    ensures err { OnErr result (HasPart out.old out.new (ended (reply_text reply.now))) }
+    ensures ok { OnOk result (out.new ≡ out.old ++ line_ended (reply_text reply.now)) }
+    ensures err { OnErr result (HasPart out.old out.new (line_ended (reply_text reply.now))) }
 {
     match reply {
         Reply::Code(code) | Reply::Event(Some(code)) => out.push_slice(&hex_line(code.encode())),
@@ -192,8 +192,8 @@ pub fn push_replies(out: &mut TextBytes, replies: &[Reply]) -> Result<(), OutOfM
 
 // Adds the line of a stream.
 fn push_stream(out: &mut TextBytes, stream: usize, moved: u128) -> Result<(), OutOfMemory>
-    ensures ok { OnOk result (out.new ≡ out.old ++ ended (stream_text stream moved)) }
-    ensures err { OnErr result (HasPart out.old out.new (ended (stream_text stream moved))) }
+    ensures ok { OnOk result (out.new ≡ out.old ++ line_ended (stream_text stream moved)) }
+    ensures err { OnErr result (HasPart out.old out.new (line_ended (stream_text stream moved))) }
 {
     let (mut digits, mut count) = (Buffer::new(), Buffer::new());
     push_parts(
@@ -221,8 +221,8 @@ pub fn push_streams(out: &mut TextBytes, moved: &[u128]) -> Result<(), OutOfMemo
 
 /// Adds the line of how many steps were done.
 pub fn push_done(out: &mut TextBytes, steps: usize) -> Result<(), OutOfMemory>
-    ensures ok { OnOk result (out.new ≡ out.old ++ ended (done_text steps)) }
-    ensures err { OnErr result (HasPart out.old out.new (ended (done_text steps))) }
+    ensures ok { OnOk result (out.new ≡ out.old ++ line_ended (done_text steps)) }
+    ensures err { OnErr result (HasPart out.old out.new (line_ended (done_text steps))) }
 {
     let mut digits = Buffer::new();
     push_parts(
@@ -241,7 +241,7 @@ pub(crate) fn push_ending(
     moved: &[u128],
     steps: usize,
 ) -> Result<(), OutOfMemory>
-    ensures { OnOk result (out.new ≡ out.old ++ stream_lines 0 moved.now ++ ended (done_text steps)) }
+    ensures { OnOk result (out.new ≡ out.old ++ stream_lines 0 moved.now ++ line_ended (done_text steps)) }
 {
     push_streams(out, moved)?;
     push_done(out, steps)
@@ -312,8 +312,8 @@ pub(crate) fn counts_text(
     moved: &[u128],
     steps: usize,
 ) -> Result<TextBytes, OutOfMemory>
-    ensures { IfOk result (λ text. text ≡ ended (count_text (codes "refused") refused)
-        ++ ended (count_text (codes "blocked") blocked) ++ stream_lines 0 moved.now ++ ended (done_text steps)) }
+    ensures { IfOk result (λ text. text ≡ line_ended (count_text (codes "refused") refused)
+        ++ line_ended (count_text (codes "blocked") blocked) ++ stream_lines 0 moved.now ++ line_ended (done_text steps)) }
 {
     let mut out = TextBytes::new(alloc);
     out.push_slice(b"refused ")?;
@@ -343,7 +343,7 @@ fn push_host_end(out: &mut TextBytes, end: HostEnd) -> Result<(), OutOfMemory>
 
 // Adds why a run stopped, and a line feed.
 fn push_stop(out: &mut TextBytes, stop: Stop) -> Result<(), OutOfMemory>
-    ensures { OnOk result (out.new ≡ out.old ++ ended (stop_text stop)) }
+    ensures { OnOk result (out.new ≡ out.old ++ line_ended (stop_text stop)) }
 {
     match stop {
         Stop::HostFailed { end } => {
@@ -373,7 +373,7 @@ pub fn stopped_text(alloc: Global, replies: &[Reply], stop: Stop) -> Result<Text
 
 // Adds the line of the step of this number, from 1, at which a run stopped.
 pub(crate) fn push_stopped(out: &mut TextBytes, at: usize, stop: Stop) -> Result<(), OutOfMemory>
-    ensures { OnOk result (out.new ≡ out.old ++ ended (words (codes "stopped" ∷ decimal at ∷ stop_text stop ∷ []))) }
+    ensures { OnOk result (out.new ≡ out.old ++ line_ended (words (codes "stopped" ∷ decimal at ∷ stop_text stop ∷ []))) }
 {
     out.push_slice(b"stopped ")?;
     push_number(out, at)?;

@@ -4,7 +4,7 @@
 
 ghost use Rattle.std.specs.Prelude.{◌≡◌, ◌+◌, ◌-◌, ◌*◌, ◌%◌, ◌^◌, ◌≤◌, ◌<◌, true, false, IsTrue, length, drop, slice_index_or, SomeIff, Some, None};
 ghost use Rattle.std.specs.Option.{option_map};
-ghost use Rattle.strm_lines.specs.Reading.{behind, cut_at, early, late, named_among, scalar_read, fields_read, shape_read, payload_read, leading, is_digit, number, read_to, number_within, nibble, pairs_from, hex, type_read};
+ghost use Rattle.strm_lines.specs.Reading.{behind, cut_at, early, late, named_among, scalar_read, fields_read, shape_read, payload_read, leading, is_digit, decimal_number, read_to, number_within, nibble, pairs_from, hex, type_read};
 
 use memchr::memchr;
 use strm_codes::codes::TransmitIndex;
@@ -26,7 +26,7 @@ pub fn behind<'a, const N: usize>(line: &'a [u8], front: &[u8; N]) -> Option<&'a
 #[inline(always)]
 fn with_digit(number: u32, digit: u8) -> Option<u32>
     requires { is_digit digit ≡ true }
-    ensures { SomeIff result (10 * number + (digit - 48) < 2 ^ 32) (10 * number + (digit - 48)) }
+    ensures { SomeIff result (10 * decimal_number + (digit - 48) < 2 ^ 32) (10 * decimal_number + (digit - 48)) }
 {
     let next = 10 * u64::from(number) + u64::from(digit - b'0');
     if next < 1 << 32 {
@@ -39,7 +39,7 @@ fn with_digit(number: u32, digit: u8) -> Option<u32>
 // A number in decimal, below 2^32 and without leading zeros.
 #[tactic(auto, unfolding(crate::specs::Reading::number, crate::specs::Reading::digits_from))]
 pub(crate) fn number(word: &[u8]) -> Option<u32>
-    ensures { result ≡ number word.now }
+    ensures { result ≡ decimal_number word.now }
 {
     if word.is_empty() || (word[0] == b'0' && word.len() > 1) {
         return None;
@@ -72,8 +72,8 @@ pub fn number_within(word: &[u8], low: u32, high: u32) -> Option<u32>
 
 // Whether a number can stand before a first space: a digit does, a zero alone.
 fn may_begin_number(line: &[u8]) -> bool
-    ensures no { result ≡ false → leading number line.now ≡ None }
-    ensures yes { IsTrue result → leading number line.now ≡ read_to 0 line.now }
+    ensures no { result ≡ false → leading decimal_number line.now ≡ None }
+    ensures yes { IsTrue result → leading decimal_number line.now ≡ read_to 0 line.now }
 {
     if line.len() < 2 {
         return false;
@@ -86,7 +86,7 @@ fn may_begin_number(line: &[u8]) -> bool
 
 // The number before the first space, and what follows it.
 pub(crate) fn leading_number(line: &[u8]) -> Option<(u32, &[u8])>
-    ensures { option_map (λ p. (p.0, p.1.now)) result ≡ leading number line.now }
+    ensures { option_map (λ p. (p.0, p.1.now)) result ≡ leading decimal_number line.now }
 {
     if !may_begin_number(line) {
         return None;
@@ -110,7 +110,7 @@ pub(crate) fn leading_number(line: &[u8]) -> Option<(u32, &[u8])>
 fn behind_number(number: u32, line: &[u8], at: usize) -> Option<(u32, &[u8])>
     requires inside { at < length line.now }
     requires digit { is_digit (slice_index_or line.now at 0) ≡ false }
-    ensures { option_map (λ p. (p.0, p.1.now)) result ≡ read_to number (drop at line.now) }
+    ensures { option_map (λ p. (p.0, p.1.now)) result ≡ read_to decimal_number (drop at line.now) }
 {
     if line[at] != b' ' {
         return None;

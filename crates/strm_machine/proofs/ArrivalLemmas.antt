@@ -6,7 +6,7 @@ use Rattle.std.proofs.lemmas.List.{get_or_past, get_or-replicate, length-replica
 use Rattle.std.proofs.lemmas.List.Elements.{All-nil, All-cons, All-set, All-get_or}
 use Rattle.std.proofs.lemmas.Option.{option_and_then_some}
 use Rattle.strm_codes.specs.Scalars.{size_of}
-use Rattle.strm_machine.specs.Words.{Guest, scalars_of, item_size, Scalar, Payload, put_at, items_at, stored_at, no_guest, guest_in, memory_in, with_memory, carried, sizes_of, IsPlaced, Operation, items_in}
+use Rattle.strm_machine.specs.Words.{Guest, scalars_of, item_size, Scalar, Payload, put_at, items_at, stored_at, no_guest, guest_in, memory_in, with_memory, carried, sizes_of, IsPlaced, Operation, items_in_memory}
 use Rattle.strm_codes.specs.Layout.{gap_before}
 use Rattle.strm_memory.specs.Bytes.{to_le, IsBytes}
 use Rattle.strm_memory.specs.Numbers.{lowered}
@@ -115,8 +115,8 @@ all_nothing bytes (suc n) = All-cons IsSome (Some []) (decoded [] (drop (item_si
 
 -- what was received of a write lies at the read's place, as it lay at the write's
 pub record Arrives (guests after : List Guest) (payload : Payload) (write read : Operation) (n : ℕ) : Type 0 where
-  pub brings : items_in payload after read.guest read.address n ≡ items_in payload guests write.guest write.address n
-  pub whole : All IsSome (items_in payload after read.guest read.address n)
+  pub brings : items_in_memory payload after read.guest read.address n ≡ items_in_memory payload guests write.guest write.address n
+  pub whole : All IsSome (items_in_memory payload after read.guest read.address n)
 
 -- the items of two places
 abbrev Same : List Scalar → List ℕ → List ℕ → ℕ → Type 0

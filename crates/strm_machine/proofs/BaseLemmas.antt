@@ -6,7 +6,7 @@ use Rattle.std.proofs.Math.Seq.{map-set_same}
 use Rattle.std.proofs.Math.ListN.{get_or-map}
 use Rattle.std.proofs.lemmas.Bool.{cond_both}
 use Rattle.strm_handles.specs.Handles.{inserted}
-use Rattle.strm_waitable_sets.specs.Sets.{left}
+use Rattle.strm_waitable_sets.specs.Sets.{handle_left}
 use Rattle.strm_machine.specs.Words.{Guest, Handles, Sets, no_handles, no_sets, Entry, removed, ReturnCode, TransmitIndex, Reaction, goes, operates, written_back, end_of, opposite, same_side, IsSound, State, guest_in, no_guest, sets_in, with_handles, with_memory, with_table, memory_in, scalars_of, stored_at, items_at, named, stream_named, Turn, Operation, Side, Reading, Writing, Stream, Act, Make}
 use Rattle.std.specs.Ptr.{Ptr}
 use Rattle.strm_machine.specs.Bases.{base_in, with_base, BasesStay}
@@ -41,7 +41,7 @@ base_in-with_memory guests g memory k = base_in-set guests g (record (guest_in g
 
 base_in-freed : (guests : List Guest) (o : Option (ℕ × ℕ)) (k : ℕ) → base_in (guests_freed guests o) k ≡ base_in guests k
 base_in-freed guests None k = refl
-base_in-freed guests (Some h) k = base_in-with_table guests h.0 (removed (guest_in guests h.0).handles h.1) (left (sets_in guests h.0) h.1) k
+base_in-freed guests (Some h) k = base_in-with_table guests h.0 (removed (guest_in guests h.0).handles h.1) (handle_left (sets_in guests h.0) h.1) k
 
 base_in-given : (guests : List Guest) (entry : Entry) (o : Option ℕ) (k : ℕ) → base_in (guests_given guests entry o) k ≡ base_in guests k
 base_in-given guests entry None k = refl

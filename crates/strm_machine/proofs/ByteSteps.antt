@@ -4,7 +4,7 @@ use Rattle.std.proofs.lemmas.Bool.{cond_both}
 use Rattle.std.proofs.lemmas.List.Elements.{All-push, All-set}
 use Rattle.strm_memory.specs.Bytes.{IsBytes}
 use Rattle.strm_handles.specs.Handles.{inserted}
-use Rattle.strm_waitable_sets.specs.Sets.{left}
+use Rattle.strm_waitable_sets.specs.Sets.{handle_left}
 use Rattle.strm_machine.specs.Words.{Guest, ReturnCode, Handles, Sets, Entry, removed, State, guest_in, memory_in, sets_in, with_table, opposite, same_side, end_of, carried, Turn, named, stream_named, Reaction, written_back, IsSound, Act, Side, Writing, Reading, Operation, Stream}
 use Rattle.strm_machine.specs.Making.{end_entry, with_stream}
 use Rattle.strm_machine.specs.Moments.{PutsBytes}
@@ -51,7 +51,7 @@ AreBytes-with_table guests g handles sets h = All-set (λ (k : Guest). IsBytes k
 
 AreBytes-freed : (guests : List Guest) (o : Option (ℕ × ℕ)) → AreBytes guests → AreBytes (guests_freed guests o)
 AreBytes-freed guests None h = h
-AreBytes-freed guests (Some f) h = AreBytes-with_table guests f.0 (removed (guest_in guests f.0).handles f.1) (left (sets_in guests f.0) f.1) h
+AreBytes-freed guests (Some f) h = AreBytes-with_table guests f.0 (removed (guest_in guests f.0).handles f.1) (handle_left (sets_in guests f.0) f.1) h
 
 AreBytes-given : (guests : List Guest) (entry : Entry) (o : Option ℕ) → AreBytes guests → AreBytes (guests_given guests entry o)
 AreBytes-given guests entry None h = h

@@ -1,6 +1,6 @@
 -- What one moment may do to an end of a stream: five changes, by which the law of conservation goes.
 use Rattle.std.proofs.Common.{◌≡◌, ℕ, ◌+◌, ◌*◌, ◌≤◌, ℤ, List, [], ◌∷◌, Option, None, Some}
-use Rattle.strm_machine.specs.Words.{Guest, scalars_of, item_size, ReturnCode, stream_at, end_of, Side, Writing, Stream, Operation, Moment, Call, report_in, accepted_in, count_reported, k_of, items_in, got_in}
+use Rattle.strm_machine.specs.Words.{Guest, scalars_of, item_size, ReturnCode, stream_at, end_of, Side, Writing, Stream, Operation, Moment, Call, report_in, accepted_in, count_reported, k_of, items_in_memory, got_in}
 
 -- what the law sees of one moment on one end of a stream
 pub record Scene : Type 0 where
@@ -26,7 +26,7 @@ scene s side m = record {
 
 -- on the writing side, what was received lay at this place before the moment, so many items
 abbrev pub Brings : Side → Scene → ℕ → ℕ → ℕ → Type 0
-Brings side v g address n = side ≡ Writing → v.got ≡ items_in v.before.payload v.guests g address n
+Brings side v g address n = side ≡ Writing → v.got ≡ items_in_memory v.before.payload v.guests g address n
 
 -- no operation before or after, and a report, if there is one, of no item
 pub record Rests (side : Side) (v : Scene) : Type 0 where

@@ -10,7 +10,7 @@ use Rattle.strm_handles.specs.Handles.{handle_limit, entry_at, next_index, inser
 use Rattle.strm_handles.specs.Lookups.{end_rep_in, error_context_rep_in}
 use Rattle.strm_handles.specs.declared.entries.Entry.TheVariants as entries
 use Rattle.strm_handles.proofs.HandleLemmas.{entry_at-next_index, entry_at-inserted-same, entry_at-inserted-other, entry_at-removed-same, entry_at-removed-other}
-use Rattle.strm_error_contexts.specs.Contexts.{Contexts, is_there, next_number, inserted as with_message, raised, dropped as less}
+use Rattle.strm_error_contexts.specs.Contexts.{Contexts, is_context_there, next_number, inserted as with_message, raised, context_dropped as less}
 use Rattle.strm_machine.specs.Words.{Handles, Entry, removed, State, guest_in, memory_in, sets_in, with_table, is_end, first_of, next_in, IsSound, Act, Make, Reply}
 use Rattle.strm_machine.specs.State.{handles_in_use, places_in_use}
 use Rattle.strm_machine.specs.Tests.{is_unknown_guest, is_no_handle, are_handles_full, are_places_full, are_bytes_out_of_bounds}
@@ -80,7 +80,7 @@ context_fits state g address len e =
 pub record NamesContext (state : State) (g handle : ℕ) : Type 0 where
   pub there : g < length state.guests
   pub entry : entry_at (guest_in state.guests g).handles handle ≡ Some (entries.ErrorContext (context_number state g handle))
-  pub known : is_there state.contexts (context_number state g handle) ≡ true
+  pub known : is_context_there state.contexts (context_number state g handle) ≡ true
 
 slot_entry : (o : Option Entry) → first_of (slot_reasons (error_context_rep_in o)) ≡ None → o ≡ Some (entries.ErrorContext (number_named (error_context_rep_in o)))
 slot_entry None e = cc
@@ -109,7 +109,7 @@ context_names state g handle h e =
 -- a guest that may get a handle to the error context of a number
 pub record ShareFits (state : State) (number g : ℕ) : Type 0 where
   pub there : g < length state.guests
-  pub known : is_there state.contexts number ≡ true
+  pub known : is_context_there state.contexts number ≡ true
   pub handle : HandleFits state g
 
 pub lower_context_fits : (state : State) (number g : ℕ) → first_of (lower_context_reasons state number g) ≡ None → ShareFits state number g
@@ -118,7 +118,7 @@ lower_context_fits state number g e =
     let known = not_refused (is_unknown_context state number) _ _ guest.1 in
     record {
       there = not_le (length state.guests) g guest.0;
-      known = not-false (is_there state.contexts number) known.0;
+      known = not-false (is_context_there state.contexts number) known.0;
       handle = handle_fits state g known.1;
     }
 
@@ -184,7 +184,7 @@ module _ (state : State) (g : ℕ) (h : IsSound state) (there : g < length state
       (HoldsContexts-new state.guests state.contexts g (sets_in state.guests g) h.contexts there message (h.sets g).table is)
 
   -- a handle more to one
-  pub share-tables : (number : ℕ) → is_there state.contexts number ≡ true → next_index table < handle_limit → Tables state (replies.Number (next_in state g)) (given number (raised state.contexts number))
+  pub share-tables : (number : ℕ) → is_context_there state.contexts number ≡ true → next_index table < handle_limit → Tables state (replies.Number (next_in state g)) (given number (raised state.contexts number))
   share-tables number known small =
       given-tables number (raised state.contexts number) (replies.Number (next_in state g)) refl small
       (HoldsContexts-shared state.guests state.contexts g (sets_in state.guests g) h.contexts there number known (h.sets g).table)

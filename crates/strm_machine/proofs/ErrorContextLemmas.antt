@@ -12,7 +12,7 @@ use Rattle.strm_handles.specs.Lookups.{end_rep_in, waitable_set_rep_in, error_co
 use Rattle.strm_handles.specs.declared.entries.Entry.TheVariants as entries
 use Rattle.strm_handles.proofs.HandleLemmas.{given, inserted_sum, sum_by-entries_with}
 use Rattle.strm_resources.proofs.SlotLemmas.{by_eq}
-use Rattle.strm_error_contexts.specs.Contexts.{Context, Contexts, no_contexts, context_at, is_there, handles_of as context_handles, count_at, next_number, new_context, inserted as with_message, with_handles as with_count, counted, raised, lowered, dropped, removed as without, AreKept}
+use Rattle.strm_error_contexts.specs.Contexts.{Context, Contexts, no_contexts, context_at, is_context_there, handles_of_context as context_handles, count_at, next_number, new_context, inserted as with_message, context_with_handles as with_count, context_counted, raised, context_lowered, context_dropped, removed as without, AreContextsKept}
 use Rattle.strm_error_contexts.proofs.KeptLemmas.{kept-none, next_is_free, context_at-inserted, kept-inserted, context_at-counted, kept-counted, context_at-removed, kept-dropped}
 use Rattle.strm_machine.specs.Words.{Guest, Handles, Entry, Sets, State, no_guest, no_handles, guest_in, with_table, removed}
 use Rattle.strm_machine.specs.State.{handles_in_use}
@@ -118,16 +118,16 @@ count_of-with : (n : ℕ) (o : Option Context) → is_some o ≡ true → contex
 count_of-with n None e = cc
 count_of-with n (Some c) e = refl
 
-module _ (contexts : Contexts) (kept : AreKept contexts) where
+module _ (contexts : Contexts) (kept : AreContextsKept contexts) where
   pub count-inserted : (message : List ℕ) (number : ℕ) → count_at (with_message contexts message) number ≡ count_at contexts number + one_if (nat_eq number (next_number contexts))
   count-inserted message number =
       ap context_handles (context_at-inserted contexts kept message number)
       ∙ by_eq number (next_number contexts) (λ t. context_handles (cond t (Some (new_context message)) (context_at contexts number)) ≡ count_at contexts number + one_if t)
-      (λ same. let none : count_at contexts number ≡ 0 = none_counted (context_at contexts number) (ap (is_there contexts) same ∙ next_is_free contexts kept) in omega (arith, none))
+      (λ same. let none : count_at contexts number ≡ 0 = none_counted (context_at contexts number) (ap (is_context_there contexts) same ∙ next_is_free contexts kept) in omega (arith, none))
       (λ apart. omega arith)
 
-module _ (contexts : Contexts) (number : ℕ) (there : is_there contexts number ≡ true) where
-  count-counted : (n other : ℕ) → count_at (counted contexts number n) other ≡ cond (nat_eq other number) n (count_at contexts other)
+module _ (contexts : Contexts) (number : ℕ) (there : is_context_there contexts number ≡ true) where
+  count-counted : (n other : ℕ) → count_at (context_counted contexts number n) other ≡ cond (nat_eq other number) n (count_at contexts other)
   count-counted n other =
       ap context_handles (context_at-counted contexts number there n other)
       ∙ by_eq other number (λ t. context_handles (cond t (option_map (with_count n) (context_at contexts number)) (context_at contexts other)) ≡ cond t n (count_at contexts other))
@@ -141,13 +141,13 @@ module _ (contexts : Contexts) (number : ℕ) (there : is_there contexts number 
       (λ same. ap (λ k. count_at contexts k + 1) (sym same))
       (λ apart. omega arith)
 
-  pub count-dropped : AreKept contexts → (other : ℕ) → count_at (dropped contexts number) other + one_if (nat_eq other number) ≡ count_at contexts other
+  pub count-dropped : AreContextsKept contexts → (other : ℕ) → count_at (context_dropped contexts number) other + one_if (nat_eq other number) ≡ count_at contexts other
   count-dropped kept other = by (nat_lt 1 (count_at contexts number)) refl
     where
       some : 0 < count_at contexts number
       some = kept.handled number there
 
-      by : (t : Bool) → nat_lt 1 (count_at contexts number) ≡ t → count_at (cond t (lowered contexts number) (without contexts number)) other + one_if (nat_eq other number) ≡ count_at contexts other
+      by : (t : Bool) → nat_lt 1 (count_at contexts number) ≡ t → count_at (cond t (context_lowered contexts number) (without contexts number)) other + one_if (nat_eq other number) ≡ count_at contexts other
       by true several =
           ap (λ k. k + one_if (nat_eq other number)) (count-counted (count_at contexts number - 1) other)
           ∙ by_eq other number (λ t. cond t (count_at contexts number - 1) (count_at contexts other) + one_if t ≡ count_at contexts other)
@@ -174,21 +174,21 @@ message-with : (n : ℕ) (o : Option Context) → KeepsMessage o → KeepsMessag
 message-with n None h = h
 message-with n (Some c) h = h
 
-messages-inserted : (contexts : Contexts) → AreKept contexts → (message : List ℕ) → IsMessage message → AreMessages contexts → AreMessages (with_message contexts message)
+messages-inserted : (contexts : Contexts) → AreContextsKept contexts → (message : List ℕ) → IsMessage message → AreMessages contexts → AreMessages (with_message contexts message)
 messages-inserted contexts kept message new h number =
     subst KeepsMessage (sym (context_at-inserted contexts kept message number))
     (by_eq number (next_number contexts) (λ t. KeepsMessage (cond t (Some (new_context message)) (context_at contexts number))) (λ same. new) (λ apart. h number))
 
-module _ (contexts : Contexts) (number : ℕ) (there : is_there contexts number ≡ true) (h : AreMessages contexts) where
-  messages-counted : (n : ℕ) → AreMessages (counted contexts number n)
+module _ (contexts : Contexts) (number : ℕ) (there : is_context_there contexts number ≡ true) (h : AreMessages contexts) where
+  messages-counted : (n : ℕ) → AreMessages (context_counted contexts number n)
   messages-counted n other =
       subst KeepsMessage (sym (context_at-counted contexts number there n other))
       (by_eq other number (λ t. KeepsMessage (cond t (option_map (with_count n) (context_at contexts number)) (context_at contexts other))) (λ same. message-with n (context_at contexts number) (h number)) (λ apart. h other))
 
-  messages-dropped : AreMessages (dropped contexts number)
+  messages-dropped : AreMessages (context_dropped contexts number)
   messages-dropped = by (nat_lt 1 (count_at contexts number))
     where
-      by : (t : Bool) → AreMessages (cond t (lowered contexts number) (without contexts number))
+      by : (t : Bool) → AreMessages (cond t (context_lowered contexts number) (without contexts number))
       by true other = messages-counted (count_at contexts number - 1) other
       by false other =
           subst KeepsMessage (sym (context_at-removed contexts number there other))
@@ -252,7 +252,7 @@ module _ (guests : List Guest) (contexts : Contexts) (g : ℕ) (sets : Sets) (h 
         }
 
     -- a handle more to one
-    pub HoldsContexts-shared : (number : ℕ) → is_there contexts number ≡ true → IsTable table → HoldsContexts (with_table guests g (inserted table (entries.ErrorContext number)) sets) (raised contexts number)
+    pub HoldsContexts-shared : (number : ℕ) → is_context_there contexts number ≡ true → IsTable table → HoldsContexts (with_table guests g (inserted table (entries.ErrorContext number)) sets) (raised contexts number)
     HoldsContexts-shared number is sound =
         let e = entries.ErrorContext number in
         record {
@@ -263,7 +263,7 @@ module _ (guests : List Guest) (contexts : Contexts) (g : ℕ) (sets : Sets) (h 
         }
 
     -- and one less
-    pub HoldsContexts-dropped : (n number : ℕ) → is_there contexts number ≡ true → entry_at table n ≡ Some (entries.ErrorContext number) → HoldsContexts (with_table guests g (removed table n) sets) (dropped contexts number)
+    pub HoldsContexts-dropped : (n number : ℕ) → is_context_there contexts number ≡ true → entry_at table n ≡ Some (entries.ErrorContext number) → HoldsContexts (with_table guests g (removed table n) sets) (context_dropped contexts number)
     HoldsContexts-dropped n number is here = record {
       kept = kept-dropped contexts number is h.kept;
       counted = λ other.
@@ -272,7 +272,7 @@ module _ (guests : List Guest) (contexts : Contexts) (g : ℕ) (sets : Sets) (h 
     }
 
     -- what a handle leads to is there
-    pub named_is_there : (n number : ℕ) → entry_at table n ≡ Some (entries.ErrorContext number) → is_there contexts number ≡ true
+    pub named_is_there : (n number : ℕ) → entry_at table n ≡ Some (entries.ErrorContext number) → is_context_there contexts number ≡ true
     named_is_there n number here =
         let itself : one_if (nat_eq number number) ≡ 1 = ap one_if (nat_eq_equiv.refl number) in
         let least = handles_to-removed number table n (entries.ErrorContext number) here in

@@ -7,7 +7,7 @@ use Rattle.strm_codes.specs.declared.codes.TransmitIndex.TheVariants as index
 use Rattle.strm_handles.specs.Handles.{handle_limit, entry_at, next_index, inserted, IsTable}
 use Rattle.strm_handles.specs.Lookups.{end_rep_in, end_rep_of}
 use Rattle.strm_handles.proofs.HandleLemmas.{IsTable-inserted, IsTable-removed, entry_at-next_index, entry_at-inserted-same, entry_at-inserted-other, entry_at-removed-same, entry_at-removed-other}
-use Rattle.strm_waitable_sets.specs.Sets.{left}
+use Rattle.strm_waitable_sets.specs.Sets.{handle_left}
 use Rattle.strm_machine.specs.State.{idle_end}
 use Rattle.strm_machine.specs.Making.{read_entry, write_entry, end_entry, with_read_end, made_stream, made_pair, with_stream}
 use Rattle.strm_machine.specs.Reactions.{reaction}
@@ -177,7 +177,7 @@ module _ (streams : List Stream) (s : ℕ) (side : Side) (made : s < length stre
   freed_held guests None loose h =
       IsHeld-beside guests streams (owned Loose) s side (owned_beside Loose) (loose_unheld (owner_in streams s side) loose) (ap is_held (owned_here Loose)) h
   freed_held guests (Some f) frees h =
-      IsHeld-removed guests streams (owned Loose) f.0 s side frees.there (owned_beside Loose) h f.1 (left (sets_in guests f.0) f.1) frees.held (ap is_held (owned_here Loose))
+      IsHeld-removed guests streams (owned Loose) f.0 s side frees.there (owned_beside Loose) h f.1 (handle_left (sets_in guests f.0) f.1) frees.held (ap is_held (owned_here Loose))
 
   -- and then a guest gets one, or none does
   taken_held : (guests : List Guest) (entry : Entry) (owner : Owner) (o : Option ℕ) → is_end s side (end_rep_in (Some entry)) ≡ true → IsTaken guests owner o → IsHeld guests (owned Loose) → IsHeld (guests_given guests entry o) (owned owner)

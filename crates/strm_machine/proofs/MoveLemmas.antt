@@ -9,7 +9,7 @@ use Rattle.strm_codes.specs.declared.payloads.Payload.TheVariants.{Nothing}
 use Rattle.std.specs.Prelude.{is_ok}
 use Rattle.strm_handles.specs.Handles.{inserted}
 use Rattle.strm_handles.specs.Lookups.{end_rep_in}
-use Rattle.strm_waitable_sets.specs.Sets.{left}
+use Rattle.strm_waitable_sets.specs.Sets.{handle_left}
 use Rattle.strm_machine.specs.Making.{end_entry}
 use Rattle.strm_machine.specs.Soundness.{type_of, types_of, EntryIsNamed}
 use Rattle.strm_machine.proofs.EndLemmas.{Unchanged, with_end-type}
@@ -22,7 +22,7 @@ use Rattle.strm_machine.proofs.Shapes.{Owning, guests_freed, guests_given, guest
 
 pub length-freed : (guests : List Guest) (o : Option (ℕ × ℕ)) → length (guests_freed guests o) ≡ length guests
 length-freed guests None = refl
-length-freed guests (Some h) = length-set guests h.0 (record (guest_in guests h.0) { handles = removed (guest_in guests h.0).handles h.1; sets = left (sets_in guests h.0) h.1 })
+length-freed guests (Some h) = length-set guests h.0 (record (guest_in guests h.0) { handles = removed (guest_in guests h.0).handles h.1; sets = handle_left (sets_in guests h.0) h.1 })
 
 length-given : (guests : List Guest) (entry : Entry) (o : Option ℕ) → length (guests_given guests entry o) ≡ length guests
 length-given guests entry None = refl
@@ -30,7 +30,7 @@ length-given guests entry (Some g) = length-set guests g (record (guest_in guest
 
 memory_in-freed : (guests : List Guest) (o : Option (ℕ × ℕ)) (k : ℕ) → memory_in (guests_freed guests o) k ≡ memory_in guests k
 memory_in-freed guests None k = refl
-memory_in-freed guests (Some h) k = memory_in-with_table guests h.0 (removed (guest_in guests h.0).handles h.1) (left (sets_in guests h.0) h.1) k
+memory_in-freed guests (Some h) k = memory_in-with_table guests h.0 (removed (guest_in guests h.0).handles h.1) (handle_left (sets_in guests h.0) h.1) k
 
 memory_in-given : (guests : List Guest) (entry : Entry) (o : Option ℕ) (k : ℕ) → memory_in (guests_given guests entry o) k ≡ memory_in guests k
 memory_in-given guests entry None k = refl

@@ -11,7 +11,7 @@ use Rattle.strm_codes.specs.declared.payloads.Payload.TheVariants.{Nothing}
 use Rattle.strm_codes.specs.Sameness.{same_payload}
 use Rattle.strm_codes.proofs.SamenessLemmas.{Decides-same_payload}
 use Rattle.strm_handles.specs.Handles.{entry_in, entry_at}
-use Rattle.strm_handles.specs.Lookups.{typed, stream_in, future_in, end_rep_in, ◌>>=◌}
+use Rattle.strm_handles.specs.Lookups.{end_typed, stream_end_in, future_end_in, end_rep_in, ◌>>=◌}
 use Rattle.strm_handles.specs.declared.entries.Entry.TheVariants as entries
 use Rattle.strm_handles.specs.declared.entries.TransmitEnd.{TransmitEnd}
 use Rattle.strm_handles.specs.declared.entries.TransmitLocalState.{TransmitLocalState}
@@ -35,14 +35,14 @@ pub record NamesStream (types : List TransmitIndex) (ty : TransmitIndex) (name :
   pub typed : get_or types name.0 (index.Stream Nothing) ≡ ty
   pub idle : is_idle_state name.1 ≡ true
 
-typed_names : (types : List TransmitIndex) (of : Payload → TransmitIndex) (p : Payload) (end : TransmitEnd) → IsNamed types (of end.ty) end → IfOk (typed p end >>= (λ e. Ok (e.rep, e.state))) (NamesStream types (of p))
+typed_names : (types : List TransmitIndex) (of : Payload → TransmitIndex) (p : Payload) (end : TransmitEnd) → IsNamed types (of end.ty) end → IfOk (end_typed p end >>= (λ e. Ok (e.rep, e.state))) (NamesStream types (of p))
 typed_names types of p end h = both (same_payload end.ty p) refl
   where
     both : (b : Bool) → same_payload end.ty p ≡ b → IfOk (cond b (Ok end) (Err errors.WrongType) >>= (λ e. Ok (e.rep, e.state))) (NamesStream types (of p))
     both true e = record { there = h.there; typed = h.typed ∙ ap of ((Decides-same_payload end.ty p).0 e); idle = h.idle }
     both false e = tt
 
-stream_names : (types : List TransmitIndex) (p : Payload) (o : Option Entry) → EntryIsNamed types o → IfOk (stream_in p o >>= (λ e. Ok (e.rep, e.state))) (NamesStream types (index.Stream p))
+stream_names : (types : List TransmitIndex) (p : Payload) (o : Option Entry) → EntryIsNamed types o → IfOk (stream_end_in p o >>= (λ e. Ok (e.rep, e.state))) (NamesStream types (index.Stream p))
 stream_names types p None h = tt
 stream_names types p (Some (entries.Stream end)) h = typed_names types index.Stream p end h
 stream_names types p (Some (entries.Future end)) h = tt
@@ -52,7 +52,7 @@ stream_names types p (Some (entries.ErrorContext rep)) h = tt
 stream_names types p (Some (entries.Subtask rep is_host)) h = tt
 stream_names types p (Some (entries.WaitableSet rep)) h = tt
 
-future_names : (types : List TransmitIndex) (p : Payload) (o : Option Entry) → EntryIsNamed types o → IfOk (future_in p o >>= (λ e. Ok (e.rep, e.state))) (NamesStream types (index.Future p))
+future_names : (types : List TransmitIndex) (p : Payload) (o : Option Entry) → EntryIsNamed types o → IfOk (future_end_in p o >>= (λ e. Ok (e.rep, e.state))) (NamesStream types (index.Future p))
 future_names types p None h = tt
 future_names types p (Some (entries.Stream end)) h = tt
 future_names types p (Some (entries.Future end)) h = typed_names types index.Future p end h
@@ -149,14 +149,14 @@ IsNameError errors.Lent = ⊥
 IsNameError errors.TooManyLends = ⊥
 IsNameError errors.OutOfMemory = ⊥
 
-typed_error : (p : Payload) (end : TransmitEnd) → IfErr {T = ℕ × TransmitLocalState} (typed p end >>= (λ e. Ok (e.rep, e.state))) IsNameError
+typed_error : (p : Payload) (end : TransmitEnd) → IfErr {T = ℕ × TransmitLocalState} (end_typed p end >>= (λ e. Ok (e.rep, e.state))) IsNameError
 typed_error p end = both (same_payload end.ty p)
   where
     both : (b : Bool) → IfErr {T = ℕ × TransmitLocalState} (cond b (Ok end) (Err errors.WrongType) >>= (λ e. Ok (e.rep, e.state))) IsNameError
     both true = tt
     both false = tt
 
-stream_error : (p : Payload) (o : Option Entry) → IfErr {T = ℕ × TransmitLocalState} (stream_in p o >>= (λ e. Ok (e.rep, e.state))) IsNameError
+stream_error : (p : Payload) (o : Option Entry) → IfErr {T = ℕ × TransmitLocalState} (stream_end_in p o >>= (λ e. Ok (e.rep, e.state))) IsNameError
 stream_error p None = tt
 stream_error p (Some (entries.Stream end)) = typed_error p end
 stream_error p (Some (entries.Future end)) = tt
@@ -166,7 +166,7 @@ stream_error p (Some (entries.ErrorContext rep)) = tt
 stream_error p (Some (entries.Subtask rep is_host)) = tt
 stream_error p (Some (entries.WaitableSet rep)) = tt
 
-future_error : (p : Payload) (o : Option Entry) → IfErr {T = ℕ × TransmitLocalState} (future_in p o >>= (λ e. Ok (e.rep, e.state))) IsNameError
+future_error : (p : Payload) (o : Option Entry) → IfErr {T = ℕ × TransmitLocalState} (future_end_in p o >>= (λ e. Ok (e.rep, e.state))) IsNameError
 future_error p None = tt
 future_error p (Some (entries.Stream end)) = tt
 future_error p (Some (entries.Future end)) = typed_error p end

@@ -12,7 +12,7 @@ use Rattle.strm_codes.specs.declared.codes.TransmitIndex.TheVariants as index
 use Rattle.strm_memory.specs.Items.{is_number_or_none}
 use Rattle.strm_machine.specs.State.{memory_limit, guest_limit, stream_limit, handles_in_use, bytes_in_use}
 use Rattle.strm_machine.specs.Meetings.{begun}
-use Rattle.strm_machine.specs.Tests.{is_no_handle, are_handles_full, are_places_full, are_streams_full, is_memory_too_big, are_guests_full, is_unknown_guest, are_bytes_out_of_bounds, side_named, is_too_big, items_asked, is_out_of_bounds, is_busy, owes_value, is_open_of, is_within_one_guest, is_unknown_reader, same_kind, is_of_other_kind, is_of_other_payload}
+use Rattle.strm_machine.specs.Tests.{is_no_handle, are_handles_full, are_places_full, are_streams_full, is_memory_too_big, are_guests_full, is_unknown_guest, are_bytes_out_of_bounds, side_named, is_too_big, items_asked, names_out_of_bounds, is_busy, owes_value, is_open_of, is_within_one_guest, is_unknown_reader, same_kind, is_of_other_kind, is_of_other_payload}
 use Rattle.strm_handles.specs.Handles.{handle_limit, next_index}
 use Rattle.strm_codes.specs.Counts.{count_limit}
 use Rattle.strm_machine.specs.Making.{writer_index}
@@ -89,7 +89,7 @@ none_of_both (x ∷ xs) ys e = both x.holds (none_of_both xs ys) e
 pub record RegionFits (state : State) (g : ℕ) (ty : TransmitIndex) (address count : ℕ) : Type 0 where
   pub there : g < length state.guests
   pub counted : items_asked ty count < count_limit
-  pub inside : is_out_of_bounds state g ty address count ≡ false
+  pub inside : names_out_of_bounds state g ty address count ≡ false
 
 counted_asked : (ty : TransmitIndex) (count : ℕ) → is_too_big ty count ≡ false → items_asked ty count < count_limit
 counted_asked (index.Stream payload) count e = not_le count_limit count e
@@ -99,7 +99,7 @@ pub region_fits : (state : State) (g : ℕ) (ty : TransmitIndex) (address count 
 region_fits state g ty address count e =
     let first = not_refused (is_unknown_guest state g) _ _ e in
     let second = not_refused (is_too_big ty count) _ _ first.1 in
-    let third = not_refused (is_out_of_bounds state g ty address count) _ _ second.1 in
+    let third = not_refused (names_out_of_bounds state g ty address count) _ _ second.1 in
     record { there = not_le (length state.guests) g first.0; counted = counted_asked ty count second.0; inside = third.0 }
 
 pub placed_begun : (state : State) (g : ℕ) (ty : TransmitIndex) (address count : ℕ) (payload : Payload) → payload ≡ payload_of ty → RegionFits state g ty address count → IsPlaced (sizes_of state.guests) payload (begun g address (items_asked ty count))

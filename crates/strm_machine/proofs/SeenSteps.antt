@@ -3,7 +3,7 @@ use Rattle.std.proofs.Common.{◌≡◌, ℕ, zero, suc, ◌+◌, ◌-◌, ◌^�
 use Rattle.std.specs.Prelude.{All, IsSome, ◌⊎◌, ◌==◌, ◌&&◌}
 use Rattle.std.proofs.lemmas.Bool.{cond-true, cases_eq, ne_eqb}
 use Rattle.std.proofs.lemmas.List.{get_or-set_same, set-get_or, get_or-set_other}
-use Rattle.strm_machine.specs.Words.{Guest, ReturnCode, TransmitIndex, State, no_stream, stream_at, opposite, same_side, end_of, with_end, Turn, named, stream_named, sizes_of, both_open, Reaction, goes, written_back, operates, Moment, names, as_report, report_in, accepted, k_of, items_in, received, NamedEnd, Act, Make, Side, Writing, Reading, Operation, End, Stream, Reply, IsSound}
+use Rattle.strm_machine.specs.Words.{Guest, ReturnCode, TransmitIndex, State, no_stream, stream_at, opposite, same_side, end_of, with_end, Turn, named, stream_named, sizes_of, both_open, Reaction, goes, written_back, operates, Moment, names, as_report, report_in, accepted, k_of, items_in_memory, received, NamedEnd, Act, Make, Side, Writing, Reading, Operation, End, Stream, Reply, IsSound}
 use Rattle.strm_machine.specs.Making.{made_stream, made_pair, with_stream}
 use Rattle.strm_machine.specs.State.{with_bytes}
 use Rattle.strm_machine.specs.Reactions.{written, reaction, makes}
@@ -50,7 +50,7 @@ seen here r act reply before after guests others =
       guests = guests;
       taken = cond here (accepted act reply report) [];
       report = report;
-      got = items_in before.payload others place.guest place.address (after.received - before.received);
+      got = items_in_memory before.payload others place.guest place.address (after.received - before.received);
     }
 
 module _ (end : NamedEnd) (address count : ℕ) (code : ReturnCode) (before after : Stream) (guests : List Guest) (t : Turn) where

@@ -11,7 +11,7 @@ use Rattle.strm_handles.specs.Handles.{handle_limit, entry_at, next_index, inser
 use Rattle.strm_handles.specs.Lookups.{end_rep_in, end_rep_of, waitable_set_rep_in}
 use Rattle.strm_handles.specs.declared.entries.Entry.TheVariants as entries
 use Rattle.strm_handles.proofs.HandleLemmas.{entry_at-next_index, entry_at-inserted-same, entry_at-inserted-other, entry_at-removed-same, entry_at-removed-other}
-use Rattle.strm_waitable_sets.specs.Sets.{is_member, members, least_free, with_new_set, joined, left, without_set, HasMember, HasNoMember, IsLeastReady, NoneReady}
+use Rattle.strm_waitable_sets.specs.Sets.{is_member, members, least_free, with_new_set, handle_joined, handle_left, without_set, HasMember, HasNoMember, IsLeastReady, NoneReady}
 use Rattle.strm_waitable_sets.proofs.SetLemmas.{among_members, found_member, least_found, none_found}
 use Rattle.strm_machine.specs.State.{handles_in_use, places_in_use}
 use Rattle.strm_machine.specs.Endings.{delivered}
@@ -142,7 +142,7 @@ module _ (state : State) (g set handle : ℕ) (h : IsSound state) (there : g < l
   sets = sets_in state.guests g
 
   -- set 0 is none, and any other is found
-  joined_holds : (b : Bool) → first_of (cond b [] (slot_reasons (set_named state g set))) ≡ None → is_ok (end_rep_of table handle) ≡ true → HoldsSets table (cond b (left sets handle) (joined sets handle (number_named (set_named state g set))))
+  joined_holds : (b : Bool) → first_of (cond b [] (slot_reasons (set_named state g set))) ≡ None → is_ok (end_rep_of table handle) ≡ true → HoldsSets table (cond b (handle_left sets handle) (handle_joined sets handle (number_named (set_named state g set))))
   joined_holds true e is = HoldsSets-left table sets (h.sets g) handle
   joined_holds false e is =
       let number = number_named (set_named state g set) in

@@ -5,7 +5,7 @@ use Rattle.strm_handles.specs.Handles.{handle_limit, next_index, inserted}
 use Rattle.strm_handles.specs.Lookups.{end_rep_of}
 use Rattle.strm_machine.specs.Meetings.{begun}
 use Rattle.strm_machine.specs.Making.{end_entry}
-use Rattle.strm_waitable_sets.specs.Sets.{left}
+use Rattle.strm_waitable_sets.specs.Sets.{handle_left}
 use Rattle.strm_memory.specs.Bytes.{IsBytes}
 use Rattle.strm_error_contexts.specs.Contexts.{Contexts}
 use Rattle.strm_machine.specs.State.{is_host, with_bytes}
@@ -77,7 +77,7 @@ pub record Owning : Type 0 where
 
 abbrev pub guests_freed : List Guest → Option (ℕ × ℕ) → List Guest
 guests_freed guests None = guests
-guests_freed guests (Some h) = with_table guests h.0 (removed (guest_in guests h.0).handles h.1) (left (sets_in guests h.0) h.1)
+guests_freed guests (Some h) = with_table guests h.0 (removed (guest_in guests h.0).handles h.1) (handle_left (sets_in guests h.0) h.1)
 
 abbrev pub guests_given : List Guest → Entry → Option ℕ → List Guest
 guests_given guests entry None = guests

@@ -12,7 +12,7 @@ use Rattle.strm_codes.specs.declared.codes.TransmitIndex.TheVariants as index
 use Rattle.strm_codes.specs.declared.payloads.Payload.TheVariants.{Nothing}
 use Rattle.strm_handles.specs.Handles.{handle_limit, entry_at, next_index, inserted, inserted_in, entries_with}
 use Rattle.strm_handles.specs.Lookups.{end_rep_in}
-use Rattle.strm_waitable_sets.specs.Sets.{left}
+use Rattle.strm_waitable_sets.specs.Sets.{handle_left}
 use Rattle.strm_error_contexts.specs.Contexts.{Contexts}
 use Rattle.strm_handles.specs.declared.entries.Entry.TheVariants as entries
 use Rattle.strm_handles.specs.declared.entries.TransmitEnd.{TransmitEnd}
@@ -239,10 +239,10 @@ IsSound-freed state g handle ok h =
     let types = types_of state.streams in
     let guest = guest_in state.guests g in
     let found = end_some (entry_at guest.handles handle) ok in
-    IsSound-table state g (removed guest.handles handle) (left guest.sets handle) state.contexts
+    IsSound-table state g (removed guest.handles handle) (handle_left guest.sets handle) state.contexts
     (AreNamed-removed types guest.handles handle (AreNamed-at types state.guests g h.named))
     (HoldsSets-freed guest.handles guest.sets (h.sets g) handle ok)
-    (HoldsContexts-freed state.guests state.contexts g (left guest.sets handle) h.contexts handle found.0 found.1
+    (HoldsContexts-freed state.guests state.contexts g (handle_left guest.sets handle) h.contexts handle found.0 found.1
     (λ number. end_leads_nowhere number (Some found.0) (ap (λ o. is_ok (end_rep_in o)) (sym found.1) ∙ ok))) h
 
 -- and one is given, for an end of a stream of its type
@@ -268,14 +268,14 @@ pub asked-placed : (sizes : List ℕ) (payload : Payload) (o : Operation) → Is
 asked-placed sizes payload o h = record { there = h.there; inside = h.inside; counted = h.counted }
 
 with_end-placed : (side : Side) (sizes : List ℕ) (stream : Stream) (e : End) → IsLeft (end_of side stream).operation e.operation → StreamIsPlaced sizes stream → StreamIsPlaced sizes (with_end side stream e)
-with_end-placed Writing sizes stream e left h = record { writer = left_by (OperationIsPlaced sizes stream.payload) stream.writer.operation e.operation left h.writer tt (asked-placed sizes stream.payload); reader = h.reader }
-with_end-placed Reading sizes stream e left h = record { writer = h.writer; reader = left_by (OperationIsPlaced sizes stream.payload) stream.reader.operation e.operation left h.reader tt (asked-placed sizes stream.payload) }
+with_end-placed Writing sizes stream e handle_left h = record { writer = left_by (OperationIsPlaced sizes stream.payload) stream.writer.operation e.operation handle_left h.writer tt (asked-placed sizes stream.payload); reader = h.reader }
+with_end-placed Reading sizes stream e handle_left h = record { writer = h.writer; reader = left_by (OperationIsPlaced sizes stream.payload) stream.reader.operation e.operation handle_left h.reader tt (asked-placed sizes stream.payload) }
 
 -- an end of one stream is another, with its operation or none
 pub IsSound-set : (state : State) (s : ℕ) (side : Side) (e : End) → s < length state.streams → IsLeft (end_of side (stream_at state s)).operation e.operation → IsSound state → IsSound (record state { streams = set state.streams s (with_end side (stream_at state s) e) })
-IsSound-set state s side e l left h =
+IsSound-set state s side e l handle_left h =
     let stream = stream_at state s in
-    IsSound-stream state s (with_end side stream e) (with_end-type side stream e) (with_end-placed side (sizes_of state.guests) stream e left (placed_at state s l h)) h
+    IsSound-stream state s (with_end side stream e) (with_end-type side stream e) (with_end-placed side (sizes_of state.guests) stream e handle_left (placed_at state s l h)) h
 
 -- an operation whose end is told
 pub left_told : (code : Option ReturnCode) (o : Option Operation) → IsLeft o (left_pending code o)

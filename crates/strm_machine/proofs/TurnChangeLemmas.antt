@@ -5,7 +5,7 @@ use Rattle.std.proofs.lemmas.Bool.{cond_both, eqb-true, le-ltb}
 use Rattle.std.proofs.lemmas.List.{length-map}
 use Rattle.std.proofs.lemmas.List.Elements.{All-nil}
 use Rattle.strm_codes.specs.Codes.{completed_code}
-use Rattle.strm_machine.specs.Words.{Guest, scalars_of, ReturnCode, TransmitKind, AStream, Future, Payload, opposite, same_side, end_of, with_end, with_operation, advanced, carried, Turn, with_received, sizes_of, IsPlaced, OperationIsPlaced, Side, Writing, Reading, Operation, Stream, Call, as_report, count_reported, k_of, items_in, both_open}
+use Rattle.strm_machine.specs.Words.{Guest, scalars_of, ReturnCode, TransmitKind, AStream, Future, Payload, opposite, same_side, end_of, with_end, with_operation, advanced, carried, Turn, with_received, sizes_of, IsPlaced, OperationIsPlaced, Side, Writing, Reading, Operation, Stream, Call, as_report, count_reported, k_of, items_in_memory, both_open}
 use Rattle.strm_codes.specs.declared.codes.ReturnCode.TheVariants as codes
 use Rattle.strm_machine.specs.Endings.{asked_to_finish}
 use Rattle.strm_machine.specs.State.{is_gone}
@@ -13,7 +13,7 @@ use Rattle.strm_machine.specs.Sides.{write_of, read_of}
 use Rattle.strm_machine.specs.Turns.{answers, waits, moves, completes_alone, rendezvous_by, rendezvous, finds, turn}
 use Rattle.strm_machine.specs.declared.streams.Meeting.{Meeting}
 use Rattle.strm_machine.proofs.SideLemmas.{read_of-placed}
-use Rattle.strm_machine.specs.Moments.{Place, place_of}
+use Rattle.strm_machine.specs.Moments.{MemoryPlace, place_of}
 use Rattle.strm_machine.specs.Soundness.{is_opened, IsUnmoved}
 use Rattle.strm_machine.proofs.Changes.{Scene, Change, ByRest, ByGoing, ByOpening, ByServing}
 use Rattle.strm_machine.proofs.EndLemmas.{each_side, apart_by, write_mine, write_theirs, read_fits, write_none, read_none, IsTurned, turned_not, turned_end, turned_both, turned_moves}
@@ -31,13 +31,13 @@ taken_by side other mine code =
     cond (same_side side other) (record { guest = mine.guest; address = mine.address; asked = mine.left; report = report_by side other code } ∷ []) []
 
 -- where items are received, and which
-abbrev pub place_by : Side → Stream → Operation → Place
+abbrev pub place_by : Side → Stream → Operation → MemoryPlace
 place_by Writing stream mine = place_of stream.reader.operation
 place_by Reading stream mine = record { guest = mine.guest; address = mine.address }
 
 abbrev pub got_by : Side → Stream → Operation → Turn → List (Option (List ℤ))
 got_by side stream mine t =
-    items_in stream.payload t.guests (place_by side stream mine).guest (place_by side stream mine).address (t.stream.received - stream.received)
+    items_in_memory stream.payload t.guests (place_by side stream mine).guest (place_by side stream mine).address (t.stream.received - stream.received)
 
 abbrev pub scene_of : Side → Side → List Guest → Stream → Operation → ReturnCode → Turn → Scene
 scene_of side other guests stream mine code t = record {
@@ -80,14 +80,14 @@ taken-theirs Reading mine code = refl
 
 -- ## Where the count stays
 
-pub none_got : (payload : Payload) (guests : List Guest) (g address a b : ℕ) → a ≡ b → items_in payload guests g address (a - b) ≡ []
+pub none_got : (payload : Payload) (guests : List Guest) (g address a b : ℕ) → a ≡ b → items_in_memory payload guests g address (a - b) ≡ []
 none_got payload guests g address a b e = decoded-zero (scalars_of payload) _ (a - b) (omega arith)
 
-pub none_whole : (payload : Payload) (guests : List Guest) (g address a b : ℕ) → a ≡ b → All IsSome (items_in payload guests g address (a - b))
+pub none_whole : (payload : Payload) (guests : List Guest) (g address a b : ℕ) → a ≡ b → All IsSome (items_in_memory payload guests g address (a - b))
 none_whole payload guests g address a b e = subst (All IsSome) (sym (none_got payload guests g address a b e)) (All-nil IsSome)
 
 -- as many were received as none
-none_brought : (payload : Payload) (guests others : List Guest) (g address h place a b n : ℕ) → a ≡ b → n ≡ 0 → items_in payload guests g address (a - b) ≡ items_in payload others h place n
+none_brought : (payload : Payload) (guests others : List Guest) (g address h place a b n : ℕ) → a ≡ b → n ≡ 0 → items_in_memory payload guests g address (a - b) ≡ items_in_memory payload others h place n
 none_brought payload guests others g address h place a b n e f = none_got payload guests g address a b e ∙ sym (decoded-zero (scalars_of payload) _ n f)
 
 module _ (side : Side) (v : Scene) (taken : v.taken ≡ []) (report : v.report ≡ None) (nothing : v.got ≡ []) (payload : v.after.payload ≡ v.before.payload) (same : v.after.received ≡ v.before.received) where
@@ -127,14 +127,14 @@ module _ (side : Side) (v : Scene) (taken : v.taken ≡ []) (report : v.report �
 pub rose : (r n : ℕ) → r + 2 ^ 28 < 2 ^ 128 → n < 2 ^ 28 → min (r + n) (2 ^ 128 - 1) ≡ r + n
 rose r n h l = omega arith
 
-got_at : (payload : Payload) (guests : List Guest) (o : Option Operation) (p : Operation) (k n : ℕ) → o ≡ Some p → k ≡ n → items_in payload guests (place_of o).guest (place_of o).address k ≡ items_in payload guests p.guest p.address n
+got_at : (payload : Payload) (guests : List Guest) (o : Option Operation) (p : Operation) (k n : ℕ) → o ≡ Some p → k ≡ n → items_in_memory payload guests (place_of o).guest (place_of o).address k ≡ items_in_memory payload guests p.guest p.address n
 got_at payload guests o p k n e f = rw (e, f) refl
 
 -- items are received where the read of the two has its own
 module _ (stream : Stream) (mine theirs : Operation) (t : Turn) (n : ℕ) (rise : t.stream.received - stream.received ≡ n) where
-  got_moved : (side : Side) → (end_of (opposite side) stream).operation ≡ Some theirs → got_by side stream mine t ≡ items_in stream.payload t.guests (read_of side mine theirs).guest (read_of side mine theirs).address n
+  got_moved : (side : Side) → (end_of (opposite side) stream).operation ≡ Some theirs → got_by side stream mine t ≡ items_in_memory stream.payload t.guests (read_of side mine theirs).guest (read_of side mine theirs).address n
   got_moved Writing is = got_at stream.payload t.guests stream.reader.operation theirs (t.stream.received - stream.received) n is rise
-  got_moved Reading is = ap (λ j. items_in stream.payload t.guests mine.guest mine.address j) rise
+  got_moved Reading is = ap (λ j. items_in_memory stream.payload t.guests mine.guest mine.address j) rise
 
 report-completed : (kind : TransmitKind) (n : ℕ) → as_report (Some (completed_code kind n)) ≡ Some (completed_code kind n)
 report-completed AStream n = refl
@@ -286,10 +286,10 @@ module _ (side : Side) (guests : List Guest) (stream : Stream) (mine : Operation
       let t = turned_moves stream p n side None before.idle in
       let code = completed_code stream.kind n in
       let turned = answers code after new in
-      let got : got_by side stream mine turned ≡ items_in stream.payload after read.guest read.address n = got_moved stream mine theirs turned n (omega (arith, more, t.count)) side h.is in
+      let got : got_by side stream mine turned ≡ items_in_memory stream.payload after read.guest read.address n = got_moved stream mine theirs turned n (omega (arith, more, t.count)) side h.is in
       let count = count_reported-completed stream.kind n h.one in
       let one : stream.kind ≡ Future → IsOne p = λ f. IsOne-advanced stream.payload theirs n h.ready (h.one f) (one_at found theirs h.is (one_on (opposite side) stream (before.tallies.one f))) in
-      let came : (o : Operation) → write ≡ o → got_by side stream mine turned ≡ items_in stream.payload guests o.guest o.address n = λ o f. got ∙ arrives.brings ∙ ap (λ w. items_in stream.payload guests w.guest w.address n) f in
+      let came : (o : Operation) → write ≡ o → got_by side stream mine turned ≡ items_in_memory stream.payload guests o.guest o.address n = λ o f. got ∙ arrives.brings ∙ ap (λ w. items_in_memory stream.payload guests w.guest w.address n) f in
       record {
         change = each_side (λ other. Change other (scene_of side other guests stream mine code turned)) side
             (ByServing mine.guest mine.address mine.left code (record {
@@ -299,7 +299,7 @@ module _ (side : Side) (guests : List Guest) (stream : Stream) (mine : Operation
               report = report-mine side code ∙ report-completed stream.kind n;
               within = omega (arith, count);
               more = t.count ∙ more ∙ ap (λ j. stream.received + j) (sym count);
-              brings = λ f. came mine (write_mine mine theirs side f) ∙ ap (λ j. items_in stream.payload guests mine.guest mine.address j) (sym count);
+              brings = λ f. came mine (write_mine mine theirs side f) ∙ ap (λ j. items_in_memory stream.payload guests mine.guest mine.address j) (sym count);
             }))
             (ByGoing theirs p n (record {
               was = h.is;

@@ -11,7 +11,7 @@ use Rattle.strm_machine.proofs.SoundStepLemmas.{operate-keeps, poke-keeps}
 use Rattle.strm_machine.proofs.Shapes.{operating, stream_on, begun_on, turn_on, Operates, set_by, owned_by, tabled_by, Puts, Shape, ByTurn, BySetting, ByOwner, ByTable, ByPair, ByGuest, ByPut, ByRest}
 use Rattle.strm_machine.proofs.ShapeLemmas.{reaction-shape}
 use Rattle.strm_machine.proofs.TurnChangeLemmas.{place_by, rose, there}
-use Rattle.strm_machine.specs.Moments.{Place, place_of, read_place, target}
+use Rattle.strm_machine.specs.Moments.{MemoryPlace, place_of, read_place, target}
 use Rattle.strm_machine.specs.Untouched.{LiesApart, Region, StaysAside, bytes_of, put_by, received_by}
 use Rattle.strm_machine.proofs.BoundLemmas.{within, bytes_inside}
 use Rattle.strm_machine.proofs.CarryLemmas.{carried-nothing}
@@ -128,7 +128,7 @@ carried_stays guests after payload write read n there fit placed e r l apart =
 
 -- ## A read or write
 
-region_same : (p q : Place) (a b : ℕ) → p ≡ q → a ≡ b → ◌≡◌ {A = Region} (record { place = p; size = a }) (record { place = q; size = b })
+region_same : (p q : MemoryPlace) (a b : ℕ) → p ≡ q → a ≡ b → ◌≡◌ {A = Region} (record { place = p; size = a }) (record { place = q; size = b })
 region_same p q a b e f = rw (e, f) refl
 
 -- where items are received in the turn of a call

@@ -12,8 +12,8 @@ use Rattle.strm_handles.specs.Handles.{handle_limit, entry_at, next_index, inser
 use Rattle.strm_handles.specs.Lookups.{end_rep_in, end_rep_of, waitable_set_rep_in}
 use Rattle.strm_handles.specs.declared.entries.Entry.TheVariants as entries
 use Rattle.strm_handles.proofs.HandleLemmas.{IsTable-no_handles, IsTable-inserted, IsTable-removed, entry_at-next_index, entry_at-inserted-same, entry_at-inserted-other, entry_at-removed-same, entry_at-removed-other}
-use Rattle.strm_waitable_sets.specs.Sets.{is_there, is_number, is_member, least_free, with_new_set, joined, left, without_set}
-use Rattle.strm_waitable_sets.proofs.SetLemmas.{is_member-left_same, is_member-left_other, is_member-joined_same, is_member-joined_other, is_there-free, is_there-new, is_there-new_other, is_there-without_same, is_there-without_other}
+use Rattle.strm_waitable_sets.specs.Sets.{is_set_there, is_number, is_member, least_free, with_new_set, handle_joined, handle_left, without_set}
+use Rattle.strm_waitable_sets.proofs.SetLemmas.{is_member-left_same, is_member-left_other, is_member-joined_same, is_member-joined_other, is_set_there-free, is_set_there-new, is_set_there-new_other, is_set_there-without_same, is_set_there-without_other}
 use Rattle.strm_machine.specs.Soundness.{handles_of, NamesSet}
 use Rattle.strm_machine.proofs.TurnLemmas.{sets_of}
 use Rattle.strm_machine.proofs.TableLemmas.{handles-same, handles-more, sets-more}
@@ -64,12 +64,12 @@ module _ (old new : Handles) (n : ℕ) (same : (i : ℕ) → i ≢ n → entry_a
 
 module _ (handles : Handles) (sets : Sets) (h : HoldsSets handles sets) where
   -- a member of the sets that a handle left is another, and was one
-  stayed : (handle k number : ℕ) → is_member (left sets handle) number k ≡ true → (k ≢ handle) × (is_member sets number k ≡ true)
+  stayed : (handle k number : ℕ) → is_member (handle_left sets handle) number k ≡ true → (k ≢ handle) × (is_member sets number k ≡ true)
   stayed handle k number m =
-      let ne : k ≢ handle = λ e. let none = ap (is_member (left sets handle) number) e ∙ is_member-left_same sets handle number in let wrong : true ≡ false = sym m ∙ none in cc in
+      let ne : k ≢ handle = λ e. let none = ap (is_member (handle_left sets handle) number) e ∙ is_member-left_same sets handle number in let wrong : true ≡ false = sym m ∙ none in cc in
       (ne, sym (is_member-left_other sets handle number k ne) ∙ m)
 
-  pub HoldsSets-left : (handle : ℕ) → HoldsSets handles (left sets handle)
+  pub HoldsSets-left : (handle : ℕ) → HoldsSets handles (handle_left sets handle)
   HoldsSets-left handle = record {
     table = h.table;
     there = h.there;
@@ -79,7 +79,7 @@ module _ (handles : Handles) (sets : Sets) (h : HoldsSets handles sets) where
     kept = λ k number m. h.kept k number (stayed handle k number m).1;
   }
 
-  pub HoldsSets-joined : (handle number : ℕ) → is_ok (end_rep_of handles handle) ≡ true → is_there sets number ≡ true → HoldsSets handles (joined sets handle number)
+  pub HoldsSets-joined : (handle number : ℕ) → is_ok (end_rep_of handles handle) ≡ true → is_set_there sets number ≡ true → HoldsSets handles (handle_joined sets handle number)
   HoldsSets-joined handle number is there = record {
     table = h.table;
     there = h.there;
@@ -90,8 +90,8 @@ module _ (handles : Handles) (sets : Sets) (h : HoldsSets handles sets) where
       | inr ne ↦ h.members k home (sym (is_member-joined_other sets handle number home k ne) ∙ m)
     ];
     kept = λ k home m. elim (cases_eq k handle) [
-      | inl e ↦ (let here : nat_eq number home ≡ true = sym (is_member-joined_same sets handle number home) ∙ ap (is_member (joined sets handle number) home) (sym e) ∙ m in
-          ap (is_there sets) (sym (eqb-true number home here)) ∙ there)
+      | inl e ↦ (let here : nat_eq number home ≡ true = sym (is_member-joined_same sets handle number home) ∙ ap (is_member (handle_joined sets handle number) home) (sym e) ∙ m in
+          ap (is_set_there sets) (sym (eqb-true number home here)) ∙ there)
       | inr ne ↦ h.kept k home (sym (is_member-joined_other sets handle number home k ne) ∙ m)
     ];
   }
@@ -108,7 +108,7 @@ module _ (handles : Handles) (sets : Sets) (h : HoldsSets handles sets) where
       ]
 
   -- an end's, which leaves its set
-  pub HoldsSets-freed : (handle : ℕ) → is_ok (end_rep_of handles handle) ≡ true → HoldsSets (removed handles handle) (left sets handle)
+  pub HoldsSets-freed : (handle : ℕ) → is_ok (end_rep_of handles handle) ≡ true → HoldsSets (removed handles handle) (handle_left sets handle)
   HoldsSets-freed handle is =
       let found = end_some (entry_at handles handle) is in
       let new = removed handles handle in
@@ -149,23 +149,23 @@ module _ (handles : Handles) (sets : Sets) (h : HoldsSets handles sets) where
       let same : (i : ℕ) → i ≢ handle → entry_at new i ≡ entry_at handles i = λ i ne. entry_at-removed-other handles handle i ne in
       let other : (k home : ℕ) → NamesSet new k home → k ≢ handle = λ k home e f. let gone = ap (λ i. waitable_set_rep_in (entry_at new i)) f ∙ ap waitable_set_rep_in (entry_at-removed-same handles handle) in cc in
       let was : (k home : ℕ) → NamesSet new k home → NamesSet handles k home = λ k home e. set_was handles new handle same k home (other k home e) e in
-      let beside : (home : ℕ) → is_there (without_set sets number) home ≡ true → home ≢ number = λ home t f. let gone = ap (is_there (without_set sets number)) f ∙ is_there-without_same sets number in let wrong : true ≡ false = sym t ∙ gone in cc in
+      let beside : (home : ℕ) → is_set_there (without_set sets number) home ≡ true → home ≢ number = λ home t f. let gone = ap (is_set_there (without_set sets number)) f ∙ is_set_there-without_same sets number in let wrong : true ≡ false = sym t ∙ gone in cc in
       record {
         table = IsTable-removed handles handle found.0 found.1 h.table;
         there = λ k home e.
             let ne : home ≢ number = λ f. other k home e (h.single k handle number (subst (NamesSet handles k) f (was k home e)) names) in
-            is_there-without_other sets number home ne ∙ h.there k home (was k home e);
+            is_set_there-without_other sets number home ne ∙ h.there k home (was k home e);
         single = λ a b home e f. h.single a b home (was a home e) (was b home f);
         named = λ home t.
             let ne = beside home t in
-            let k = h.named home (sym (is_there-without_other sets number home ne) ∙ t) in
+            let k = h.named home (sym (is_set_there-without_other sets number home ne) ∙ t) in
             (k.0, set_stays handles new handle same k.0 home (λ f. ne (let g : NamesSet handles handle home = subst (λ i. NamesSet handles i home) f k.1 in cc)) k.1);
         members = λ k home m.
             let is = h.members k home m in
             end_stays handles new handle same k (λ f. set_no_end (entry_at handles handle) number names (subst (λ i. is_ok (end_rep_of handles i) ≡ true) f is)) is;
         kept = λ k home m.
             let ne : home ≢ number = λ f. let wrong : true ≡ false = sym m ∙ ap (λ i. is_member sets i k) f ∙ none k in cc in
-            is_there-without_other sets number home ne ∙ h.kept k home m;
+            is_set_there-without_other sets number home ne ∙ h.kept k home m;
       }
 
   -- ## A handle more
@@ -225,15 +225,15 @@ module _ (handles : Handles) (sets : Sets) (h : HoldsSets handles sets) where
         let free = least_free sets in
         let number_here : (k number : ℕ) → NamesSet new k number → k ≡ n → number ≡ free = λ k number f at. let r = here k number f at in let s = ap (λ x. waitable_set_rep_in (Some x)) is in cc in
         let was : (k number : ℕ) → NamesSet new k number → k ≢ n → NamesSet handles k number = λ k number f ne. set_was handles new n same k number ne f in
-        let older : (k number : ℕ) → NamesSet new k number → k ≢ n → number ≢ free = λ k number f ne at. let t : is_there sets free ≡ true = ap (is_there sets) (sym at) ∙ h.there k number (was k number f ne) in let wrong : true ≡ false = sym t ∙ is_there-free sets in cc in
-        let more : (number : ℕ) → is_there sets number ≡ true → is_there (with_new_set sets) number ≡ true = λ number t. elim (cases_eq number free) [
-          | inl at ↦ ap (is_there (with_new_set sets)) at ∙ is_there-new sets
-          | inr ne ↦ is_there-new_other sets number ne ∙ t
+        let older : (k number : ℕ) → NamesSet new k number → k ≢ n → number ≢ free = λ k number f ne at. let t : is_set_there sets free ≡ true = ap (is_set_there sets) (sym at) ∙ h.there k number (was k number f ne) in let wrong : true ≡ false = sym t ∙ is_set_there-free sets in cc in
+        let more : (number : ℕ) → is_set_there sets number ≡ true → is_set_there (with_new_set sets) number ≡ true = λ number t. elim (cases_eq number free) [
+          | inl at ↦ ap (is_set_there (with_new_set sets)) at ∙ is_set_there-new sets
+          | inr ne ↦ is_set_there-new_other sets number ne ∙ t
         ] in
         record {
           table = table;
           there = λ k number f. elim (cases_eq k n) [
-            | inl at ↦ ap (is_there (with_new_set sets)) (number_here k number f at) ∙ is_there-new sets
+            | inl at ↦ ap (is_set_there (with_new_set sets)) (number_here k number f at) ∙ is_set_there-new sets
             | inr ne ↦ more number (h.there k number (was k number f ne))
           ];
           single = λ a b number f g. elim (cases_eq a n) [
@@ -248,7 +248,7 @@ module _ (handles : Handles) (sets : Sets) (h : HoldsSets handles sets) where
           ];
           named = λ number t. elim (cases_eq number free) [
             | inl at ↦ (n, ap waitable_set_rep_in (entry_at-inserted-same handles e h.table) ∙ ap (λ x. waitable_set_rep_in (Some x)) is ∙ ap Ok (sym at))
-            | inr ne ↦ (let k = h.named number (sym (is_there-new_other sets number ne) ∙ t) in (k.0, still k.0 number k.1))
+            | inr ne ↦ (let k = h.named number (sym (is_set_there-new_other sets number ne) ∙ t) in (k.0, still k.0 number k.1))
           ];
           members = ends;
           kept = λ k number m. more number (h.kept k number m);

@@ -10,7 +10,7 @@ use Rattle.strm_handles.specs.declared.entries.Entry.{Entry}
 use Rattle.strm_handles.specs.declared.entries.Entry.TheVariants as entries
 use Rattle.strm_handles.specs.declared.errors.HandleError.{HandleError}
 use Rattle.strm_memory.specs.Bytes.{bytes_at}
-use Rattle.strm_error_contexts.specs.Contexts.{Contexts, is_there, message_at, next_number, inserted as with_message, raised, dropped}
+use Rattle.strm_error_contexts.specs.Contexts.{Contexts, is_context_there, message_at, next_number, inserted as with_message, raised, context_dropped}
 use Rattle.strm_machine.specs.State.{State, Guest, guest_in, memory_in, with_handles}
 use Rattle.strm_machine.specs.WaitableSets.{number_named}
 
@@ -39,7 +39,7 @@ all_handles_to number guests = sum_by (λ g. handles_to number g.handles) guests
 
 -- no error context has this number
 abbrev pub is_unknown_context : State → ℕ → Bool
-is_unknown_context state number = not (is_there state.contexts number)
+is_unknown_context state number = not (is_context_there state.contexts number)
 
 -- MESSAGES
 
@@ -93,5 +93,5 @@ with_context_handle state g number = context_given state g number (raised state.
 abbrev pub without_context_handle : State → ℕ → ℕ → State
 without_context_handle state g handle = record state {
   guests = with_handles state.guests g (removed (guest_in state.guests g).handles handle);
-  contexts = dropped state.contexts (context_number state g handle);
+  contexts = context_dropped state.contexts (context_number state g handle);
 }

@@ -5,7 +5,7 @@
 use Rattle.std.specs.Prelude.{ℕ}
 use Rattle.strm_codes.specs.declared.codes.TransmitIndex.{TransmitIndex}
 use Rattle.strm_handles.specs.Handles.{next_index, inserted, removed}
-use Rattle.strm_waitable_sets.specs.Sets.{left}
+use Rattle.strm_waitable_sets.specs.Sets.{handle_left}
 use Rattle.strm_machine.specs.State.{State, guest_in, with_handles, with_table}
 use Rattle.strm_machine.specs.Sides.{end_of, with_end}
 use Rattle.strm_machine.specs.Making.{end_entry}
@@ -18,7 +18,7 @@ abbrev pub without_handle : State → ℕ → ℕ → State
 without_handle state g handle =
     let guest = guest_in state.guests g in
     record state {
-      guests = with_table state.guests g (removed guest.handles handle) (left guest.sets handle);
+      guests = with_table state.guests g (removed guest.handles handle) (handle_left guest.sets handle);
     }
 
 -- the number that a guest's next handle gets
@@ -26,8 +26,8 @@ abbrev pub next_in : State → ℕ → ℕ
 next_in state g = next_index (guest_in state.guests g).handles
 
 -- the state with a handle more of a guest, for an end of stream s
-abbrev pub given : State → ℕ → Side → TransmitIndex → ℕ → State
-given state g side ty s = record state {
+abbrev pub handle_given : State → ℕ → Side → TransmitIndex → ℕ → State
+handle_given state g side ty s = record state {
   guests = with_handles state.guests g (inserted (guest_in state.guests g).handles (end_entry side ty s));
 }
 

@@ -9,7 +9,7 @@ use Rattle.strm_codes.specs.Types.{kind_of}
 use Rattle.strm_handles.specs.Handles.{next_index}
 use Rattle.strm_handles.specs.declared.errors.HandleError.{HandleError}
 use Rattle.strm_machine.specs.State.{State, guest_in, stream_at}
-use Rattle.strm_machine.specs.Tests.{is_unknown_guest, are_guests_full, is_memory_too_big, are_handles_full, are_places_full, are_streams_full, is_no_handle, is_too_big, is_out_of_bounds, is_misaligned, are_bytes_out_of_bounds, Name, named, end_named, is_unknown_handle, is_wrong_kind, is_wrong_type, stream_named, side_named, is_busy, has_ended, owes_value, is_within_one_guest, is_spent, is_unknown_reader, is_of_other_kind, is_of_other_payload, is_cancel_under_way}
+use Rattle.strm_machine.specs.Tests.{is_unknown_guest, are_guests_full, is_memory_too_big, are_handles_full, are_places_full, are_streams_full, is_no_handle, is_too_big, names_out_of_bounds, names_misaligned, are_bytes_out_of_bounds, Name, named, end_named, is_unknown_handle, is_wrong_kind, is_wrong_type, stream_named, side_named, is_busy, has_ended, owes_value, is_within_one_guest, is_spent, is_unknown_reader, is_of_other_kind, is_of_other_payload, is_cancel_under_way}
 use Rattle.strm_machine.specs.Sides.{same_side}
 use Rattle.strm_machine.specs.Making.{writer_index}
 use Rattle.strm_machine.specs.Moves.{without_handle, next_in}
@@ -60,8 +60,8 @@ abbrev pub region_reasons : State → ℕ → TransmitIndex → ℕ → ℕ → 
 region_reasons state g ty address count =
     where_ (is_unknown_guest state g) refusals.UnknownGuest
     ∷ where_ (is_too_big ty count) refusals.StreamOpTooBig
-    ∷ where_ (is_out_of_bounds state g ty address count) refusals.OutOfBounds
-    ∷ where_ (is_misaligned ty address count) refusals.NotAligned
+    ∷ where_ (names_out_of_bounds state g ty address count) refusals.OutOfBounds
+    ∷ where_ (names_misaligned ty address count) refusals.NotAligned
     ∷ []
 
 -- the handle, by what the table answers

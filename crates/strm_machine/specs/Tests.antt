@@ -64,13 +64,13 @@ items_asked (index.Stream payload) count = count
 items_asked (index.Future payload) count = 1
 
 -- the items' region passes the end of the guest's memory
-abbrev pub is_out_of_bounds : State → ℕ → TransmitIndex → ℕ → ℕ → Bool
-is_out_of_bounds state g ty address count =
+abbrev pub names_out_of_bounds : State → ℕ → TransmitIndex → ℕ → ℕ → Bool
+names_out_of_bounds state g ty address count =
     region.is_out_of_bounds (length (memory_in state.guests g)) (scalars_of (payload_of ty)) address (items_asked ty count)
 
 -- the address is no multiple of the alignment
-abbrev pub is_misaligned : TransmitIndex → ℕ → ℕ → Bool
-is_misaligned ty address count = region.is_misaligned (scalars_of (payload_of ty)) address (items_asked ty count)
+abbrev pub names_misaligned : TransmitIndex → ℕ → ℕ → Bool
+names_misaligned ty address count = region.is_misaligned (scalars_of (payload_of ty)) address (items_asked ty count)
 
 -- bytes pass the end of the guest's memory
 abbrev pub are_bytes_out_of_bounds : State → ℕ → ℕ → ℕ → Bool

@@ -11,11 +11,11 @@ use Rattle.strm_machine.specs.declared.acts.Act.{Act}
 use Rattle.strm_machine.specs.declared.acts.Act.TheVariants.{OnContext, OnMemory}
 use Rattle.strm_machine.specs.declared.replies.Reply.{Reply}
 use Rattle.strm_machine.specs.declared.replies.Reply.TheVariants as replies
-use Rattle.strm_machine.specs.Moments.{Moment, Place, rise, target}
+use Rattle.strm_machine.specs.Moments.{Moment, MemoryPlace, rise, target}
 
 -- so many bytes of a guest's memory from a place on
 pub record Region : Type 0 where
-  pub place : Place
+  pub place : MemoryPlace
   pub size : ℕ
 
 -- its bytes

@@ -10,7 +10,7 @@ use Rattle.strm_handles.specs.Handles.{inserted, removed}
 use Rattle.strm_handles.specs.Lookups.{waitable_set_rep_of}
 use Rattle.strm_handles.specs.declared.entries.Entry.TheVariants as entries
 use Rattle.strm_handles.specs.declared.errors.HandleError.{HandleError}
-use Rattle.strm_waitable_sets.specs.Sets.{Sets, members, set_of, least_free, with_new_set, joined, left, without_set}
+use Rattle.strm_waitable_sets.specs.Sets.{Sets, members, set_of, least_free, with_new_set, handle_joined, handle_left, without_set}
 use Rattle.strm_machine.specs.State.{State, guest_in, sets_in, with_sets, with_table, stream_at}
 use Rattle.strm_machine.specs.Tests.{Name, end_named, side_of}
 use Rattle.strm_machine.specs.Endings.{report_on}
@@ -77,7 +77,7 @@ with_set state g =
 -- the sets after a handle joined the one of a number, or left its own
 abbrev pub sets_joined : Sets → ℕ → Result ℕ HandleError → ℕ → Sets
 sets_joined sets set name handle =
-    if set == 0 then left sets handle else joined sets handle (number_named name)
+    if set == 0 then handle_left sets handle else handle_joined sets handle (number_named name)
 
 -- the state without the set that a handle of a guest names, and without that handle
 abbrev pub without_set_named : State → ℕ → ℕ → State

@@ -12,8 +12,8 @@ pub use Rattle.strm_handles.specs.declared.entries.Entry.{Entry}
 pub use Rattle.strm_machine.specs.Acts.{act_of}
 pub use Rattle.strm_machine.specs.Endings.{report_on, told_end}
 pub use Rattle.strm_machine.specs.Meetings.{advanced, carried}
-pub use Rattle.strm_machine.specs.Moments.{Call, Moment, accepted, accepted_in, as_report, count_reported, got_in, is_end, items_in, k_of, names, received, report_in}
-pub use Rattle.strm_machine.specs.Moves.{given, next_in, with_owner, without_handle}
+pub use Rattle.strm_machine.specs.Moments.{Call, Moment, accepted, accepted_in, as_report, count_reported, got_in, is_end, items_in_memory, k_of, names, received, report_in}
+pub use Rattle.strm_machine.specs.Moves.{handle_given, next_in, with_owner, without_handle}
 pub use Rattle.strm_machine.specs.Reactions.{Reaction, goes, operates, react, written_back}
 pub use Rattle.strm_machine.specs.Refusals.{first_of}
 pub use Rattle.strm_machine.specs.Sides.{end_of, opposite, same_side, with_end, with_operation}

@@ -15,7 +15,7 @@ use Rattle.strm_codes.specs.declared.scalars.Scalar.TheVariants.{Bool as Flag, S
 use Rattle.strm_memory.specs.Bytes.{le, to_le, put_at, bytes_at, IsBytes}
 use Rattle.strm_memory.specs.Numbers.{lifted, lowered}
 use Rattle.strm_memory.specs.Items.{decode_from, encode_from, decode, encode, items, stored, items_at, stored_at, is_number_or_none}
-use Rattle.strm_memory.specs.Copies.{settled, copied_from, copied}
+use Rattle.strm_memory.specs.Copies.{bytes_settled, copied_from, copied}
 use Rattle.strm_memory.proofs.ByteLemmas.{IsBytes-drop, IsBytes-take, le-lt}
 use Rattle.strm_memory.proofs.NumberLemmas.{lowered-lifted}
 use Rattle.strm_memory.proofs.FieldLemmas.{is_some-both}
@@ -37,7 +37,7 @@ copied_from-decoded at (s ∷ ss) source bytes xs h l e =
     option_and_then_some _ (lifted s (le here)) xs e
     (λ x p q. option_map_some _ (decode_from (at + gap + size_of s) ss (drop (gap + size_of s) source)) xs q
     (λ ys u v.
-    let same : to_le (size_of s) (lowered s x) ≡ settled s here = lowered-lifted s here x bytes_here size (rw size at (le-lt here bytes_here)) p in
+    let same : to_le (size_of s) (lowered s x) ≡ bytes_settled s here = lowered-lifted s here x bytes_here size (rw size at (le-lt here bytes_here)) p in
     rw (← v, same, copied_from-decoded (at + gap + size_of s) ss (drop (gap + size_of s) source) (drop (gap + size_of s) bytes) ys (IsBytes-drop source (gap + size_of s) h) (omega (arith, l, inside, length-drop (gap + size_of s) source)) u) refl))
 
 -- the items copied are the items lifted and then lowered

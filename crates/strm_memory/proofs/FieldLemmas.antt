@@ -17,7 +17,7 @@ use Rattle.strm_codes.specs.declared.scalars.Scalar.TheVariants.{Bool as Flag, S
 use Rattle.strm_memory.specs.Bytes.{le, to_le, put_at}
 use Rattle.strm_memory.specs.Numbers.{lifted, lowered}
 use Rattle.strm_memory.specs.Items.{decode_from, encode_from}
-use Rattle.strm_memory.specs.Copies.{settled}
+use Rattle.strm_memory.specs.Copies.{bytes_settled}
 use Rattle.strm_memory.proofs.ByteLemmas.{length-to_le}
 
 -- what is known of a field in a loop
@@ -54,7 +54,7 @@ put_field m at gap size new F e h =
     let behind : drop (gap + size) (drop at m) ≡ drop (at + gap + length new) m = rw (drop-drop, e) (ap (λ n. drop n m) (omega arith)) in
     rw (take_at (take (at + gap) m ++ new) _ (at + gap + size) front, drop_at (take (at + gap) m ++ new) _ (at + gap + size) front, behind, take-add at gap m) (simp append_assoc)
 
-pub length-settled : (s : Scalar) (bytes : List ℕ) → length bytes ≡ size_of s → length (settled s bytes) ≡ size_of s
+pub length-settled : (s : Scalar) (bytes : List ℕ) → length bytes ≡ size_of s → length (bytes_settled s bytes) ≡ size_of s
 length-settled Flag bytes e = refl
 length-settled S8 bytes e = e
 length-settled U8 bytes e = e

@@ -15,7 +15,7 @@ use Rattle.strm_memory.proofs.FieldLemmas.{IsField, drop_field, length-settled}
 use Rattle.strm_codes.specs.declared.scalars.Scalar.{Scalar}
 use Rattle.strm_codes.specs.declared.scalars.Scalar.TheVariants.{Bool as Flag, S8, U8, S16, U16, S32, U32, S64, U64, Char}
 use Rattle.strm_memory.specs.Bytes.{put_at, bytes_at, IsBytes}
-use Rattle.strm_memory.specs.Copies.{settled, copied_from, copied, limited, blended, blended_on, limit_of, limit_bytes, limits_from, item_limits, repeated}
+use Rattle.strm_memory.specs.Copies.{bytes_settled, copied_from, copied, limited, blended, blended_on, limit_of, limit_bytes, limits_from, item_limits, repeated}
 use Rattle.strm_memory.proofs.ByteLemmas.{IsBytes-drop, put_chunk-put_at, length-put_at}
 use Rattle.strm_memory.proofs.ItemLemmas.{sweep_more}
 
@@ -346,13 +346,13 @@ all_copied (suc n) (s ∷ source) (b ∷ bytes) h l k =
     let same : min s 255 ≡ s = omega arith in
     rw same (ap (λ t. s ∷ t) (all_copied n source bytes (λ i. h (suc i)) (omega arith) (omega arith)))
 
-flag_blended : (source bytes : List ℕ) → 1 ≤ length source → 1 ≤ length bytes → blended (replicate 1 1) source bytes ≡ settled Flag (take 1 source) ++ drop 1 bytes
+flag_blended : (source bytes : List ℕ) → 1 ≤ length source → 1 ≤ length bytes → blended (replicate 1 1) source bytes ≡ bytes_settled Flag (take 1 source) ++ drop 1 bytes
 unfolding blended
 flag_blended [] bytes l k = absurd (omega arith)
 flag_blended (s ∷ source) [] l k = absurd (omega arith)
 flag_blended (s ∷ source) (b ∷ bytes) l k = refl
 
-field_blended : (s : Scalar) (source bytes : List ℕ) → IsBytes source → size_of s ≤ length source → size_of s ≤ length bytes → blended (replicate (size_of s) (limit_of s)) source bytes ≡ settled s (take (size_of s) source) ++ drop (size_of s) bytes
+field_blended : (s : Scalar) (source bytes : List ℕ) → IsBytes source → size_of s ≤ length source → size_of s ≤ length bytes → blended (replicate (size_of s) (limit_of s)) source bytes ≡ bytes_settled s (take (size_of s) source) ++ drop (size_of s) bytes
 field_blended Flag source bytes h l k = flag_blended source bytes l k
 field_blended S8 source bytes h l k = all_copied 1 source bytes h l k
 field_blended U8 source bytes h l k = all_copied 1 source bytes h l k
@@ -380,8 +380,8 @@ fields_blended at (s ∷ ss) source bytes h l k =
     let lp : length padding ≡ gap = length-replicate {A = ℕ} gap 0 in
     let lo : length own ≡ w = length-replicate {A = ℕ} w (limit_of s) in
     let lh : length here ≡ gap + w = omega (arith, length-append padding own, lp, lo) in
-    let field : blended own (drop gap source) (drop gap bytes) ≡ settled s (take w (drop gap source)) ++ drop w (drop gap bytes) = field_blended s (drop gap source) (drop gap bytes) (IsBytes-drop source gap h) (omega (arith, a, length-drop gap source)) (omega (arith, b, length-drop gap bytes)) in
-    let new = settled s (take w (drop gap source)) in
+    let field : blended own (drop gap source) (drop gap bytes) ≡ bytes_settled s (take w (drop gap source)) ++ drop w (drop gap bytes) = field_blended s (drop gap source) (drop gap bytes) (IsBytes-drop source gap h) (omega (arith, a, length-drop gap source)) (omega (arith, b, length-drop gap bytes)) in
+    let new = bytes_settled s (take w (drop gap source)) in
     let ln : length new ≡ w = length-settled s (take w (drop gap source)) (length-take-le w (drop gap source) (omega (arith, a, length-drop gap source))) in
     let first : blended here source bytes ≡ take gap bytes ++ (new ++ drop w (drop gap bytes)) =
     blended-append padding own source bytes (omega (arith, lp, a)) (omega (arith, lp, b))

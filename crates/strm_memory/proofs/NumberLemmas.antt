@@ -8,7 +8,7 @@ use Rattle.strm_codes.specs.declared.scalars.Scalar.{Scalar}
 use Rattle.strm_codes.specs.declared.scalars.Scalar.TheVariants.{Bool as Flag, S8, U8, S16, U16, S32, U32, S64, U64, Char}
 use Rattle.strm_memory.specs.Bytes.{le, to_le, IsBytes}
 use Rattle.strm_memory.specs.Numbers.{signed_of, unsigned_of, lifted, lowered}
-use Rattle.strm_memory.specs.Copies.{settled}
+use Rattle.strm_memory.specs.Copies.{bytes_settled}
 use Rattle.strm_memory.proofs.ByteLemmas.{to_le-le}
 
 -- an item of a scalar fits in its bytes and comes back from them
@@ -63,13 +63,13 @@ back : (s : Scalar) (n : ℕ) (x y : ℤ) → y ≡ x → lowered s y ≡ n → 
 back s n x y e p = record { same = subst (λ z. lowered s z ≡ n) e p }
 
 -- a scalar's bytes, lifted and then lowered
-pub lowered-lifted : (s : Scalar) (bytes : List ℕ) (x : ℤ) → IsBytes bytes → length bytes ≡ size_of s → le bytes < 256 ^ size_of s → lifted s (le bytes) ≡ Some x → to_le (size_of s) (lowered s x) ≡ settled s bytes
+pub lowered-lifted : (s : Scalar) (bytes : List ℕ) (x : ℤ) → IsBytes bytes → length bytes ≡ size_of s → le bytes < 256 ^ size_of s → lifted s (le bytes) ≡ Some x → to_le (size_of s) (lowered s x) ≡ bytes_settled s bytes
 lowered-lifted s bytes x h l small e = settle s bytes x h l small e
   where
     whole : (s : Scalar) (bytes : List ℕ) (x : ℤ) → IsBytes bytes → length bytes ≡ size_of s → IsBack s (le bytes) x → to_le (size_of s) (lowered s x) ≡ bytes
     whole s bytes x h l b = rw (b.same, ← l) (to_le-le bytes h)
 
-    settle : (s : Scalar) (bytes : List ℕ) (x : ℤ) → IsBytes bytes → length bytes ≡ size_of s → le bytes < 256 ^ size_of s → lifted s (le bytes) ≡ Some x → to_le (size_of s) (lowered s x) ≡ settled s bytes
+    settle : (s : Scalar) (bytes : List ℕ) (x : ℤ) → IsBytes bytes → length bytes ≡ size_of s → le bytes < 256 ^ size_of s → lifted s (le bytes) ≡ Some x → to_le (size_of s) (lowered s x) ≡ bytes_settled s bytes
     settle Flag [] x h l small e = cc
     settle Flag (b ∷ []) x h l small e =
         let q : pos (min (b + 256 * 0) 1) ≡ x = cc in

@@ -10,9 +10,9 @@ use Rattle.strm_memory.specs.Bytes.{le, bytes_at}
 use Rattle.strm_memory.specs.Numbers.{lifted}
 
 -- the bytes of a scalar, lifted and lowered: a flag becomes 0 or 1, any other stays
-abbrev pub settled : Scalar → List ℕ → List ℕ
-settled Flag bytes = min (slice_index bytes 0) 1 ∷ []
-settled _ bytes = bytes
+abbrev pub bytes_settled : Scalar → List ℕ → List ℕ
+bytes_settled Flag bytes = min (slice_index bytes 0) 1 ∷ []
+bytes_settled _ bytes = bytes
 
 -- the bytes with the fields that may begin at an offset copied from others
 unfoldable pub copied_from : ℕ → List Scalar → List ℕ → List ℕ → List ℕ
@@ -21,7 +21,7 @@ copied_from at (s ∷ ss) source bytes =
     let gap = gap_before at (size_of s) in
     let behind = gap + size_of s in
     take gap bytes
-    ++ settled s (take (size_of s) (drop gap source))
+    ++ bytes_settled s (take (size_of s) (drop gap source))
     ++ copied_from (at + gap + size_of s) ss (drop behind source) (drop behind bytes)
 
 -- the bytes with so many items copied from others, from the front on

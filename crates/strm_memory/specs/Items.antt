@@ -94,7 +94,7 @@ good_items ss bytes (suc n) =
     good_then (decode ss bytes) (good_items ss (drop (item_size ss) bytes) n)
 
 -- an item is none, and the ones before it are items: it is the first bad one of so many
-pub record IsFirstBad (ss : List Scalar) (bytes : List ℕ) (count index : ℕ) : Type 0 where
+pub record IsFirstBadItem (ss : List Scalar) (bytes : List ℕ) (count index : ℕ) : Type 0 where
   pub within : index < count
   pub before : IsSome (items ss bytes index)
   pub bad : IsNone (decode ss (drop (item_size ss * index) bytes))

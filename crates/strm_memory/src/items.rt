@@ -6,7 +6,7 @@ ghost use Rattle.std.specs.Prelude.{◌≡◌, ℕ, ◌+◌, ◌*◌, ◌<◌, �
 ghost use Rattle.std.specs.Bool.{then_some};
 ghost use Rattle.strm_codes.specs.Items.{FitsItem};
 ghost use Rattle.strm_codes.specs.Layout.{scalars_of, end_offset, item_size};
-ghost use Rattle.strm_memory.specs.Items.{decode, encode, items, items_at, stored, stored_at, AreItems, IsFirstBad};
+ghost use Rattle.strm_memory.specs.Items.{decode, encode, items, items_at, stored, stored_at, AreItems, IsFirstBadItem};
 
 use crate::fields::{field_start, lift_field, lower_field};
 use strm_codes::counts::ItemCount;
@@ -37,7 +37,7 @@ pub fn lift_items(
     ensures ok { OnOk result (IsSomeAnd (items (scalars_of payload) bytes.now count)
         (λ xs. out.new.items ≡ out.old.items ++ xs)) }
     ensures bad_item { (index : ℕ) → IsErrOf result (LiftError.BadItem index) →
-        IsFirstBad (scalars_of payload) bytes.now count index }
+        IsFirstBadItem (scalars_of payload) bytes.now count index }
     ensures out_of_memory { IsErrOf result LiftError.OutOfMemory →
         vec_capacity out.old < vec_len out.old + count }
     ensures err { OnErr result (out.new.items ≡ out.old.items) }
@@ -67,7 +67,7 @@ pub(crate) fn lift_fields(
     ensures ok { OnOk result (IsSomeAnd (items_at fields.now bytes.now from count)
         (λ xs. out.new.items ≡ out.old.items ++ xs)) }
     ensures bad_item { (index : ℕ) → IsErrOf result (LiftError.BadItem index) →
-        IsFirstBad fields.now (drop from bytes.now) count index }
+        IsFirstBadItem fields.now (drop from bytes.now) count index }
     ensures out_of_memory { IsErrOf result LiftError.OutOfMemory →
         vec_capacity out.old < vec_len out.old + count }
     ensures err { OnErr result (out.new.items ≡ out.old.items) }

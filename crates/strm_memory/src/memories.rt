@@ -8,7 +8,7 @@ ghost use Rattle.std.specs.Vec.{vec_ptr};
 ghost use Rattle.std.specs.Bool.{then_some};
 ghost use Rattle.strm_memory.specs.Linear.{untold, with_contents};
 ghost use Rattle.strm_memory.specs.Bytes.{put_at, bytes_at};
-ghost use Rattle.strm_memory.specs.Items.{items_at, stored_at, AreItems, IsFirstBad, is_number_or_none};
+ghost use Rattle.strm_memory.specs.Items.{items_at, stored_at, AreItems, IsFirstBadItem, is_number_or_none};
 
 use crate::copies::{BadItem, copy_region};
 use crate::items::{LiftError, lift_fields, lower_fields};
@@ -237,7 +237,7 @@ impl GuestMemory {
         ensures ok { OnOk result (IsSomeAnd (items_at (scalars_of payload) self.now.bytes address count)
             (λ xs. out.new.items ≡ out.old.items ++ xs)) }
         ensures bad_item { (index : ℕ) → IsErrOf result (LiftError.BadItem index) →
-            IsFirstBad (scalars_of payload) (drop address self.now.bytes) count index }
+            IsFirstBadItem (scalars_of payload) (drop address self.now.bytes) count index }
         ensures out_of_memory { IsErrOf result LiftError.OutOfMemory →
             vec_capacity out.old < vec_len out.old + count }
         ensures err { OnErr result (out.new.items ≡ out.old.items) }

@@ -12,20 +12,20 @@ use Rattle.strm_machine.specs.declared.streams.Stream.{Stream}
 use Rattle.strm_machine.specs.declared.replies.Reply.{Reply}
 use Rattle.strm_machine.specs.declared.steps.Step.{Step}
 use Rattle.strm_machine.specs.declared.steps.Step.TheVariants as steps
-use Rattle.strm_laws.specs.Conservation.{last, moments, replies_of}
+use Rattle.strm_laws.specs.Conservation.{state_after_steps, moments, replies_of}
 use Rattle.strm_transmit.specs.Guests.{is_of_guests}
-use Rattle.strm_session.specs.Runs.{start, AreOfGuests, counts_of, StopsAt, StopsBy}
+use Rattle.strm_session.specs.Runs.{run_start, AreOfGuests, counts_of, StopsAt, StopsBy}
 use Rattle.strm_session.specs.declared.runs.RunCause.{RunCause}
 use Rattle.strm_session.specs.declared.runs.RunCause.TheVariants as causes
 use Rattle.strm_session.proofs.PlayLemmas.{play-goes}
-use Rattle.strm_frames.specs.Frames.{Frame, spelling, lane_in, ends}
+use Rattle.strm_frames.specs.Frames.{Frame, encoding, lane_in, ends}
 use Rattle.strm_frames.specs.Streams.{Splits}
-use Rattle.strm_frames.specs.Demuxes.{Heard, IsFed}
-use Rattle.strm_frames.specs.Muxes.{Written, Carries}
+use Rattle.strm_frames.specs.Demuxes.{LanesHeard, IsDemuxFed}
+use Rattle.strm_frames.specs.Muxes.{Written, MuxCarries}
 use Rattle.strm_frames.proofs.ReadingLemmas.{one_split}
 use Rattle.strm_frames.proofs.DemuxLemmas.{nothing_part}
-use Rattle.strm_carry_laws.specs.OneStream.{byte_stream, reads_of, piece_of, pieces_of, script_of, CanCarry, AreSettled}
-use Rattle.strm_mux.specs.Carrying.{Delivers, IsOneCount}
+use Rattle.strm_carry_laws.specs.OneStream.{byte_stream, reads_of, piece_of, piece_steps, script_of, CanCarry, AreSettled}
+use Rattle.strm_mux.specs.Carrying.{DeliversFrames, IsOneCount}
 
 -- THE SCRIPT
 
@@ -68,21 +68,21 @@ few_piece r p o h =
     few_more (steps.Poke 0 0 p) (steps.Write 0 byte_stream 1 0 n ∷ (reads_of n r n ++ steps.Event 0 1 ∷ [])) (2 * n + 2) (5 * n) refl
     (few_more (steps.Write 0 byte_stream 1 0 n) (reads_of n r n ++ steps.Event 0 1 ∷ []) (2 * n + 1) (2 * n + 2) refl late (omega arith)) (omega arith)
 
-few_pieces : (f w r : ℕ) (bytes : List ℕ) → 0 < w → 0 < r → AreFew (pieces_of f w r bytes) (5 * length bytes)
-unfolding pieces_of
+few_pieces : (f w r : ℕ) (bytes : List ℕ) → 0 < w → 0 < r → AreFew (piece_steps f w r bytes) (5 * length bytes)
+unfolding piece_steps
 few_pieces zero w r bytes o p = few_none (5 * length bytes)
 few_pieces (suc f) w r [] o p = few_none 0
 few_pieces (suc f) w r (b ∷ bytes) o p =
     let front : List ℕ = take w (b ∷ bytes) in
     let rest : List ℕ = drop w (b ∷ bytes) in
     let long : length front ≡ min w (length (b ∷ bytes)) = length-take w (b ∷ bytes) in
-    few_both (piece_of r front) (pieces_of f w r rest) (5 * length front) (5 * length rest) (5 * length (b ∷ bytes))
+    few_both (piece_of r front) (piece_steps f w r rest) (5 * length front) (5 * length rest) (5 * length (b ∷ bytes))
     (few_piece r front p (omega (arith, long))) (few_pieces f w r rest o p) (omega (arith, long, length-drop w (b ∷ bytes)))
 
 few_script : (w r : ℕ) (bytes : List ℕ) → CanCarry w r bytes → AreFew (script_of w r bytes) (5 * length bytes + 3)
 few_script w r bytes c =
     let n : ℕ = 5 * length bytes in
-    let all : List Step = pieces_of (length bytes) w r bytes in
+    let all : List Step = piece_steps (length bytes) w r bytes in
     few_more (steps.Guest 64) (steps.Guest 64 ∷ steps.Between 0 1 byte_stream ∷ all) (n + 2) (n + 3) refl
     (few_more (steps.Guest 64) (steps.Between 0 1 byte_stream ∷ all) (n + 1) (n + 2) refl
     (few_more (steps.Between 0 1 byte_stream) all n (n + 1) refl (few_pieces (length bytes) w r bytes c.some_written c.some_read) (omega arith)) (omega arith)) (omega arith)
@@ -99,18 +99,18 @@ script_few w r bytes c = omega (arith, c.few, (few_script w r bytes c).few)
 -- THE PLAY
 
 -- where the run goes on behind each reply it comes to its end
-plays_on : (told : List Reply) (st : State) (run : List Step) → AreSettled (replies_of (moments st run)) → play told st run ≡ Ends (told ++ replies_of (moments st run)) (last st run)
+plays_on : (told : List Reply) (st : State) (run : List Step) → AreSettled (replies_of (moments st run)) → play told st run ≡ Ends (told ++ replies_of (moments st run)) (state_after_steps st run)
 plays_on told st [] s = ap (λ (all : List Reply). Ends all st) (sym (append-nil told))
 plays_on told st (x ∷ run) s =
     let r = react st x in
     play-goes told st r.state x run r.reply s.0 refl ∙ plays_on (told ++ r.reply ∷ []) r.state run s.1
-    ∙ ap (λ (all : List Reply). Ends all (last r.state run)) (append_assoc told (r.reply ∷ []) (replies_of (moments r.state run)))
+    ∙ ap (λ (all : List Reply). Ends all (state_after_steps r.state run)) (append_assoc told (r.reply ∷ []) (replies_of (moments r.state run)))
 
-never_halts : (run : List Step) (told : List Reply) (reply : Reply) → AreSettled (replies_of (moments start run)) → play [] start run ≡ Halts told reply → ⊥
-never_halts run told reply s h = let both : Ends (replies_of (moments start run)) (last start run) ≡ Halts told reply = sym (plays_on [] start run s) ∙ h in cc
+never_halts : (run : List Step) (told : List Reply) (reply : Reply) → AreSettled (replies_of (moments run_start run)) → play [] run_start run ≡ Halts told reply → ⊥
+never_halts run told reply s h = let both : Ends (replies_of (moments run_start run)) (state_after_steps run_start run) ≡ Halts told reply = sym (plays_on [] run_start run s) ∙ h in cc
 
 -- so it stops by running out of memory alone
-pub stops_for_memory : (run : List Step) (told : List Reply) (cause : RunCause) → AreSettled (replies_of (moments start run)) → StopsBy run told cause → cause ≡ causes.OutOfMemory
+pub stops_for_memory : (run : List Step) (told : List Reply) (cause : RunCause) → AreSettled (replies_of (moments run_start run)) → StopsBy run told cause → cause ≡ causes.OutOfMemory
 stops_for_memory run told cause s b = by_cause cause b.at
   where
     by_cause : (cause : RunCause) → StopsAt run told cause → cause ≡ causes.OutOfMemory
@@ -122,9 +122,9 @@ stops_for_memory run told cause s b = by_cause cause b.at
 -- THE LANES
 
 -- a demux that was fed what a mux has written has just what that was given
-pub fed_delivers : (heard : Heard) (written : Written) (given : List Frame) → IsFed heard written.bytes → Carries written given → Delivers heard given
+pub fed_delivers : (heard : LanesHeard) (written : Written) (given : List Frame) → IsDemuxFed heard written.bytes → MuxCarries written given → DeliversFrames heard given
 fed_delivers heard written given f c =
-    let all : Splits written.bytes c.frames [] = record { whole = c.spelled ∙ sym (append-nil (spelling c.frames)); are = c.are; part = nothing_part } in
+    let all : Splits written.bytes c.frames [] = record { whole = c.spelled ∙ sym (append-nil (encoding c.frames)); are = c.are; part = nothing_part } in
     let s = one_split written.bytes f.frames c.frames heard.rest [] f.splits all in
     record {
       lanes = λ lane h. f.lanes lane h ∙ ap (lane_in lane) s.0 ∙ c.lanes lane;

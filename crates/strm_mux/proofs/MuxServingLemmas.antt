@@ -6,19 +6,19 @@ use Rattle.strm_lines.specs.Lines.{lines_of}
 use Rattle.strm_lines.specs.Reading.{number_within}
 use Rattle.strm_lines.proofs.ReadingLemmas.{IsReading, IsReading-within}
 use Rattle.strm_input_output.specs.Faults.{Rose}
-use Rattle.strm_frames.specs.Frames.{Frame, spelling}
+use Rattle.strm_frames.specs.Frames.{Frame, encoding}
 use Rattle.strm_frames.specs.Muxes.{Written}
-use Rattle.strm_laws.specs.Conservation.{got, moments, last}
+use Rattle.strm_laws.specs.Conservation.{got, moments, state_after_steps}
 use Rattle.strm_machine.specs.Moments.{received}
 use Rattle.strm_machine.specs.Plays.{play, Ends}
 use Rattle.strm_machine.specs.declared.replies.Reply.{Reply}
 use Rattle.strm_machine.specs.declared.steps.Step.{Step}
-use Rattle.strm_carry_laws.specs.OneStream.{script_of, items_of}
-use Rattle.strm_session.specs.Runs.{start}
-use Rattle.strm_mux.specs.LineReading.{Holds}
+use Rattle.strm_carry_laws.specs.OneStream.{script_of, bytes_as_items}
+use Rattle.strm_session.specs.Runs.{run_start}
+use Rattle.strm_mux.specs.LineReading.{HoldsLines}
 use Rattle.strm_mux.specs.Texts.{output_text}
-use Rattle.strm_mux.specs.Lines.{Puts, IsFirstBad, IsTooLong}
-use Rattle.strm_mux.specs.Serving.{AreSizes, IsSizes, IsCarriedBy, IsOutput}
+use Rattle.strm_mux.specs.Lines.{Puts, IsFirstBadLaneLine, IsMuxTooLong}
+use Rattle.strm_mux.specs.Serving.{AreSizes, IsSizes, IsCarriedBy, IsMuxOutput}
 use Rattle.strm_mux.proofs.LineLemmas.{puts_not_bad}
 
 -- TWO SIZES
@@ -64,22 +64,22 @@ second_read words a e n s =
 -- bytes were carried by these steps, in pieces of these sizes
 pub record Carried (write read moved : ℕ) (bytes : List ℕ) (steps : List Step) (replies : List Reply) : Type 0 where
   pub script : steps ≡ script_of write read bytes
-  pub plays : play [] start steps ≡ Ends replies (last start steps)
-  pub gets : got 0 (moments start steps) ≡ items_of bytes
-  pub moves : (moved ≡ length bytes) × (moved ≡ received 0 (last start steps))
+  pub plays : play [] run_start steps ≡ Ends replies (state_after_steps run_start steps)
+  pub gets : got 0 (moments run_start steps) ≡ bytes_as_items bytes
+  pub moves : (moved ≡ length bytes) × (moved ≡ received 0 (state_after_steps run_start steps))
 
 -- then they are what the lines put
-pub carried_by : (write read moved : ℕ) (input text : List ℕ) (written : Written) (steps : List Step) (replies : List Reply) (h : Holds written (lines_of input)) → Carried write read moved written.bytes steps replies → text ≡ output_text h.given moved → IsCarriedBy write read input text
+pub carried_by : (write read moved : ℕ) (input text : List ℕ) (written : Written) (steps : List Step) (replies : List Reply) (h : HoldsLines written (lines_of input)) → Carried write read moved written.bytes steps replies → text ≡ output_text h.given moved → IsCarriedBy write read input text
 carried_by write read moved input text written steps replies h c t =
-    let same : steps ≡ script_of write read (spelling h.given) = c.script ∙ ap (script_of write read) h.bytes in
+    let same : steps ≡ script_of write read (encoding h.given) = c.script ∙ ap (script_of write read) h.bytes in
     record {
       given = h.given;
       puts = h.puts;
       replies = replies;
-      played = subst (λ s. play [] start s ≡ Ends replies (last start s)) same c.plays;
-      received_is = subst (λ s. got 0 (moments start s) ≡ items_of (spelling h.given)) same (c.gets ∙ ap items_of h.bytes);
+      played = subst (λ s. play [] run_start s ≡ Ends replies (state_after_steps run_start s)) same c.plays;
+      received_is = subst (λ s. got 0 (moments run_start s) ≡ bytes_as_items (encoding h.given)) same (c.gets ∙ ap bytes_as_items h.bytes);
       moved = moved;
-      moved_is = subst (λ s. moved ≡ received 0 (last start s)) same c.moves.1;
+      moved_is = subst (λ s. moved ≡ received 0 (state_after_steps run_start s)) same c.moves.1;
       whole = c.moves.0 ∙ ap length h.bytes;
       text_is = t;
     }
@@ -87,32 +87,32 @@ carried_by write read moved input text written steps replies h c t =
 -- WHAT A STATUS TELLS
 
 module _ {words : List (List ℕ)} {rest : Option (List ℕ)} {before after status : ℕ} {text : List ℕ} where
-  module _ (input : List ℕ) (h : IsOutput words (Some input) rest before after status text) (r : IsSizes words) (calm : Rose before after → ⊥) where
+  module _ (input : List ℕ) (h : IsMuxOutput words (Some input) rest before after status text) (r : IsSizes words) (calm : Rose before after → ⊥) where
     not_usage : status ≢ 1
     not_usage q = (h.usage q).0 r
 
     not_fault : status ≢ 4
     not_fault q = calm (h.read_fault q).0
 
-    done_of : (IsTooLong input → ⊥) → (given : List Frame) → Puts (lines_of input) given → status ≡ 0
+    done_of : (IsMuxTooLong input → ⊥) → (given : List Frame) → Puts (lines_of input) given → status ≡ 0
     done_of long given p =
         let no_bad : status ≢ 2 = λ q. let bad = h.bad_line q in puts_not_bad (lines_of input) given bad.0 p bad.1 in
         let no_long : status ≢ 3 = λ q. long (h.too_long q).0 in
         omega (arith, h.known, not_usage, no_bad, no_long, not_fault)
 
-    bad_line_of : (IsTooLong input → ⊥) → (line : ℕ) → IsFirstBad (lines_of input) line → status ≡ 2
+    bad_line_of : (IsMuxTooLong input → ⊥) → (line : ℕ) → IsFirstBadLaneLine (lines_of input) line → status ≡ 2
     bad_line_of long line bad =
         let not_done : status ≢ 0 = λ q. let done = h.done q in puts_not_bad (lines_of input) done.3.given line done.3.puts bad in
         let no_long : status ≢ 3 = λ q. long (h.too_long q).0 in
         omega (arith, h.known, not_usage, not_done, no_long, not_fault)
 
-  module _ (left : Option (List ℕ)) (input : List ℕ) (h : IsOutput words left rest before after status text) where
+  module _ (left : Option (List ℕ)) (input : List ℕ) (h : IsMuxOutput words left rest before after status text) where
     -- of a source that has this input left, where nothing fails
-    told_input : left ≡ Some input → IsOutput words (Some input) rest before after status text
-    told_input e = subst (λ l. IsOutput words l rest before after status text) e h
+    told_input : left ≡ Some input → IsMuxOutput words (Some input) rest before after status text
+    told_input e = subst (λ l. IsMuxOutput words l rest before after status text) e h
 
-    pub told_done : IsSizes words → left ≡ Some input → (Rose before after → ⊥) → (IsTooLong input → ⊥) → (given : List Frame) → Puts (lines_of input) given → status ≡ 0
+    pub told_done : IsSizes words → left ≡ Some input → (Rose before after → ⊥) → (IsMuxTooLong input → ⊥) → (given : List Frame) → Puts (lines_of input) given → status ≡ 0
     told_done r e calm = done_of input (told_input e) r calm
 
-    pub told_bad_line : IsSizes words → left ≡ Some input → (Rose before after → ⊥) → (IsTooLong input → ⊥) → (line : ℕ) → IsFirstBad (lines_of input) line → status ≡ 2
+    pub told_bad_line : IsSizes words → left ≡ Some input → (Rose before after → ⊥) → (IsMuxTooLong input → ⊥) → (line : ℕ) → IsFirstBadLaneLine (lines_of input) line → status ≡ 2
     told_bad_line r e calm = bad_line_of input (told_input e) r calm

@@ -3,7 +3,7 @@ use Rattle.std.proofs.Common.{◌≡◌, ℕ, zero, suc, ◌-◌, ◌<◌, ◌�
 use Rattle.std.proofs.lemmas.List.{append-nil, append_assoc, take_min, drop_min, nil_from_length}
 use Rattle.strm_machine.specs.declared.steps.Step.{Step}
 use Rattle.strm_machine.specs.declared.steps.Step.TheVariants as steps
-use Rattle.strm_carry_laws.specs.OneStream.{byte_stream, reads_of, piece_of, pieces_of, script_of}
+use Rattle.strm_carry_laws.specs.OneStream.{byte_stream, reads_of, piece_of, piece_steps, script_of}
 
 -- it doesn't matter how many reads may come, if it's enough
 reads_enough : (f g r j : ℕ) → 0 < r → j ≤ f → j ≤ g → reads_of f r j ≡ reads_of g r j
@@ -52,8 +52,8 @@ reads_end old now r len left z a =
 
 -- PIECES
 
-pieces_enough : (f g w r : ℕ) (bytes : List ℕ) → 0 < w → length bytes ≤ f → length bytes ≤ g → pieces_of f w r bytes ≡ pieces_of g w r bytes
-unfolding pieces_of
+pieces_enough : (f g w r : ℕ) (bytes : List ℕ) → 0 < w → length bytes ≤ f → length bytes ≤ g → piece_steps f w r bytes ≡ piece_steps g w r bytes
+unfolding piece_steps
 pieces_enough zero zero w r bytes o h k = refl
 pieces_enough zero (suc g) w r [] o h k = refl
 pieces_enough zero (suc g) w r (b ∷ bytes) o h k = absurd (omega arith)
@@ -64,12 +64,12 @@ pieces_enough (suc f) (suc g) w r (b ∷ bytes) o h k =
     ap (λ (more : List Step). piece_of r (take w (b ∷ bytes)) ++ more)
     (pieces_enough f g w r (drop w (b ∷ bytes)) o (omega (arith, length-drop w (b ∷ bytes))) (omega (arith, length-drop w (b ∷ bytes))))
 
-pieces_none : (w r : ℕ) → pieces_of 0 w r [] ≡ []
-unfolding pieces_of
+pieces_none : (w r : ℕ) → piece_steps 0 w r [] ≡ []
+unfolding piece_steps
 pieces_none w r = refl
 
-pieces_some : (w r : ℕ) (bytes : List ℕ) → 0 < w → 0 < length bytes → pieces_of (length bytes) w r bytes ≡ piece_of r (take w bytes) ++ pieces_of (length (drop w bytes)) w r (drop w bytes)
-unfolding pieces_of
+pieces_some : (w r : ℕ) (bytes : List ℕ) → 0 < w → 0 < length bytes → piece_steps (length bytes) w r bytes ≡ piece_of r (take w bytes) ++ piece_steps (length (drop w bytes)) w r (drop w bytes)
+unfolding piece_steps
 pieces_some w r [] o p = absurd (omega arith)
 pieces_some w r (b ∷ bytes) o p =
     let rest : List ℕ = drop w (b ∷ bytes) in
@@ -78,10 +78,10 @@ pieces_some w r (b ∷ bytes) o p =
 
 -- the steps so far, and those of the pieces of what is left, are all
 pub record PiecesSoFar (now : List Step) (w r : ℕ) (bytes left : List ℕ) : Type 0 where
-  pub goes_on : now ++ pieces_of (length left) w r left ≡ script_of w r bytes
+  pub goes_on : now ++ piece_steps (length left) w r left ≡ script_of w r bytes
 
 pub pieces_begin : (none now : List Step) (w r : ℕ) (bytes : List ℕ) → none ≡ [] → now ≡ none ++ steps.Guest 64 ∷ steps.Guest 64 ∷ steps.Between 0 1 byte_stream ∷ [] → PiecesSoFar now w r bytes bytes
-pieces_begin none now w r bytes z n = record { goes_on = ap (λ (s : List Step). s ++ pieces_of (length bytes) w r bytes) (n ∙ ap (λ (s : List Step). s ++ steps.Guest 64 ∷ steps.Guest 64 ∷ steps.Between 0 1 byte_stream ∷ []) z) }
+pieces_begin none now w r bytes z n = record { goes_on = ap (λ (s : List Step). s ++ piece_steps (length bytes) w r bytes) (n ∙ ap (λ (s : List Step). s ++ steps.Guest 64 ∷ steps.Guest 64 ∷ steps.Between 0 1 byte_stream ∷ []) z) }
 
 -- the next piece, and what follows it
 pub record IsCut (w : ℕ) (left piece more : List ℕ) : Type 0 where
@@ -94,14 +94,14 @@ pieces_more now new w r bytes left piece more o c n a =
     let least : min (length left) w ≡ min w (length left) = omega arith in
     let p : piece ≡ take w left = c.front ∙ rw least (take_min w left) in
     let q : more ≡ drop w left = c.back ∙ rw least (drop_min w left) in
-    let here : pieces_of (length left) w r left ≡ piece_of r piece ++ pieces_of (length more) w r more = rw (p, q) (pieces_some w r left o c.some) in
+    let here : piece_steps (length left) w r left ≡ piece_of r piece ++ piece_steps (length more) w r more = rw (p, q) (pieces_some w r left o c.some) in
     record {
-      goes_on = ap (λ (s : List Step). s ++ pieces_of (length more) w r more) n
-          ∙ append_assoc now (piece_of r piece) (pieces_of (length more) w r more) ∙ ap (λ (s : List Step). now ++ s) (sym here) ∙ a.goes_on;
+      goes_on = ap (λ (s : List Step). s ++ piece_steps (length more) w r more) n
+          ∙ append_assoc now (piece_of r piece) (piece_steps (length more) w r more) ∙ ap (λ (s : List Step). now ++ s) (sym here) ∙ a.goes_on;
     }
 
 pub pieces_end : (now : List Step) (w r : ℕ) (bytes left : List ℕ) → length left ≡ 0 → PiecesSoFar now w r bytes left → now ≡ script_of w r bytes
 pieces_end now w r bytes left z a =
     let nothing : left ≡ [] = nil_from_length left z in
-    let none : pieces_of (length left) w r left ≡ [] = rw nothing (pieces_none w r) in
+    let none : piece_steps (length left) w r left ≡ [] = rw nothing (pieces_none w r) in
     sym (append-nil now) ∙ ap (λ (s : List Step). now ++ s) (sym none) ∙ a.goes_on

@@ -3,10 +3,10 @@ use Rattle.std.proofs.Common.{◌≡◌, eqb, true, false, Bool, ◌||◌, ℕ, 
 use Rattle.std.specs.Prelude.{All, ◌==◌, cond, if◌then◌else◌}
 use Rattle.std.proofs.lemmas.List.{append-nil}
 use Rattle.std.proofs.lemmas.List.Elements.{All-head, All-tail}
-use Rattle.strm_lines.specs.Text.{ended}
+use Rattle.strm_lines.specs.Text.{line_ended}
 use Rattle.strm_frames.specs.Frames.{Frame, Data, End, part_for, lane_in, ends}
-use Rattle.strm_mux.specs.Lines.{HasLine}
-use Rattle.strm_mux.specs.Texts.{names, lane_text, lane_line, lanes_below}
+use Rattle.strm_mux.specs.Lines.{FrameHasLine}
+use Rattle.strm_mux.specs.Texts.{names_lane, lane_text, lane_line, lanes_below}
 
 -- there are bytes
 abbrev pub is_some : List ℕ → Bool
@@ -27,47 +27,47 @@ end_named true true e = refl
 end_named true false e = refl
 end_named false p e = refl
 
-pub named_tells : (lane : ℕ) (given : List Frame) → All HasLine given → names lane given ≡ (is_some (lane_in lane given) || ends lane given)
-unfolding names ends
+pub named_tells : (lane : ℕ) (given : List Frame) → All FrameHasLine given → names_lane lane given ≡ (is_some (lane_in lane given) || ends lane given)
+unfolding names_lane ends
 named_tells lane [] h = refl
 named_tells lane (Data l bytes ∷ given) h =
-    let rest = named_tells lane given (All-tail HasLine (Data l bytes) given h) in
-    let here = All-head HasLine (Data l bytes) given h in
+    let rest = named_tells lane given (All-tail FrameHasLine (Data l bytes) given h) in
+    let here = All-head FrameHasLine (Data l bytes) given h in
     rw (rest, is_some-append (part_for lane (Data l bytes)) (lane_in lane given)) (data_named lane bytes (l == lane) (is_some (lane_in lane given)) (ends lane given) here.1.some)
 named_tells lane (End l ∷ given) h =
-    let rest = named_tells lane given (All-tail HasLine (End l) given h) in
+    let rest = named_tells lane given (All-tail FrameHasLine (End l) given h) in
     rw rest (end_named (l == lane) (is_some (lane_in lane given)) (ends lane given))
 
 -- THE LINE OF A LANE
 
-module _ (lane : ℕ) (given : List Frame) (bytes : List ℕ) (flag : Bool) (h : All HasLine given) (e : lane_in lane given ≡ bytes) (f : ends lane given ≡ flag) where
+module _ (lane : ℕ) (given : List Frame) (bytes : List ℕ) (flag : Bool) (h : All FrameHasLine given) (e : lane_in lane given ≡ bytes) (f : ends lane given ≡ flag) where
   -- it is there where the lane has bytes or ended
-  line_by : lane_line lane given ≡ (if is_some bytes || flag then ended (lane_text lane bytes flag) else [])
-  line_by = shown (names lane given) (lane_in lane given) (ends lane given) (named_tells lane given h) e f
+  line_by : lane_line lane given ≡ (if is_some bytes || flag then line_ended (lane_text lane bytes flag) else [])
+  line_by = shown (names_lane lane given) (lane_in lane given) (ends lane given) (named_tells lane given h) e f
     where
-      shown : (n : Bool) (xs : List ℕ) (k : Bool) → n ≡ (is_some xs || k) → xs ≡ bytes → k ≡ flag → (if n then ended (lane_text lane xs k) else []) ≡ (if is_some bytes || flag then ended (lane_text lane bytes flag) else [])
+      shown : (n : Bool) (xs : List ℕ) (k : Bool) → n ≡ (is_some xs || k) → xs ≡ bytes → k ≡ flag → (if n then line_ended (lane_text lane xs k) else []) ≡ (if is_some bytes || flag then line_ended (lane_text lane bytes flag) else [])
       shown n xs k d e f = rw (d, e, f) refl
 
   pub unnamed_line : length bytes ≡ 0 → flag ≡ false → lane_line lane given ≡ []
   unnamed_line z n = line_by ∙ rw n (none bytes z)
     where
-      none : (xs : List ℕ) → length xs ≡ 0 → (if is_some xs || false then ended (lane_text lane bytes false) else []) ≡ []
+      none : (xs : List ℕ) → length xs ≡ 0 → (if is_some xs || false then line_ended (lane_text lane bytes false) else []) ≡ []
       none [] z = refl
       none (x ∷ xs) z = absurd (omega arith)
 
   -- where it has bytes
-  pub line_of_bytes : eqb (length bytes) 0 ≡ false → lane_line lane given ≡ ended (lane_text lane bytes flag)
+  pub line_of_bytes : eqb (length bytes) 0 ≡ false → lane_line lane given ≡ line_ended (lane_text lane bytes flag)
   line_of_bytes n = line_by ∙ some bytes n
     where
-      some : (xs : List ℕ) → eqb (length xs) 0 ≡ false → (if is_some xs || flag then ended (lane_text lane bytes flag) else []) ≡ ended (lane_text lane bytes flag)
+      some : (xs : List ℕ) → eqb (length xs) 0 ≡ false → (if is_some xs || flag then line_ended (lane_text lane bytes flag) else []) ≡ line_ended (lane_text lane bytes flag)
       some [] n = cc
       some (x ∷ xs) n = refl
 
   -- and where it ended
-  pub line_of_end : flag ≡ true → lane_line lane given ≡ ended (lane_text lane bytes flag)
+  pub line_of_end : flag ≡ true → lane_line lane given ≡ line_ended (lane_text lane bytes flag)
   line_of_end t = line_by ∙ rw t (either (is_some bytes))
     where
-      either : (b : Bool) → (if b || true then ended (lane_text lane bytes true) else []) ≡ ended (lane_text lane bytes true)
+      either : (b : Bool) → (if b || true then line_ended (lane_text lane bytes true) else []) ≡ line_ended (lane_text lane bytes true)
       either true = refl
       either false = refl
 

@@ -1,13 +1,13 @@
--- How a line is read: the inverse of `line_of`; and what code knows of a mux and of lines. Ours.
+-- How a line is read: the inverse of `line_of_frame`; and what code knows of a mux and of lines. Ours.
 use Rattle.std.specs.Prelude.{◌≡◌, ℕ, true, false, List, [], ◌∷◌, ◌++◌, length, map, All, codes, slice_index_or, Option, Some, None}
 use Rattle.std.specs.Option.{option_map}
 use Rattle.strm_lines.specs.Lines.{lines_of}
 use Rattle.strm_lines.specs.Reading.{behind, followed_by, number_within, hex}
-use Rattle.strm_frames.specs.Frames.{Frame, Data, End, named, spelled, spelling, AreFrames}
-use Rattle.strm_frames.specs.Muxes.{Written, Carries}
+use Rattle.strm_frames.specs.Frames.{Frame, Data, End, lane_named, spelled, encoding, AreFrames}
+use Rattle.strm_frames.specs.Muxes.{Written, MuxCarries}
 use Rattle.strm_mux.specs.declared.lines.Line.{Line}
 use Rattle.strm_mux.specs.declared.lines.Line.TheVariants as lines
-use Rattle.strm_mux.specs.Lines.{line_of, HasLine, Puts}
+use Rattle.strm_mux.specs.Lines.{line_of_frame, FrameHasLine, Puts}
 
 -- what a line puts
 abbrev pub frame_of : Line → Frame
@@ -41,31 +41,31 @@ unfoldable pub line_read : List ℕ → Option Frame
 line_read line = front_read (behind (codes "lane ") line) line
 
 -- a mux was given what a line puts
-pub record Takes (old new : Written) (line : List ℕ) : Type 0 where
+pub record TakesLine (old new : Written) (line : List ℕ) : Type 0 where
   pub frame : Frame
   pub read : line_read line ≡ Some frame
-  pub unended : slice_index_or old.ended (named frame) false ≡ false
+  pub unended : slice_index_or old.ended (lane_named frame) false ≡ false
   pub bytes : new.bytes ≡ old.bytes ++ spelled frame
-  pub carries : (given : List Frame) → Carries old given → Carries new (given ++ frame ∷ [])
+  pub carries : (given : List Frame) → MuxCarries old given → MuxCarries new (given ++ frame ∷ [])
 
 -- a line puts nothing, or on a lane that ended
 abbrev pub IsRefused : Written → List ℕ → Type 0
 IsRefused old line =
-    (frame : Frame) → line_read line ≡ Some frame → slice_index_or old.ended (named frame) false ≡ true
+    (frame : Frame) → line_read line ≡ Some frame → slice_index_or old.ended (lane_named frame) false ≡ true
 
 -- a mux was given what these lines put, and nothing else
-pub record Holds (written : Written) (lines : List (List ℕ)) : Type 0 where
+pub record HoldsLines (written : Written) (lines : List (List ℕ)) : Type 0 where
   pub given : List Frame
   pub puts : Puts lines given
-  pub carries : Carries written given
-  pub bytes : written.bytes ≡ spelling given
+  pub carries : MuxCarries written given
+  pub bytes : written.bytes ≡ encoding given
 
 -- the same of the lines before the rest
 pub record HoldsSoFar (written : Written) (bytes rest : List ℕ) (count : ℕ) : Type 0 where
   pub given : List Frame
-  pub lines : lines_of bytes ≡ map line_of given ++ lines_of rest
-  pub have : All HasLine given
+  pub lines : lines_of bytes ≡ map line_of_frame given ++ lines_of rest
+  pub have : All FrameHasLine given
   pub are : AreFrames given
-  pub carries : Carries written given
-  pub spelled_is : written.bytes ≡ spelling given
+  pub carries : MuxCarries written given
+  pub spelled_is : written.bytes ≡ encoding given
   pub count_is : count ≡ length given

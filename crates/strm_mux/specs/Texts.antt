@@ -2,13 +2,13 @@
 use Rattle.std.specs.Prelude.{ℕ, zero, suc, ◌==◌, ◌||◌, Bool, true, false, List, [], ◌∷◌, ◌++◌, length, codes, decimal, if◌then◌else◌}
 use Rattle.strm_lines.specs.Grammar.{words}
 use Rattle.strm_lines.specs.Words.{hex_pairs}
-use Rattle.strm_lines.specs.Text.{ended}
-use Rattle.strm_frames.specs.Frames.{Frame, named, lane_in, ends}
+use Rattle.strm_lines.specs.Text.{line_ended}
+use Rattle.strm_frames.specs.Frames.{Frame, lane_named, lane_in, ends}
 
 -- one of these names the lane
-unfoldable pub names : ℕ → List Frame → Bool
-names lane [] = false
-names lane (frame ∷ more) = (named frame == lane) || names lane more
+unfoldable pub names_lane : ℕ → List Frame → Bool
+names_lane lane [] = false
+names_lane lane (frame ∷ more) = (lane_named frame == lane) || names_lane lane more
 
 -- a lane's bytes behind their number: a space and pairs of digits, or nothing for none
 abbrev pub bytes_text : List ℕ → List ℕ
@@ -29,7 +29,7 @@ lane_text lane bytes is_ended =
 -- the line of a lane that was named, with all that was put on it
 abbrev pub lane_line : ℕ → List Frame → List ℕ
 lane_line lane given =
-    if names lane given then ended (lane_text lane (lane_in lane given) (ends lane given)) else []
+    if names_lane lane given then line_ended (lane_text lane (lane_in lane given) (ends lane given)) else []
 
 -- those of the lanes below a number, ascending
 unfoldable pub lanes_below : ℕ → List Frame → List ℕ
@@ -42,8 +42,8 @@ moved_text moved = words (codes "moved" ∷ decimal moved ∷ [])
 
 -- the whole text: the lanes from 0 to 255, and how many bytes came
 abbrev pub output_text : List Frame → ℕ → List ℕ
-output_text given moved = lanes_below 256 given ++ ended (moved_text moved)
+output_text given moved = lanes_below 256 given ++ line_ended (moved_text moved)
 
 -- what is written where the words of the program are no two sizes
-abbrev pub usage_text : List ℕ
-usage_text = ended (codes "usage: mux WRITE READ")
+abbrev pub mux_usage_text : List ℕ
+mux_usage_text = line_ended (codes "usage: mux WRITE READ")

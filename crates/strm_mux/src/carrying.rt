@@ -4,16 +4,16 @@
 //! lanes. Ours.
 
 ghost use Rattle.std.specs.Prelude.{◌≡◌, ◌≤◌, ◌∷◌, [], List, ℕ, length, IfOk, IfErr};
-ghost use Rattle.strm_frames.specs.Demuxes.{IsFed};
+ghost use Rattle.strm_frames.specs.Demuxes.{IsDemuxFed};
 ghost use Rattle.strm_frames.specs.Frames.{Frame};
-ghost use Rattle.strm_frames.specs.Muxes.{Carries};
-ghost use Rattle.strm_laws.specs.Conservation.{got, moments, last, replies_of};
+ghost use Rattle.strm_frames.specs.Muxes.{MuxCarries};
+ghost use Rattle.strm_laws.specs.Conservation.{got, moments, state_after_steps, replies_of};
 ghost use Rattle.strm_machine.specs.Moments.{received};
 ghost use Rattle.strm_machine.specs.Plays.{play, Ends};
 ghost use Rattle.strm_memory.specs.Bytes.{IsBytes};
-ghost use Rattle.strm_mux.specs.Carrying.{Delivers, IsOneCount};
-ghost use Rattle.strm_carry_laws.specs.OneStream.{script_of, items_of, AreSettled};
-ghost use Rattle.strm_session.specs.Runs.{start, AreOfGuests, counts_of};
+ghost use Rattle.strm_mux.specs.Carrying.{DeliversFrames, IsOneCount};
+ghost use Rattle.strm_carry_laws.specs.OneStream.{script_of, bytes_as_items, AreSettled};
+ghost use Rattle.strm_session.specs.Runs.{run_start, AreOfGuests, counts_of};
 
 use crate::hearing::heard;
 use crate::scripts::script;
@@ -49,16 +49,16 @@ pub fn carry(alloc: Global, mux: &Mux, write: u32, read: u32) -> Result<Carried,
 
     // The replies are those of the machine's play on these steps, with no host ends.
     ensures steps { IfOk result (λ c. c.steps ≡ script_of write read mux.now.bytes) }
-    ensures played { IfOk result (λ c. play [] start c.steps ≡ Ends c.replies (last start c.steps)) }
+    ensures played { IfOk result (λ c. play [] run_start c.steps ≡ Ends c.replies (state_after_steps run_start c.steps)) }
 
     // What the stream got is the mux's bytes, in order, and as many were received.
-    ensures got { IfOk result (λ c. got 0 (moments start c.steps) ≡ items_of mux.now.bytes) }
+    ensures got { IfOk result (λ c. got 0 (moments run_start c.steps) ≡ bytes_as_items mux.now.bytes) }
     ensures moved { IfOk result (λ c. (c.moved ≡ length mux.now.bytes)
-        × (c.moved ≡ received 0 (last start c.steps))) }
+        × (c.moved ≡ received 0 (state_after_steps run_start c.steps))) }
 
     // Each lane is what was put on it.
-    ensures fed { IfOk result (λ c. IsFed c.demux mux.now.bytes) }
-    ensures delivers { (given : List Frame) → Carries mux.now given → IfOk result (λ c. Delivers c.demux given) }
+    ensures fed { IfOk result (λ c. IsDemuxFed c.demux mux.now.bytes) }
+    ensures delivers { (given : List Frame) → MuxCarries mux.now given → IfOk result (λ c. DeliversFrames c.demux given) }
 
     // Nothing but running out of memory is an error.
     ensures err { IfErr result (λ error. error ≡ MuxError.OutOfMemory) }
@@ -113,11 +113,11 @@ fn told(transcript: Transcript) -> Played
 fn play_all(alloc: Global, steps: &[Step]) -> Result<Played, MuxError>
     requires few { length steps.now ≤ 4294967295 }
     requires guests { AreOfGuests steps.now }
-    requires settled { AreSettled (replies_of (moments start steps.now)) }
-    requires one { IsOneCount (counts_of (last start steps.now)) }
-    ensures played { IfOk result (λ p. play [] start steps.now ≡ Ends p.replies (last start steps.now)) }
-    ensures told { IfOk result (λ p. p.replies ≡ replies_of (moments start steps.now)) }
-    ensures moved { IfOk result (λ p. p.moved ∷ [] ≡ counts_of (last start steps.now)) }
+    requires settled { AreSettled (replies_of (moments run_start steps.now)) }
+    requires one { IsOneCount (counts_of (state_after_steps run_start steps.now)) }
+    ensures played { IfOk result (λ p. play [] run_start steps.now ≡ Ends p.replies (state_after_steps run_start steps.now)) }
+    ensures told { IfOk result (λ p. p.replies ≡ replies_of (moments run_start steps.now)) }
+    ensures moved { IfOk result (λ p. p.moved ∷ [] ≡ counts_of (state_after_steps run_start steps.now)) }
     ensures err { IfErr result (λ error. error ≡ MuxError.OutOfMemory) }
 {
     let mut hosts = Hosts {

@@ -7,8 +7,8 @@ ghost use Rattle.std.specs.Option.{option_map};
 ghost use Rattle.strm_lines.specs.Lines.{lines_of};
 ghost use Rattle.strm_lines.specs.Reading.{followed_by, hex};
 ghost use Rattle.strm_frames.specs.Frames.{Frame};
-ghost use Rattle.strm_mux.specs.Lines.{Puts, IsFirstBad};
-ghost use Rattle.strm_mux.specs.LineReading.{frame_of, lane_read, line_read, Takes, IsRefused, Holds};
+ghost use Rattle.strm_mux.specs.Lines.{Puts, IsFirstBadLaneLine};
+ghost use Rattle.strm_mux.specs.LineReading.{frame_of, lane_read, line_read, TakesLine, IsRefused, HoldsLines};
 
 use std::alloc::Global;
 use strm_frames::errors::MuxError;
@@ -43,8 +43,8 @@ enum Refused {
 // A mux that was given what the lines of an input put, in order.
 pub(crate) fn mux_of(alloc: Global, bytes: &[u8]) -> Result<Mux, LinesError>
     requires { length bytes.now ≤ 262144 }
-    ensures ok { IfOk result (λ mux. Holds mux (lines_of bytes.now)) }
-    ensures bad_line { (line : ℕ) → result ≡ Err (LinesError.BadLine line) → IsFirstBad (lines_of bytes.now) line }
+    ensures ok { IfOk result (λ mux. HoldsLines mux (lines_of bytes.now)) }
+    ensures bad_line { (line : ℕ) → result ≡ Err (LinesError.BadLine line) → IsFirstBadLaneLine (lines_of bytes.now) line }
 {
     let mut mux = Mux::new(alloc);
     let mut rest = bytes;
@@ -64,7 +64,7 @@ pub(crate) fn mux_of(alloc: Global, bytes: &[u8]) -> Result<Mux, LinesError>
 
 // Puts what a line says.
 fn put_line(mux: &mut Mux, line: &[u8]) -> Result<(), Refused>
-    ensures ok { OnOk result (Takes mux.old mux.new line.now) }
+    ensures ok { OnOk result (TakesLine mux.old mux.new line.now) }
     ensures bad { result ≡ Err Refused.Bad → IsRefused mux.old line.now }
 {
     let Some(line) = read_line(line) else {
@@ -120,7 +120,7 @@ pub fn one_reading()
     ensures given { (lines : List (List ℕ)) (given others : List Frame) →
         Puts lines given → Puts lines others → given ≡ others }
     ensures apart { (lines : List (List ℕ)) (given : List Frame) (line : ℕ) →
-        Puts lines given → ¬ IsFirstBad lines line }
+        Puts lines given → ¬ IsFirstBadLaneLine lines line }
     ensures bad_line { (lines : List (List ℕ)) (line other : ℕ) →
-        IsFirstBad lines line → IsFirstBad lines other → line ≡ other }
+        IsFirstBadLaneLine lines line → IsFirstBadLaneLine lines other → line ≡ other }
 {}

@@ -9,9 +9,9 @@ ghost use Rattle.strm_lines.specs.Lines.{lines_of};
 ghost use Rattle.strm_lines.specs.Reading.{number_within};
 ghost use Rattle.strm_input_output.specs.Faults.{Rose, TakesPart};
 ghost use Rattle.strm_mux.specs.Answering.{AnswersInput};
-ghost use Rattle.strm_mux.specs.LineReading.{Holds};
-ghost use Rattle.strm_mux.specs.Lines.{Puts, IsFirstBad, IsTooLong};
-ghost use Rattle.strm_mux.specs.Serving.{AreSizes, IsSizes, IsCarriedBy, IsOutput, IsStatus, IsFaultless};
+ghost use Rattle.strm_mux.specs.LineReading.{HoldsLines};
+ghost use Rattle.strm_mux.specs.Lines.{Puts, IsFirstBadLaneLine, IsMuxTooLong};
+ghost use Rattle.strm_mux.specs.Serving.{AreSizes, IsSizes, IsCarriedBy, IsMuxOutput, IsMuxStatus, IsMuxFaultless};
 
 use crate::carrying::carry;
 use crate::lines::{LinesError, mux_of};
@@ -72,13 +72,13 @@ pub fn mux_serve<S: Source, K: Sink>(
     source: &mut S,
     sink: &mut K,
 ) -> u8
-    ensures known { IsStatus result }
+    ensures known { IsMuxStatus result }
     ensures told { result ≢ WRITE_FAULT → result ≢ OUT_OF_MEMORY → (text : List ℕ)
-        × IsOutput (map string_bytes words.now.items) (S.left source.old) (S.left source.new)
+        × IsMuxOutput (map string_bytes words.now.items) (S.left source.old) (S.left source.new)
         (S.faults source.old) (S.faults source.new) result text
         × Appends (K.taken sink.old) (K.taken sink.new) text }
     ensures part { result ≡ WRITE_FAULT → (status : ℕ) × (text : List ℕ)
-        × IsOutput (map string_bytes words.now.items) (S.left source.old) (S.left source.new)
+        × IsMuxOutput (map string_bytes words.now.items) (S.left source.old) (S.left source.new)
         (S.faults source.old) (S.faults source.new) status text
         × TakesPart (K.taken sink.old) (K.taken sink.new) text }
     ensures write_fault { result ≡ WRITE_FAULT → Rose (K.faults sink.old) (K.faults sink.new) }
@@ -90,19 +90,19 @@ pub fn mux_serve<S: Source, K: Sink>(
     // Lines that put something within the limit are carried and written, but for faults and want of
     // memory; else the first bad line is told, that the input is too long, or how to call it.
     ensures complete { (input : List ℕ) (given : List Frame) →
-        IsFaultless (map string_bytes words.now.items) (S.left source.old) input
+        IsMuxFaultless (map string_bytes words.now.items) (S.left source.old) input
         (S.faults source.old) (S.faults source.new) (K.faults sink.old) (K.faults sink.new) →
-        Puts (lines_of input) given → ¬ IsTooLong input →
+        Puts (lines_of input) given → ¬ IsMuxTooLong input →
         (result ≡ DONE) ⊎ (result ≡ OUT_OF_MEMORY) }
     ensures bad_line { (input : List ℕ) (line : ℕ) →
-        IsFaultless (map string_bytes words.now.items) (S.left source.old) input
+        IsMuxFaultless (map string_bytes words.now.items) (S.left source.old) input
         (S.faults source.old) (S.faults source.new) (K.faults sink.old) (K.faults sink.new) →
-        IsFirstBad (lines_of input) line → ¬ IsTooLong input →
+        IsFirstBadLaneLine (lines_of input) line → ¬ IsMuxTooLong input →
         (result ≡ BAD_LINE) ⊎ (result ≡ OUT_OF_MEMORY) }
     ensures too_long { (input : List ℕ) →
-        IsFaultless (map string_bytes words.now.items) (S.left source.old) input
+        IsMuxFaultless (map string_bytes words.now.items) (S.left source.old) input
         (S.faults source.old) (S.faults source.new) (K.faults sink.old) (K.faults sink.new) →
-        IsTooLong input → (result ≡ TOO_LONG) ⊎ (result ≡ OUT_OF_MEMORY) }
+        IsMuxTooLong input → (result ≡ TOO_LONG) ⊎ (result ≡ OUT_OF_MEMORY) }
     ensures usage { ¬ IsSizes (map string_bytes words.now.items) →
         ¬ Rose (K.faults sink.old) (K.faults sink.new) →
         (result ≡ USAGE) ⊎ (result ≡ OUT_OF_MEMORY) }
@@ -123,7 +123,7 @@ fn answer_words<S: Source>(
     source: &mut S,
 ) -> Result<Output, OutOfMemory>
     ensures told { IfOk result (λ a.
-        IsOutput (map string_bytes words.now.items) (S.left source.old) (S.left source.new)
+        IsMuxOutput (map string_bytes words.now.items) (S.left source.old) (S.left source.new)
         (S.faults source.old) (S.faults source.new) a.status a.text) }
     ensures read { (front : List ℕ) × Consumes (S.left source.old) (S.left source.new) front
         × (length front ≤ MAX_BYTES + 1) }
@@ -196,7 +196,7 @@ fn answer_mux(alloc: Global, mux: &Mux, sizes: Sizes) -> Result<Output, OutOfMem
     requires read { (16 ≤ sizes.read) × (sizes.read ≤ 64) }
     requires few { length mux.now.bytes ≤ 1048576 }
     ensures done { IfOk result (λ a. a.status ≡ DONE) }
-    ensures carried { (input : List ℕ) → Holds mux.now (lines_of input) →
+    ensures carried { (input : List ℕ) → HoldsLines mux.now (lines_of input) →
         IfOk result (λ a. IsCarriedBy sizes.write sizes.read input a.text) }
 {
     match carry(alloc, mux, sizes.write, sizes.read) {

@@ -4,11 +4,11 @@
 
 ghost use Rattle.std.specs.Prelude.{◌≡◌, ◌++◌, ◌<◌, ◌∷◌, [], List, All, length, IfOk, OnOk};
 ghost use Rattle.strm_lines.specs.Words.{hex_pairs};
-ghost use Rattle.strm_lines.specs.Text.{ended};
+ghost use Rattle.strm_lines.specs.Text.{line_ended};
 ghost use Rattle.strm_frames.specs.Frames.{Frame};
-ghost use Rattle.strm_mux.specs.Carrying.{Delivers};
-ghost use Rattle.strm_mux.specs.Lines.{HasLine};
-ghost use Rattle.strm_mux.specs.Texts.{bytes_text, lane_text, lane_line, lanes_below, output_text, usage_text};
+ghost use Rattle.strm_mux.specs.Carrying.{DeliversFrames};
+ghost use Rattle.strm_mux.specs.Lines.{FrameHasLine};
+ghost use Rattle.strm_mux.specs.Texts.{bytes_text, lane_text, lane_line, lanes_below, output_text, mux_usage_text};
 
 use std::alloc::Global;
 use strm_codes::counts::OutOfMemory;
@@ -22,7 +22,7 @@ pub(crate) fn output_text(
     demux: &Demux,
     moved: u64,
 ) -> Result<TextBytes, OutOfMemory>
-    ensures { (given : List Frame) → Delivers demux.now given → All HasLine given →
+    ensures { (given : List Frame) → DeliversFrames demux.now given → All FrameHasLine given →
         IfOk result (λ text. text ≡ output_text given moved) }
 {
     let mut out = TextBytes::new(alloc);
@@ -35,7 +35,7 @@ pub(crate) fn output_text(
 
 // Adds a line for each lane that was named.
 fn push_lanes(out: &mut TextBytes, demux: &Demux) -> Result<(), OutOfMemory>
-    ensures { (given : List Frame) → Delivers demux.now given → All HasLine given →
+    ensures { (given : List Frame) → DeliversFrames demux.now given → All FrameHasLine given →
         OnOk result (out.new ≡ out.old ++ lanes_below 256 given) }
 {
     for lane in 0..256usize {
@@ -46,7 +46,7 @@ fn push_lanes(out: &mut TextBytes, demux: &Demux) -> Result<(), OutOfMemory>
 
 // Adds the line of a lane, if it was named: then it has bytes, or ended.
 fn push_lane(out: &mut TextBytes, demux: &Demux, lane: u8) -> Result<(), OutOfMemory>
-    ensures { (given : List Frame) → Delivers demux.now given → All HasLine given →
+    ensures { (given : List Frame) → DeliversFrames demux.now given → All FrameHasLine given →
         OnOk result (out.new ≡ out.old ++ lane_line lane given) }
 {
     let bytes = demux.lane(lane);
@@ -64,7 +64,7 @@ fn push_named(
     bytes: &[u8],
     is_ended: bool,
 ) -> Result<(), OutOfMemory>
-    ensures { OnOk result (out.new ≡ out.old ++ ended (lane_text lane bytes.now is_ended)) }
+    ensures { OnOk result (out.new ≡ out.old ++ line_ended (lane_text lane bytes.now is_ended)) }
 {
     out.push_slice(b"lane ")?;
     push_number(out, lane)?;
@@ -100,7 +100,7 @@ fn push_pairs(out: &mut TextBytes, bytes: &[u8]) -> Result<(), OutOfMemory>
 
 // The text for words of the program that are no two sizes.
 pub(crate) fn usage_text() -> &'static [u8]
-    ensures { result.now ≡ usage_text }
+    ensures { result.now ≡ mux_usage_text }
 {
     b"usage: mux WRITE READ\n"
 }

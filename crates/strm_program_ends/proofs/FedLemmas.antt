@@ -11,7 +11,7 @@ use Rattle.strm_memory.proofs.AppendLemmas.{items-bytes}
 use Rattle.strm_buffers.specs.Listing.{items_in, listed}
 use Rattle.strm_buffers.proofs.ListingLemmas.{Lie, lie_more}
 use Rattle.strm_program_ends.specs.Queues.{items_fed}
-use Rattle.strm_program_ends.specs.Fed.{AllFed, more_fed, heard_kept, fed_kept, item_bytes, other_bytes, IsFed}
+use Rattle.strm_program_ends.specs.Fed.{AllFed, more_fed, heard_kept, fed_kept, item_bytes, other_bytes, IsQueueFed}
 use Rattle.strm_program_ends.specs.declared.feeds.Feed.{Feed}
 
 -- a part of a list stays where it is when more comes behind all
@@ -67,7 +67,7 @@ heard-more records bytes rest given left (f ∷ feeds) h g =
 
 -- what is kept after a feed
 pub record FedMore (old : AllFed) (records : ℕ) (given : List ℕ) (payload : Payload) (bytes : List ℕ) (len : ℕ) (rest : List ℕ) (feeds : List Feed) : Type 0 where
-  pub is_fed : IsFed payload bytes len rest feeds
+  pub is_fed : IsQueueFed payload bytes len rest feeds
   pub is : fed_kept payload bytes len rest feeds ≡ more_fed old records given
 
 -- so many items, of so many bytes, are what these bytes are to a queue
@@ -78,7 +78,7 @@ pub record AreFed (payload : Payload) (given : List ℕ) (n k : ℕ) : Type 0 wh
   pub within : k ≤ length given
   pub few : n ≤ length given
 
-module _ (payload : Payload) (bytes rest : List ℕ) (len : ℕ) (feeds : List Feed) (old : AllFed) (i : IsFed payload bytes len rest feeds) (v : fed_kept payload bytes len rest feeds ≡ old) where
+module _ (payload : Payload) (bytes rest : List ℕ) (len : ℕ) (feeds : List Feed) (old : AllFed) (i : IsQueueFed payload bytes len rest feeds) (v : fed_kept payload bytes len rest feeds ≡ old) where
   pub fed_more : (given : List ℕ) (n k records : ℕ) → AreFed payload given n k → FedMore old records given payload (bytes ++ take k given) (len + n) (rest ++ drop k given) (feeds ++ feed_of records (take k given) (drop k given) ∷ [])
   fed_more given n k records fed =
       let e = fed.lie in

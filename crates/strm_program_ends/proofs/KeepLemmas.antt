@@ -16,20 +16,20 @@ use Rattle.strm_buffers.specs.declared.answers.ReaderSaid.{ReaderSaid}
 use Rattle.strm_buffers.specs.Tells.{reader_record, first_lent}
 use Rattle.strm_buffers.specs.Listing.{Item, LieIn, items_in}
 use Rattle.strm_buffers.proofs.ListingLemmas.{Lie, lie_is, lie_made, lie_none, lie_more}
-use Rattle.strm_program_ends.specs.Kept.{taken_in, AreTaken, items_kept}
+use Rattle.strm_program_ends.specs.Kept.{taken_in_polls, AreTaken, items_kept}
 
-taken_in-more : (saids : List ReaderSaid) (said : ReaderSaid) → taken_in (saids ++ said ∷ []) ≡ taken_in saids + said.taken
-taken_in-more [] said = omega arith
-taken_in-more (x ∷ saids) said = omega (arith, taken_in-more saids said)
+taken_in_polls-more : (saids : List ReaderSaid) (said : ReaderSaid) → taken_in_polls (saids ++ said ∷ []) ≡ taken_in_polls saids + said.taken
+taken_in_polls-more [] said = omega arith
+taken_in_polls-more (x ∷ saids) said = omega (arith, taken_in_polls-more saids said)
 
 -- they lie there
-taken_lie : (payload : Payload) (bytes : List ℕ) (saids : List ReaderSaid) → IsBytes bytes → AreTaken payload bytes saids → LieIn (scalars_of payload) bytes 0 (taken_in saids)
+taken_lie : (payload : Payload) (bytes : List ℕ) (saids : List ReaderSaid) → IsBytes bytes → AreTaken payload bytes saids → LieIn (scalars_of payload) bytes 0 (taken_in_polls saids)
 taken_lie payload bytes saids b a =
-    go (items_at (scalars_of payload) bytes 0 (taken_in saids)) refl a.good
+    go (items_at (scalars_of payload) bytes 0 (taken_in_polls saids)) refl a.good
   where
-    go : (o : Option (List Item)) → items_at (scalars_of payload) bytes 0 (taken_in saids) ≡ o → IsSome o → LieIn (scalars_of payload) bytes 0 (taken_in saids)
+    go : (o : Option (List Item)) → items_at (scalars_of payload) bytes 0 (taken_in_polls saids) ≡ o → IsSome o → LieIn (scalars_of payload) bytes 0 (taken_in_polls saids)
     go None e g = cc
-    go (Some xs) e g = (lie_made (scalars_of payload) bytes 0 (taken_in saids) xs (omega (arith, a.all)) e (AreItems-items (scalars_of payload) bytes (taken_in saids) xs b e)).lie
+    go (Some xs) e g = (lie_made (scalars_of payload) bytes 0 (taken_in_polls saids) xs (omega (arith, a.all)) e (AreItems-items (scalars_of payload) bytes (taken_in_polls saids) xs b e)).lie
 
 -- nothing is kept before the first poll
 pub taken_none : (payload : Payload) (bytes : List ℕ) (saids : List ReaderSaid) → bytes ≡ [] → saids ≡ [] → AreTaken payload bytes saids
@@ -48,20 +48,20 @@ taken_within payload o wanted offered size p t n e =
 -- the bytes of one poll more
 pub record KeptMore (payload : Payload) (bytes new : List ℕ) (saids news : List ReaderSaid) (took : List Item) : Type 0 where
   pub taken : AreTaken payload new news
-  pub is : items_in (scalars_of payload) new 0 (taken_in news) ≡ items_in (scalars_of payload) bytes 0 (taken_in saids) ++ took
+  pub is : items_in (scalars_of payload) new 0 (taken_in_polls news) ≡ items_in (scalars_of payload) bytes 0 (taken_in_polls saids) ++ took
 
 module _ (payload : Payload) (bytes given new : List ℕ) (saids news : List ReaderSaid) (said : ReaderSaid) (took : List Item) (b : IsBytes bytes) (a : AreTaken payload bytes saids) (e : new ≡ bytes ++ given) (f : news ≡ saids ++ said ∷ []) where
   pub kept_more : let ss = scalars_of payload in LieIn ss given 0 said.taken → items_in ss given 0 said.taken ≡ took → length given ≡ item_size ss * said.taken → KeptMore payload bytes new saids news took
   kept_more l i size =
       let ss = scalars_of payload in
       let w = item_size ss in
-      let n = taken_in saids in
-      let count : taken_in news ≡ n + said.taken = ap taken_in f ∙ taken_in-more saids said in
+      let n = taken_in_polls saids in
+      let count : taken_in_polls news ≡ n + said.taken = ap taken_in_polls f ∙ taken_in_polls-more saids said in
       let more : w * (n + said.taken) ≡ w * n + w * said.taken = grind arith in
       let old = taken_lie payload bytes saids b a in
       let behind = lie_more ss bytes given 0 n said.taken (items_in ss given 0 said.taken) (record { lie = old; all = omega (arith, a.all) }) (lie_is ss given 0 said.taken l) l.fit (omega (arith, size)) in
       let all : bytes ++ take (w * said.taken) given ≡ new = ap (λ xs. bytes ++ xs) (take_all (w * said.taken) given (omega (arith, size))) ∙ sym e in
-      let lie : Lie ss new 0 (taken_in news) (items_in ss bytes 0 n ++ items_in ss given 0 said.taken) =
+      let lie : Lie ss new 0 (taken_in_polls news) (items_in ss bytes 0 n ++ items_in ss given 0 said.taken) =
       subst (λ m. Lie ss new 0 m (items_in ss bytes 0 n ++ items_in ss given 0 said.taken)) (sym count) (subst (λ xs. Lie ss xs 0 (n + said.taken) (items_in ss bytes 0 n ++ items_in ss given 0 said.taken)) all behind) in
       record {
         taken = record { all = ap length e ∙ omega (arith, length-append bytes given, a.all, size, more, ap (λ m. w * m) count); good = lie.lie.good };

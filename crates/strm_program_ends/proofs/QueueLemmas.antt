@@ -12,7 +12,7 @@ use Rattle.strm_codes.specs.Layout.{scalars_of}
 use Rattle.strm_codes.specs.declared.payloads.Payload.{Payload}
 use Rattle.strm_buffers.specs.Windows.{Lent}
 use Rattle.strm_buffers.specs.Said.{in_room, past_room}
-use Rattle.strm_buffers.specs.Tells.{WriterTells, PollsWriter, Rises, writer_record, fed}
+use Rattle.strm_buffers.specs.Tells.{WriterTells, PollsWriter, RisesOnFailed, writer_record, writer_fed}
 use Rattle.strm_buffers.specs.declared.answers.Answer.{Answer}
 use Rattle.strm_program_ends.specs.Fed.{AllFed, more_fed}
 use Rattle.strm_program_ends.specs.Queues.{items_fed, most_given, items_given, queue_left, is_over, answer_by, answer_given}
@@ -86,7 +86,7 @@ past_room_given kind (Some room) xs =
     most_in_room Future room = omega arith
 
 -- no answer is a fault
-no_fault : (over finish : Bool) (n k : ℕ) → Rises (answer_by over finish n k) 0 0
+no_fault : (over finish : Bool) (n k : ℕ) → RisesOnFailed (answer_by over finish n k) 0 0
 no_fault true finish zero k = omega arith
 no_fault false true zero k = omega arith
 no_fault false false zero k = omega arith
@@ -108,7 +108,7 @@ pub gives_polls : (old new : QueueWriter) (window after : Lent) (finish : Bool) 
 gives_polls old new window after finish a g =
     let room = room_of window.place in
     let all : after.marked ++ [] ≡ after.marked = append-nil after.marked in
-    let rises : Rises a 0 0 = rw g.answer (no_fault (is_over old.kind old.is_ended) finish (length (queue_of old).items) (length (queue_left old.kind room (queue_of old)).items)) in
+    let rises : RisesOnFailed a 0 0 = rw g.answer (no_fault (is_over old.kind old.is_ended) finish (length (queue_of old).items) (length (queue_left old.kind room (queue_of old)).items)) in
     rw all (record {
       said_more = g.said;
       fits = g.fit;
@@ -127,7 +127,7 @@ tells_of kind all polls closed =
     record { kind = kind; payload = all.payload; said = said_kept all.payload all.items polls; holds = []; faults = 0; closed = closed; heard = Some all.heard }
 
 -- a feed is heard, and the records stay
-pub fed_tells : (kind : TransmitKind) (old new : AllFed) (polls : List Poll) (closed : Bool) (records : ℕ) (bytes : List ℕ) → All (IsPoll old.items) polls → new ≡ more_fed old records bytes → records ≡ length polls → tells_of kind new polls closed ≡ fed (tells_of kind old polls closed) bytes
+pub fed_tells : (kind : TransmitKind) (old new : AllFed) (polls : List Poll) (closed : Bool) (records : ℕ) (bytes : List ℕ) → All (IsPoll old.items) polls → new ≡ more_fed old records bytes → records ≡ length polls → tells_of kind new polls closed ≡ writer_fed (tells_of kind old polls closed) bytes
 fed_tells kind old new polls closed records bytes p n e =
     let count : records ≡ length (said_kept old.payload old.items polls) = e ∙ sym (length-map polls (said_of old.payload old.items)) in
     let stay : said_kept old.payload (old.items ++ items_fed old.payload bytes) polls ≡ said_kept old.payload old.items polls = said-more old.payload old.items (items_fed old.payload bytes) polls p in

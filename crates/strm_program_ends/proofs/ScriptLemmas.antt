@@ -7,10 +7,10 @@ use Rattle.strm_memory.specs.Items.{AreItems}
 use Rattle.strm_buffers.specs.Listing.{Item}
 use Rattle.strm_buffers.specs.Windows.{Lent, room_of}
 use Rattle.strm_buffers.specs.Said.{WriterSaid, in_room, past_room}
-use Rattle.strm_buffers.specs.Tells.{PollsWriter, Rises, writer_record}
+use Rattle.strm_buffers.specs.Tells.{PollsWriter, RisesOnFailed, writer_record}
 use Rattle.strm_buffers.specs.declared.answers.Answer.{Answer}
 use Rattle.strm_buffers.specs.declared.answers.Answer.TheVariants.{Pending, Completed, Cancelled, Dropped, Failed}
-use Rattle.strm_program_ends.specs.Scripts.{faults_of, faults_in, scripted_tells}
+use Rattle.strm_program_ends.specs.Scripts.{faults_of_answer, faults_in, scripted_tells}
 use Rattle.strm_program_ends.specs.declared.scripted_writer.ScriptedWriter.{ScriptedWriter}
 
 -- what there is room for and what there is not are all
@@ -18,11 +18,11 @@ pub room_parts : (room : Option ℕ) (xs : List Item) → in_room room xs ++ pas
 room_parts None xs = append-nil xs
 room_parts (Some n) xs = take-append-drop n xs
 
-faults_in-more : (saids : List WriterSaid) (said : WriterSaid) → faults_in (saids ++ said ∷ []) ≡ faults_in saids + faults_of said.answer
+faults_in-more : (saids : List WriterSaid) (said : WriterSaid) → faults_in (saids ++ said ∷ []) ≡ faults_in saids + faults_of_answer said.answer
 faults_in-more [] said = omega arith
 faults_in-more (x ∷ saids) said = omega (arith, faults_in-more saids said)
 
-pub more_faults : (a : Answer) (n : ℕ) → Rises a n (n + faults_of a)
+pub more_faults : (a : Answer) (n : ℕ) → RisesOnFailed a n (n + faults_of_answer a)
 more_faults Pending n = omega arith
 more_faults Completed n = omega arith
 more_faults Cancelled n = omega arith
@@ -46,7 +46,7 @@ pub record Turns (old new : ScriptedWriter) (window after : Lent) (finish : Bool
 pub turns_poll : (old new : ScriptedWriter) (window after : Lent) (finish : Bool) (items : List Item) (a : Answer) → Turns old new window after finish items a → PollsWriter (scripted_tells old) (scripted_tells new) (writer_record window finish after.marked new.held.items a) after.marked
 turns_poll old new window after finish items a t =
     let all : after.marked ++ new.held.items ≡ items = rw (t.marked, t.held) (room_parts (room_of window.place) items) in
-    let rises : Rises a (faults_in old.said.items) (faults_in new.said.items) = rw (t.said, faults_in-more old.said.items (said_of window finish items a)) (more_faults a (faults_in old.said.items)) in
+    let rises : RisesOnFailed a (faults_in old.said.items) (faults_in new.said.items) = rw (t.said, faults_in-more old.said.items (said_of window finish items a)) (more_faults a (faults_in old.said.items)) in
     rw all (record {
       said_more = t.said;
       fits = t.fit;

@@ -54,7 +54,7 @@ other_bytes [] = 0
 other_bytes (feed ∷ feeds) = feed.rest_len + other_bytes feeds
 
 -- what is kept so is what was fed
-pub record IsFed (payload : Payload) (bytes : List ℕ) (len : ℕ) (rest : List ℕ) (feeds : List Feed) : Type 0 where
+pub record IsQueueFed (payload : Payload) (bytes : List ℕ) (len : ℕ) (rest : List ℕ) (feeds : List Feed) : Type 0 where
   pub all : length bytes ≡ item_size (scalars_of payload) * len
   pub lie : LieIn (scalars_of payload) bytes 0 len
   pub counted : len ≤ length bytes + length rest

@@ -21,14 +21,14 @@ next_answer [] = Pending
 next_answer (turn ∷ turns) = turn.answer
 
 -- one for an answer that is a fault
-abbrev pub faults_of : Answer → ℕ
-faults_of Failed = 1
-faults_of answer = 0
+abbrev pub faults_of_answer : Answer → ℕ
+faults_of_answer Failed = 1
+faults_of_answer answer = 0
 
 -- how many of these polls failed
 abbrev pub faults_in : List WriterSaid → ℕ
 faults_in [] = 0
-faults_in (said ∷ saids) = faults_of said.answer + faults_in saids
+faults_in (said ∷ saids) = faults_of_answer said.answer + faults_in saids
 
 -- what a scripted writer tells
 abbrev pub scripted_tells : ScriptedWriter → WriterTells

@@ -5,7 +5,7 @@ use Rattle.strm_codes.specs.declared.payloads.Payload.{Payload}
 use Rattle.strm_buffers.specs.declared.answers.Answer.TheVariants.{Pending}
 use Rattle.strm_buffers.specs.declared.answers.ReaderSaid.{ReaderSaid}
 use Rattle.strm_buffers.specs.Tells.{ReaderTells}
-use Rattle.strm_program_ends.specs.Scripts.{faults_of}
+use Rattle.strm_program_ends.specs.Scripts.{faults_of_answer}
 use Rattle.strm_program_ends.specs.Kept.{items_kept}
 use Rattle.strm_program_ends.specs.declared.scripted_reader.ReaderTurn.{ReaderTurn}
 use Rattle.strm_program_ends.specs.declared.scripted_reader.ScriptedReader.{ScriptedReader}
@@ -13,7 +13,7 @@ use Rattle.strm_program_ends.specs.declared.scripted_reader.ScriptedReader.{Scri
 -- how many of these polls failed
 abbrev pub reader_faults : List ReaderSaid → ℕ
 reader_faults [] = 0
-reader_faults (said ∷ saids) = faults_of said.answer + reader_faults saids
+reader_faults (said ∷ saids) = faults_of_answer said.answer + reader_faults saids
 
 -- the turn after so many: past the last one none is taken, and Pending is answered
 abbrev pub turn_after : List ReaderTurn → ℕ → ReaderTurn

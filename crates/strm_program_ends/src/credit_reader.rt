@@ -58,7 +58,7 @@ impl HostReader for CreditReader {
     ghost use Rattle.strm_codes.specs.Layout.{scalars_of};
     ghost use Rattle.strm_buffers.specs.Offers.{items_lent, after_taking, IsBadNext};
     ghost use Rattle.strm_buffers.specs.Said.{IfAnswered, IfNoMemory};
-    ghost use Rattle.strm_buffers.specs.Tells.{PollsReader, KeepsReader, SameOffer, reader_record, first_lent, closed_reader, granted};
+    ghost use Rattle.strm_buffers.specs.Tells.{PollsReader, KeepsReader, SameOffer, reader_record, first_lent, reader_tells_closed, reader_granted};
     ghost use Rattle.strm_program_ends.specs.Credits.{credit_tells, credit_answer, with_credit};
 
     ghost reader_tells = { credit_tells };
@@ -117,7 +117,7 @@ impl HostReader for CreditReader {
     }
 
     fn grant(&mut self, count: u32) -> Result<(), OutOfMemory>
-        ensures ok { OnOk result (credit_tells self.new ≡ granted (credit_tells self.old) count) }
+        ensures ok { OnOk result (credit_tells self.new ≡ reader_granted (credit_tells self.old) count) }
         ensures err { OnErr result (credit_tells self.new ≡ credit_tells self.old) }
 
         // It adds to the credit, and a grant of 0 ends it.
@@ -140,7 +140,7 @@ impl HostReader for CreditReader {
     }
 
     fn close(&mut self)
-        ensures closes { credit_tells self.new ≡ closed_reader (credit_tells self.old) }
+        ensures closes { credit_tells self.new ≡ reader_tells_closed (credit_tells self.old) }
 
         // Its credit stays.
         ensures credit { self.new.credit ≡ self.old.credit }

@@ -46,13 +46,13 @@ pub(crate) struct Feeds {
 }
 
 impl Model for Feeds {
-    ghost use Rattle.strm_program_ends.specs.Fed.{AllFed, fed_kept, IsFed};
+    ghost use Rattle.strm_program_ends.specs.Fed.{AllFed, fed_kept, IsQueueFed};
 
     ghost Value = { AllFed };
 
     ghost view = { λ f. fed_kept f.payload f.bytes.items f.len f.rest.items f.feeds.items };
 
-    ghost invariant = { λ f. IsFed f.payload f.bytes.items f.len f.rest.items f.feeds.items };
+    ghost invariant = { λ f. IsQueueFed f.payload f.bytes.items f.len f.rest.items f.feeds.items };
 }
 
 impl Feeds {

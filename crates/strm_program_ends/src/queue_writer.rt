@@ -33,8 +33,8 @@ pub struct QueueWriter {
     is_ended: bool,
     polls: Vec<Poll>,
     closed: bool,
-    ghost counted: { given ≤ length fed.items },
-    ghost polled: { All (IsPoll fed.items) polls.items },
+    ghost counted: { writer_given ≤ length writer_fed.items },
+    ghost polled: { All (IsPoll writer_fed.items) polls.items },
 }
 
 impl QueueWriter {
@@ -61,7 +61,7 @@ impl HostWriter for QueueWriter {
     ghost use Rattle.std.specs.Prelude.{[], true, OnOk, OnErr};
     ghost use Rattle.strm_buffers.specs.Windows.{Between, room_of};
     ghost use Rattle.strm_buffers.specs.Said.{in_room, IfAnswered, IfNoMemory};
-    ghost use Rattle.strm_buffers.specs.Tells.{PollsWriter, KeepsWriter, ClosesWriter, Fills, writer_record, given, fed};
+    ghost use Rattle.strm_buffers.specs.Tells.{PollsWriter, KeepsWriter, ClosesWriter, Fills, writer_record, writer_given, writer_fed};
     ghost use Rattle.strm_program_ends.specs.Queues.{items_given, queue_left, answer_given, queue_fed};
     ghost use Rattle.strm_program_ends.specs.QueueTells.{queue_tells, queue_of};
 
@@ -113,7 +113,7 @@ impl HostWriter for QueueWriter {
         ensures marked { OnOk result (_window.new.marked ≡
             in_room (room_of _window.old.place) (queue_tells self.old).holds) }
         ensures ok { OnOk result (queue_tells self.new ≡
-            given (queue_tells self.old) (room_of _window.old.place)) }
+            writer_given (queue_tells self.old) (room_of _window.old.place)) }
         ensures unmarked { OnErr result (_window.new.marked ≡ []) }
         ensures err { OnErr result (queue_tells self.new ≡ queue_tells self.old) }
         ensures out_of_memory { OnErr result (_window.old.place ≡ Between) }
@@ -127,7 +127,7 @@ impl HostWriter for QueueWriter {
     }
 
     fn feed(&mut self, bytes: &[u8]) -> Result<(), OutOfMemory>
-        ensures ok { OnOk result (queue_tells self.new ≡ fed (queue_tells self.old) bytes.now) }
+        ensures ok { OnOk result (queue_tells self.new ≡ writer_fed (queue_tells self.old) bytes.now) }
         ensures err { OnErr result (queue_tells self.new ≡ queue_tells self.old) }
 
         // Its items go to the end of the queue.

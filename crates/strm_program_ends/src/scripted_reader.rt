@@ -96,7 +96,7 @@ impl HostReader for ScriptedReader {
     ghost use Rattle.strm_codes.specs.Layout.{scalars_of};
     ghost use Rattle.strm_buffers.specs.Offers.{after_taking, IsBadNext};
     ghost use Rattle.strm_buffers.specs.Said.{IfAnswered, IfNoMemory};
-    ghost use Rattle.strm_buffers.specs.Tells.{PollsReader, KeepsReader, SameOffer, reader_record, first_lent, closed_reader, granted};
+    ghost use Rattle.strm_buffers.specs.Tells.{PollsReader, KeepsReader, SameOffer, reader_record, first_lent, reader_tells_closed, reader_granted};
     ghost use Rattle.strm_program_ends.specs.Takings.{scripted_reader_tells, turn_after};
 
     ghost reader_tells = { scripted_reader_tells };
@@ -159,7 +159,7 @@ impl HostReader for ScriptedReader {
 
     fn grant(&mut self, _count: u32) -> Result<(), OutOfMemory>
         ensures ok { OnOk result
-            (scripted_reader_tells self.new ≡ granted (scripted_reader_tells self.old) _count) }
+            (scripted_reader_tells self.new ≡ reader_granted (scripted_reader_tells self.old) _count) }
         ensures err { OnErr result
             (scripted_reader_tells self.new ≡ scripted_reader_tells self.old) }
 
@@ -172,7 +172,7 @@ impl HostReader for ScriptedReader {
 
     fn close(&mut self)
         ensures closes { scripted_reader_tells self.new
-            ≡ closed_reader (scripted_reader_tells self.old) }
+            ≡ reader_tells_closed (scripted_reader_tells self.old) }
 
         // Its turns stay.
         ensures turns { self.new.turns ≡ self.old.turns }

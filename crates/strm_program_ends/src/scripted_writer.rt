@@ -68,7 +68,7 @@ impl HostWriter for ScriptedWriter {
     ghost use Rattle.std.specs.Prelude.{[], ◌++◌, drop, true, OnOk, OnErr};
     ghost use Rattle.strm_buffers.specs.Windows.{Between, room_of};
     ghost use Rattle.strm_buffers.specs.Said.{in_room, IfAnswered, IfNoMemory};
-    ghost use Rattle.strm_buffers.specs.Tells.{PollsWriter, KeepsWriter, ClosesWriter, Fills, writer_record, given, fed};
+    ghost use Rattle.strm_buffers.specs.Tells.{PollsWriter, KeepsWriter, ClosesWriter, Fills, writer_record, writer_given, writer_fed};
     ghost use Rattle.strm_program_ends.specs.Scripts.{scripted_tells, next_items, next_answer};
 
     ghost writer_tells = { scripted_tells };
@@ -130,7 +130,7 @@ impl HostWriter for ScriptedWriter {
         ensures marked { OnOk result (window.new.marked ≡
             in_room (room_of window.old.place) self.old.held.items) }
         ensures ok { OnOk result (scripted_tells self.new ≡
-            given (scripted_tells self.old) (room_of window.old.place)) }
+            writer_given (scripted_tells self.old) (room_of window.old.place)) }
         ensures unmarked { OnErr result (window.new.marked ≡ []) }
         ensures err { OnErr result (scripted_tells self.new ≡ scripted_tells self.old) }
         ensures out_of_memory { OnErr result (window.old.place ≡ Between) }
@@ -146,7 +146,7 @@ impl HostWriter for ScriptedWriter {
 
     fn feed(&mut self, _bytes: &[u8]) -> Result<(), OutOfMemory>
         ensures ok { OnOk result
-            (scripted_tells self.new ≡ fed (scripted_tells self.old) _bytes.now) }
+            (scripted_tells self.new ≡ writer_fed (scripted_tells self.old) _bytes.now) }
         ensures err { OnErr result (scripted_tells self.new ≡ scripted_tells self.old) }
 
         // Its turns stay.

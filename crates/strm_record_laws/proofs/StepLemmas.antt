@@ -33,15 +33,15 @@ use Rattle.strm_host_machine.specs.Outcomes.{Outcome, Goes, Stops, Stuck, of_rep
 use Rattle.strm_host_machine.specs.Polls.{polls_reader}
 use Rattle.strm_host_machine.specs.Attaching.{has_items, hosted_stream, new_producer, hosts_new, is_dry, piped_by, pipes, forsaken, forsakes}
 use Rattle.strm_host_machine.specs.Piping.{fetches, gathered, passed_on, offers, is_done_with, ends_if_done, pipe_round}
-use Rattle.strm_host_machine.specs.Producing.{producer_turn}
-use Rattle.strm_host_machine.specs.Consuming.{consumer_turn}
+use Rattle.strm_host_machine.specs.WriterTurn.{writer_turn}
+use Rattle.strm_host_machine.specs.ReaderTurn.{reader_turn}
 use Rattle.strm_host_machine.specs.Driving.{if_open, driven_by, drive_turn, driven, round_of}
 use Rattle.strm_host_machine.specs.HostRefusals.{is_unknown_host, is_used, reasons_in, on_host_reasons, refusal_in}
-use Rattle.strm_host_machine.specs.Steps.{Touch, Operates, Drops, Hosts, Drives, TouchesNone, touch_of, reacts, reads_from, writes_to, operates_by, drops_in, on_host, performs_by, performs_in, unless_refused_in, outcome, step_of}
-use Rattle.strm_host_machine.specs.HostPlays.{play, after_step}
+use Rattle.strm_host_machine.specs.Steps.{Touch, Operates, Drops, Hosts, Drives, TouchesNone, touch_of, reacts, reads_from, writes_to, operates_by, drops_in, on_host, performs_by, performs_in, unless_refused_in, outcome, outcome_of_step}
+use Rattle.strm_host_machine.specs.HostPlays.{host_play, after_host_step}
 use Rattle.strm_record_laws.specs.Alike.{AreAlike, ComeOutAlike}
 use Rattle.strm_record_laws.proofs.AlikeLemmas.{SameWriters, SameReaders, world, Alike, alike, of_alike, writer_same, reader_same, holds_same, held_same, count_same, reader_count_same, change_same, change_reader_same, if_alike, if_same_alike, then_alike}
-use Rattle.strm_record_laws.proofs.TurnLemmas.{with_stream_in-alike, polls_writer-alike, polls_reader-alike, with_answer-alike, producer_turn-alike, consumer_turn-alike, answered-alike}
+use Rattle.strm_record_laws.proofs.TurnLemmas.{with_stream_in-alike, polls_writer-alike, polls_reader-alike, with_answer-alike, writer_turn-alike, reader_turn-alike, turn_answered-alike}
 
 -- WITHOUT HOST ENDS
 
@@ -132,11 +132,11 @@ if_open-alike None f g a b l turn = (refl, l)
 if_open-alike (Some o) f g a b l turn = if_alike o.is_open _ _ _ _ (turn o) (refl, l)
 
 -- the turn of a host writer alone, and of a host reader alone
-reading : (s n : ℕ) (stream : Stream) (a b : World) → AreAlike a b → Alike (if_open a stream.reader.operation (producer_turn a s n)) (if_open b stream.reader.operation (producer_turn b s n))
-reading s n stream a b l = if_open-alike stream.reader.operation _ _ a b l (λ o. producer_turn-alike s n o a b l)
+reading : (s n : ℕ) (stream : Stream) (a b : World) → AreAlike a b → Alike (if_open a stream.reader.operation (writer_turn a s n)) (if_open b stream.reader.operation (writer_turn b s n))
+reading s n stream a b l = if_open-alike stream.reader.operation _ _ a b l (λ o. writer_turn-alike s n o a b l)
 
-writing : (s r : ℕ) (stream : Stream) (a b : World) → AreAlike a b → Alike (if_open a stream.writer.operation (consumer_turn a s r)) (if_open b stream.writer.operation (consumer_turn b s r))
-writing s r stream a b l = if_open-alike stream.writer.operation _ _ a b l (λ o. consumer_turn-alike s r o a b l)
+writing : (s r : ℕ) (stream : Stream) (a b : World) → AreAlike a b → Alike (if_open a stream.writer.operation (reader_turn a s r)) (if_open b stream.writer.operation (reader_turn b s r))
+writing s r stream a b l = if_open-alike stream.writer.operation _ _ a b l (λ o. reader_turn-alike s r o a b l)
 
 driven_by-alike : (s : ℕ) (stream : Stream) (o p : Owner) (a b : World) → AreAlike a b → Alike (driven_by a s stream o p) (driven_by b s stream o p)
 driven_by-alike s stream (Host n) (Host r) a b l = pipe_round-alike s n r a b l
@@ -263,15 +263,15 @@ reads_from-alike : (s n : ℕ) (read : Operation) (a b : World) → AreAlike a b
 reads_from-alike s n read a b l =
     of_alike (λ a b. Alike (reads_from a s n read) (reads_from b s n read))
     (λ st ws us rs ts e h.
-    then_alike _ _ _ _ (producer_turn-alike s n read _ _ (with_stream_in-alike s _ _ _ (alike st ws us rs ts e h)))
-    (λ x y k. answered-alike s Reading x y k)) a b l
+    then_alike _ _ _ _ (writer_turn-alike s n read _ _ (with_stream_in-alike s _ _ _ (alike st ws us rs ts e h)))
+    (λ x y k. turn_answered-alike s Reading x y k)) a b l
 
 writes_to-alike : (s r : ℕ) (write : Operation) (a b : World) → AreAlike a b → Alike (writes_to a s r write) (writes_to b s r write)
 writes_to-alike s r write a b l =
     of_alike (λ a b. Alike (writes_to a s r write) (writes_to b s r write))
     (λ st ws us rs ts e h.
-    then_alike _ _ _ _ (consumer_turn-alike s r write _ _ (with_stream_in-alike s _ _ _ (alike st ws us rs ts e h)))
-    (λ x y k. answered-alike s Writing x y k)) a b l
+    then_alike _ _ _ _ (reader_turn-alike s r write _ _ (with_stream_in-alike s _ _ _ (alike st ws us rs ts e h)))
+    (λ x y k. turn_answered-alike s Writing x y k)) a b l
 
 operates_by-alike : (side : Side) (end : NamedEnd) (address count : ℕ) (o : Owner) (st : State) (ws us : List Writer) (rs ts : List Reader) → SameWriters ws us → SameReaders rs ts → Alike (operates_by (world st ws rs) side end address count o) (operates_by (world st us ts) side end address count o)
 operates_by-alike Reading end address count (Host n) st ws us rs ts e h =
@@ -336,12 +336,12 @@ outcome-alike act a b l =
 
 -- RUNS
 
-pub play-alike : (steps : List Step) (told : List Reply) (a b : World) → AreAlike a b → ComeOutAlike (play told a steps) (play told b steps)
-play-alike [] told a b l = (refl, l)
-play-alike (step ∷ more) told a b l = by (step_of a step) (step_of b step) (λ t x y k. play-alike more t x y k) (outcome-alike (act_of step) a b l)
+pub host_play-alike : (steps : List Step) (told : List Reply) (a b : World) → AreAlike a b → ComeOutAlike (host_play told a steps) (host_play told b steps)
+host_play-alike [] told a b l = (refl, l)
+host_play-alike (step ∷ more) told a b l = by (outcome_of_step a step) (outcome_of_step b step) (λ t x y k. host_play-alike more t x y k) (outcome-alike (act_of step) a b l)
   where
-    by : (x y : Outcome) → ((t : List Reply) (a b : World) → AreAlike a b → ComeOutAlike (play t a more) (play t b more)) → Alike x y → ComeOutAlike (after_step told x (λ t w. play t w more)) (after_step told y (λ t w. play t w more))
-    by (Goes r x) (Goes r' y) next e = subst (λ reply. ComeOutAlike (play (told ++ r ∷ []) x more) (play (told ++ reply ∷ []) y more)) e.0 (next (told ++ r ∷ []) x y e.1)
+    by : (x y : Outcome) → ((t : List Reply) (a b : World) → AreAlike a b → ComeOutAlike (host_play t a more) (host_play t b more)) → Alike x y → ComeOutAlike (after_host_step told x (λ t w. host_play t w more)) (after_host_step told y (λ t w. host_play t w more))
+    by (Goes r x) (Goes r' y) next e = subst (λ reply. ComeOutAlike (host_play (told ++ r ∷ []) x more) (host_play (told ++ reply ∷ []) y more)) e.0 (next (told ++ r ∷ []) x y e.1)
     by (Goes r x) (Stops t us ts) next e = elim e [ ]
     by (Goes r x) Stuck next e = elim e [ ]
     by (Stops t ws rs) (Goes r y) next e = elim e [ ]

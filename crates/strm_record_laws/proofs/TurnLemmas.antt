@@ -19,11 +19,11 @@ use Rattle.strm_host_machine.specs.Ends.{Writer, Reader, writer_in, reader_in, p
 use Rattle.strm_host_machine.specs.World.{World, with_stream_in, leaves_writer, leaves_reader}
 use Rattle.strm_host_machine.specs.Polls.{AfterWriter, AfterReader, is_failed, is_writer_poll, writer_judged, writer_says, polls_writer, is_reader_poll, tells_truly, reader_judged, reader_says, polls_reader}
 use Rattle.strm_buffers.specs.HostRules.{breaks_as_writer, breaks_as_reader}
-use Rattle.strm_host_machine.specs.Settling.{answered, answered_with}
+use Rattle.strm_host_machine.specs.Settling.{turn_answered, answered_with}
 use Rattle.strm_codes.specs.declared.codes.StreamResult.TheVariants.{Completed, Dropped}
 use Rattle.strm_host_machine.specs.Attaching.{has_items}
-use Rattle.strm_host_machine.specs.Producing.{receives, hands_out, hands_over, with_answer, produced_result, is_produced, produces, producer_turn}
-use Rattle.strm_host_machine.specs.Consuming.{consumer_turn, gives_up, with_taken}
+use Rattle.strm_host_machine.specs.WriterTurn.{receives, hands_out, hands_over, with_answer, produced_result, is_produced, produces, writer_turn}
+use Rattle.strm_host_machine.specs.ReaderTurn.{reader_turn, gives_up, reader_with_taken}
 use Rattle.strm_machine.specs.Endings.{report_on}
 use Rattle.strm_record_laws.specs.Alike.{AreAlike}
 use Rattle.strm_record_laws.proofs.AlikeLemmas.{SameWriters, SameReaders, world, Alike, OfAlike, alike, of_alike, holds_same, coming_same, reader_coming_same, change_same, change_reader_same, if_alike}
@@ -153,10 +153,10 @@ produces-alike s n read [] st ws us rs ts e h =
     (refl, receives-alike s read [] (Some Dropped) _ _ (alike st ws us rs ts e h))
     (is_produced-alike s n read _ _ (alike st ws us rs ts e h))
 
-pub producer_turn-alike : (s n : ℕ) (read : Operation) (a b : World) → AreAlike a b → Alike (producer_turn a s n read) (producer_turn b s n read)
-unfolding producer_turn
-producer_turn-alike s n read a b l =
-    of_alike (λ a b. Alike (producer_turn a s n read) (producer_turn b s n read))
+pub writer_turn-alike : (s n : ℕ) (read : Operation) (a b : World) → AreAlike a b → Alike (writer_turn a s n read) (writer_turn b s n read)
+unfolding writer_turn
+writer_turn-alike s n read a b l =
+    of_alike (λ a b. Alike (writer_turn a s n read) (writer_turn b s n read))
     (λ st ws us rs ts e h.
     subst (λ held. Alike (produces (world st ws rs) s n read (writer_in ws n).holds) (produces (world st us ts) s n read held)) (holds_same ws us n e)
     (produces-alike s n read (writer_in ws n).holds st ws us rs ts e h)) a b l
@@ -168,24 +168,24 @@ gives_up-alike s write taken answer a b l =
     of_alike (λ a b. AreAlike (gives_up a s write taken answer) (gives_up b s write taken answer))
     (λ st ws us rs ts e h. with_stream_in-alike s _ _ _ (alike st ws us rs ts e h)) a b l
 
-with_taken-alike : (r : ℕ) (answer : Answer) (taken : ℕ) (a b : World) → AreAlike a b → AreAlike (with_taken a r answer taken) (with_taken b r answer taken)
-with_taken-alike r answer taken a b l =
-    of_alike (λ a b. AreAlike (with_taken a r answer taken) (with_taken b r answer taken))
+reader_with_taken-alike : (r : ℕ) (answer : Answer) (taken : ℕ) (a b : World) → AreAlike a b → AreAlike (reader_with_taken a r answer taken) (reader_with_taken b r answer taken)
+reader_with_taken-alike r answer taken a b l =
+    of_alike (λ a b. AreAlike (reader_with_taken a r answer taken) (reader_with_taken b r answer taken))
     (λ st ws us rs ts e h. alike _ ws us rs ts e h) a b l
 
-pub consumer_turn-alike : (s r : ℕ) (write : Operation) (a b : World) → AreAlike a b → Alike (consumer_turn a s r write) (consumer_turn b s r write)
-unfolding consumer_turn
-consumer_turn-alike s r write a b l =
-    of_alike (λ a b. Alike (consumer_turn a s r write) (consumer_turn b s r write))
+pub reader_turn-alike : (s r : ℕ) (write : Operation) (a b : World) → AreAlike a b → Alike (reader_turn a s r write) (reader_turn b s r write)
+unfolding reader_turn
+reader_turn-alike s r write a b l =
+    of_alike (λ a b. Alike (reader_turn a s r write) (reader_turn b s r write))
     (λ st ws us rs ts e h.
     polls_reader-alike s r write.left write.asked _ _ _ _ _ (alike st ws us rs ts e h)
-    (λ x y said k. (refl, gives_up-alike s write said.taken said.answer _ _ (with_taken-alike r said.answer said.taken x y k)))) a b l
+    (λ x y said k. (refl, gives_up-alike s write said.taken said.answer _ _ (reader_with_taken-alike r said.answer said.taken x y k)))) a b l
 
 -- WHAT A CALL ANSWERS
 
-pub answered-alike : (s : ℕ) (side : Side) (a b : World) → AreAlike a b → Alike (answered a s side) (answered b s side)
-answered-alike s side a b l =
-    of_alike (λ a b. Alike (answered a s side) (answered b s side))
+pub turn_answered-alike : (s : ℕ) (side : Side) (a b : World) → AreAlike a b → Alike (turn_answered a s side) (turn_answered b s side)
+turn_answered-alike s side a b l =
+    of_alike (λ a b. Alike (turn_answered a s side) (turn_answered b s side))
     (λ st ws us rs ts e h. by (report_on side (stream_at st s)) st ws us rs ts e h) a b l
   where
     by : (code : Option ReturnCode) (st : State) (ws us : List Writer) (rs ts : List Reader) → SameWriters ws us → SameReaders rs ts → Alike (answered_with (world st ws rs) s side code) (answered_with (world st us ts) s side code)

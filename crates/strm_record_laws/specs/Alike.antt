@@ -2,7 +2,7 @@
 use Rattle.std.specs.Prelude.{◌≡◌, map, false, None}
 use Rattle.strm_host_machine.specs.Ends.{Writer, Reader}
 use Rattle.strm_host_machine.specs.World.{World}
-use Rattle.strm_host_machine.specs.HostPlays.{Played, Ends, Halts, Hangs}
+use Rattle.strm_host_machine.specs.HostPlays.{HostPlayed, Ends, Halts, Hangs}
 
 -- a host writer without what no step looks at: how many records it made, whether it was closed or is gone, and
 -- what it heard
@@ -21,7 +21,7 @@ pub record AreAlike (a b : World) : Type 0 where
   pub readers : map bare_reader a.readers ≡ map bare_reader b.readers
 
 -- two runs come out alike
-abbrev pub ComeOutAlike : Played → Played → Type 0
+abbrev pub ComeOutAlike : HostPlayed → HostPlayed → Type 0
 ComeOutAlike (Ends told a) (Ends told' b) = (told ≡ told') × AreAlike a b
 ComeOutAlike (Halts told stop writers readers) (Halts told' stop' writers' readers') =
     (told ≡ told') × (stop ≡ stop')

@@ -12,8 +12,8 @@ use Rattle.std.specs.FinSet.{contains-empty}
 use Rattle.std.specs.List.{IsDistinct, AllByRecursion}
 use Rattle.std.specs.Ordering.{nat_cmp}
 use Rattle.std.specs.Prelude.{nat_eq, nat_lt, is_none, option_map, option_and_then}
-use Rattle.strm_resources.specs.Nodes.{Node, node_at, children_of, parent_at, children_at, is_childless, new_node, with_parent, with_child, without_child, changed, linked, unlinked, cut_from, cut, next_of, filled}
-use Rattle.strm_resources.specs.Links.{is_among, is_number, is_vacant, AreKept}
+use Rattle.strm_resources.specs.Nodes.{Node, node_at, children_of, parent_at, children_at, is_childless, new_node, with_parent, with_child, without_child, with_node, linked, unlinked, cut_from, cut, next_node, filled}
+use Rattle.strm_resources.specs.Links.{is_among, is_number, is_vacant, IsLinked}
 use Rattle.strm_resources.proofs.NodeLemmas.{contains-inserted, contains-removed, lacks-childless}
 use Rattle.strm_resources.proofs.SlotLemmas.{by_eq, eq-other, slot-set, slot-filled, node_at-changed, length-changed}
 
@@ -85,13 +85,13 @@ same_presence change false o = refl
 
 -- ---- all nodes
 
-pub is_some-changed : (change : Node → Node) (nodes : List (Option Node)) (at number : ℕ) → is_some (node_at (changed change nodes at) number) ≡ is_some (node_at nodes number)
+pub is_some-changed : (change : Node → Node) (nodes : List (Option Node)) (at number : ℕ) → is_some (node_at (with_node change nodes at) number) ≡ is_some (node_at nodes number)
 is_some-changed change nodes at number =
     ap is_some (node_at-changed change nodes at number) ∙ same_presence change (nat_eq number at) (node_at nodes number)
 
-is_vacant-changed : (change : Node → Node) (nodes : List (Option Node)) (at number : ℕ) → is_vacant (changed change nodes at) number ≡ is_vacant nodes number
+is_vacant-changed : (change : Node → Node) (nodes : List (Option Node)) (at number : ℕ) → is_vacant (with_node change nodes at) number ≡ is_vacant nodes number
 is_vacant-changed change nodes at number =
-    ap (λ n. nat_lt number n && is_none (node_at (changed change nodes at) number)) (length-changed change nodes at)
+    ap (λ n. nat_lt number n && is_none (node_at (with_node change nodes at) number)) (length-changed change nodes at)
     ∙ ap (λ b. nat_lt number (length nodes) && not b) (is_some-changed change nodes at number)
 
 -- a change that keeps a node's parent
@@ -103,9 +103,9 @@ abbrev IsPresent : List (Option Node) → ℕ → Type 0
 IsPresent nodes number = is_some (node_at nodes number) ≡ true
 
 -- the parents after a link
-parent_at-relinked : (change : Node → Node) → KeepsParent change → (parent : Option ℕ) (nodes : List (Option Node)) (child other at : ℕ) → IsPresent nodes child → parent_at (changed (with_parent parent) (changed change nodes other) child) at ≡ cond (nat_eq at child) parent (parent_at nodes at)
+parent_at-relinked : (change : Node → Node) → KeepsParent change → (parent : Option ℕ) (nodes : List (Option Node)) (child other at : ℕ) → IsPresent nodes child → parent_at (with_node (with_parent parent) (with_node change nodes other) child) at ≡ cond (nat_eq at child) parent (parent_at nodes at)
 parent_at-relinked change keeps parent nodes child other number there =
-    let inner = changed change nodes other in
+    let inner = with_node change nodes other in
     let kept : parent_at inner number ≡ parent_at nodes number =
     ap (option_and_then (λ node. node.parent)) (node_at-changed change nodes other number) ∙ same_parent change keeps (nat_eq number other) (node_at nodes number) in
     ap (option_and_then (λ node. node.parent)) (node_at-changed (with_parent parent) inner child number)
@@ -116,12 +116,12 @@ parent_at-relinked change keeps parent nodes child other number there =
     ∙ ap (cond (nat_eq number child) parent) kept
 
 -- the children after a link
-has-outer : (parent : Option ℕ) (nodes : List (Option Node)) (child at number : ℕ) → set.contains (children_at (changed (with_parent parent) nodes child) at) number ≡ set.contains (children_at nodes at) number
+has-outer : (parent : Option ℕ) (nodes : List (Option Node)) (child at number : ℕ) → set.contains (children_at (with_node (with_parent parent) nodes child) at) number ≡ set.contains (children_at nodes at) number
 has-outer parent nodes child at number =
     ap (λ o. set.contains (children_of o) number) (node_at-changed (with_parent parent) nodes child at)
     ∙ ap (λ s. set.contains s number) (same_children (with_parent parent) (λ node. refl) (nat_eq at child) (node_at nodes at))
 
-has-with_child : (nodes : List (Option Node)) (child parent at number : ℕ) → is_some (node_at nodes parent) ≡ true → set.contains (children_at (changed (with_child child) nodes parent) at) number ≡ ((nat_eq at parent && nat_eq number child) || set.contains (children_at nodes at) number)
+has-with_child : (nodes : List (Option Node)) (child parent at number : ℕ) → is_some (node_at nodes parent) ≡ true → set.contains (children_at (with_node (with_child child) nodes parent) at) number ≡ ((nat_eq at parent && nat_eq number child) || set.contains (children_at nodes at) number)
 has-with_child nodes child parent at number there =
     ap (λ o. set.contains (children_of o) number) (node_at-changed (with_child child) nodes parent at)
     ∙ by_eq at parent
@@ -129,7 +129,7 @@ has-with_child nodes child parent at number there =
     (λ same. has-more child number true (node_at nodes at) (λ _. ap (λ n. is_some (node_at nodes n)) same ∙ there))
     (λ apart. refl)
 
-has-without_child : (nodes : List (Option Node)) (child parent at number : ℕ) → set.contains (children_at (changed (without_child child) nodes parent) at) number ≡ (not (nat_eq at parent && nat_eq number child) && set.contains (children_at nodes at) number)
+has-without_child : (nodes : List (Option Node)) (child parent at number : ℕ) → set.contains (children_at (with_node (without_child child) nodes parent) at) number ≡ (not (nat_eq at parent && nat_eq number child) && set.contains (children_at nodes at) number)
 has-without_child nodes child parent at number =
     ap (λ o. set.contains (children_of o) number) (node_at-changed (without_child child) nodes parent at)
     ∙ has-less child number (nat_eq at parent) (node_at nodes at)
@@ -177,14 +177,14 @@ present-from_parent nodes child parent tied = by (node_at nodes child) tied
     by None e = absurd (cc)
     by (Some node) e = refl
 
-module _ (nodes : List (Option Node)) (freed : List ℕ) (kept : AreKept nodes freed) where
+module _ (nodes : List (Option Node)) (freed : List ℕ) (kept : IsLinked nodes freed) where
   -- a parent has a node
   pub parent_present : (child parent : ℕ) → parent_at nodes child ≡ Some parent → is_some (node_at nodes parent) ≡ true
   parent_present child parent tied =
       present-from_child nodes parent child (kept.linked child parent ∙ ap (λ o. is_number o parent) tied ∙ nat_eq_equiv.refl parent)
 
-  pub AreKept-linked : (child parent : ℕ) → is_some (node_at nodes child) ≡ true → is_some (node_at nodes parent) ≡ true → parent_at nodes child ≡ None → AreKept (linked nodes child parent) freed
-  AreKept-linked child parent there there' loose = record {
+  pub IsLinked-linked : (child parent : ℕ) → is_some (node_at nodes child) ≡ true → is_some (node_at nodes parent) ≡ true → parent_at nodes child ≡ None → IsLinked (linked nodes child parent) freed
+  IsLinked-linked child parent there there' loose = record {
     vacant = λ number. kept.vacant number ∙ sym (is_vacant-changed (with_parent (Some parent)) _ child number ∙ is_vacant-changed (with_child child) nodes parent number);
     apart = kept.apart;
     linked = λ number at.
@@ -194,8 +194,8 @@ module _ (nodes : List (Option Node)) (freed : List ℕ) (kept : AreKept nodes f
         ∙ ap (λ o. is_number o at) (sym (parent_at-relinked (with_child child) (λ node. refl) (Some parent) nodes child parent number there));
   }
 
-  pub AreKept-unlinked : (child parent : ℕ) → parent_at nodes child ≡ Some parent → AreKept (unlinked nodes child parent) freed
-  AreKept-unlinked child parent tied = record {
+  pub IsLinked-unlinked : (child parent : ℕ) → parent_at nodes child ≡ Some parent → IsLinked (unlinked nodes child parent) freed
+  IsLinked-unlinked child parent tied = record {
     vacant = λ number. kept.vacant number ∙ sym (is_vacant-changed (with_parent None) _ child number ∙ is_vacant-changed (without_child child) nodes parent number);
     apart = kept.apart;
     linked = λ number at.
@@ -258,13 +258,13 @@ cut_is_childless nodes child number none = by (parent_at nodes child)
         ∙ ap (λ b. not (nat_eq child parent && nat_eq number child) && b) lacks
         ∙ and-false (not (nat_eq child parent && nat_eq number child))
 
-module _ (nodes : List (Option Node)) (freed : List ℕ) (kept : AreKept nodes freed) where
-  pub AreKept-cut : (child : ℕ) → AreKept (cut nodes child) freed
-  AreKept-cut child = by (parent_at nodes child) refl
+module _ (nodes : List (Option Node)) (freed : List ℕ) (kept : IsLinked nodes freed) where
+  pub IsLinked-cut : (child : ℕ) → IsLinked (cut nodes child) freed
+  IsLinked-cut child = by (parent_at nodes child) refl
     where
-      by : (o : Option ℕ) → parent_at nodes child ≡ o → AreKept (cut_from nodes child o) freed
+      by : (o : Option ℕ) → parent_at nodes child ≡ o → IsLinked (cut_from nodes child o) freed
       by None e = kept
-      by (Some parent) e = AreKept-unlinked nodes freed kept child parent e
+      by (Some parent) e = IsLinked-unlinked nodes freed kept child parent e
 
   -- a number with a node is not freed
   pub present_not_freed : (number : ℕ) → is_some (node_at nodes number) ≡ true → is_among freed number ≡ false
@@ -272,8 +272,8 @@ module _ (nodes : List (Option Node)) (freed : List ℕ) (kept : AreKept nodes f
       kept.vacant number ∙ ap (λ b. nat_lt number (length nodes) && b) (some-present (node_at nodes number) there) ∙ and-false (nat_lt number (length nodes))
 
 -- a node without links, taken away
-pub AreKept-emptied : (nodes : List (Option Node)) (freed : List ℕ) (number : ℕ) → AreKept nodes freed → is_some (node_at nodes number) ≡ true → parent_at nodes number ≡ None → ((child : ℕ) → set.contains (children_at nodes number) child ≡ false) → AreKept (set nodes number None) (number ∷ freed)
-AreKept-emptied nodes freed number kept there loose childless =
+pub IsLinked-emptied : (nodes : List (Option Node)) (freed : List ℕ) (number : ℕ) → IsLinked nodes freed → is_some (node_at nodes number) ≡ true → parent_at nodes number ≡ None → ((child : ℕ) → set.contains (children_at nodes number) child ≡ false) → IsLinked (set nodes number None) (number ∷ freed)
+IsLinked-emptied nodes freed number kept there loose childless =
     let inside = present_inside nodes number there in
     record {
       vacant = λ other.
@@ -296,25 +296,25 @@ AreKept-emptied nodes freed number kept there loose childless =
     }
 
 -- a childless number, freed
-pub AreKept-freed : (nodes : List (Option Node)) (freed : List ℕ) (number : ℕ) → AreKept nodes freed → is_some (node_at nodes number) ≡ true → is_childless (children_at nodes number) ≡ true → AreKept (set (cut nodes number) number None) (number ∷ freed)
-AreKept-freed nodes freed number kept there childless =
-    AreKept-emptied (cut nodes number) freed number (AreKept-cut nodes freed kept number) (is_some-cut nodes number number ∙ there) (cut_is_loose nodes number) (λ child. cut_is_childless nodes number child childless)
+pub IsLinked-freed : (nodes : List (Option Node)) (freed : List ℕ) (number : ℕ) → IsLinked nodes freed → is_some (node_at nodes number) ≡ true → is_childless (children_at nodes number) ≡ true → IsLinked (set (cut nodes number) number None) (number ∷ freed)
+IsLinked-freed nodes freed number kept there childless =
+    IsLinked-emptied (cut nodes number) freed number (IsLinked-cut nodes freed kept number) (is_some-cut nodes number number ∙ there) (cut_is_loose nodes number) (λ child. cut_is_childless nodes number child childless)
 
 -- ---- a number given
 
 -- the next number has no node, and if it was freed it is below the length
-pub next_vacant : (nodes : List (Option Node)) (freed : List ℕ) → AreKept nodes freed → node_at nodes (next_of freed (length nodes)) ≡ None
+pub next_vacant : (nodes : List (Option Node)) (freed : List ℕ) → IsLinked nodes freed → node_at nodes (next_node freed (length nodes)) ≡ None
 next_vacant nodes [] kept = get_or_past nodes (length nodes) None (omega arith)
 next_vacant nodes (number ∷ freed) kept =
     none-some (node_at nodes number) (and-right (nat_lt number (length nodes)) _ (sym (kept.vacant number) ∙ ap (λ b. b || is_among freed number) (nat_eq_equiv.refl number)))
 
-pub next_inside : (nodes : List (Option Node)) (freed : List ℕ) → AreKept nodes freed → freed ≢ [] → next_of freed (length nodes) < length nodes
+pub next_inside : (nodes : List (Option Node)) (freed : List ℕ) → IsLinked nodes freed → freed ≢ [] → next_node freed (length nodes) < length nodes
 next_inside nodes [] kept some = absurd (some refl)
 next_inside nodes (number ∷ freed) kept some =
     ltb-true number (length nodes) (and-left (nat_lt number (length nodes)) _ (sym (kept.vacant number) ∙ ap (λ b. b || is_among freed number) (nat_eq_equiv.refl number)))
 
 -- as many numbers are freed as there are at most
-pub freed_fit : (nodes : List (Option Node)) (freed : List ℕ) → AreKept nodes freed → length freed ≤ length nodes
+pub freed_fit : (nodes : List (Option Node)) (freed : List ℕ) → IsLinked nodes freed → length freed ≤ length nodes
 freed_fit nodes freed kept =
     length-le_from_distinct_below freed (length nodes) kept.apart (λ number among. ltb-true number (length nodes) (and-left (nat_lt number (length nodes)) _ (sym (kept.vacant number) ∙ among)))
 
@@ -330,16 +330,16 @@ AreVacant nodes freed = (number : ℕ) → is_among freed number ≡ is_vacant n
 
 -- the next number, where it was freed, is below the length
 abbrev NextIsInside : List (Option Node) → List ℕ → Type 0
-NextIsInside nodes freed = freed ≢ [] → next_of freed (length nodes) < length nodes
+NextIsInside nodes freed = freed ≢ [] → next_node freed (length nodes) < length nodes
 
 -- the next number has no node
 abbrev NextIsVacant : List (Option Node) → List ℕ → Type 0
-NextIsVacant nodes freed = node_at nodes (next_of freed (length nodes)) ≡ None
+NextIsVacant nodes freed = node_at nodes (next_node freed (length nodes)) ≡ None
 
 -- the links are tied as they are once the next number has this parent
 abbrev KnowsNext : List (Option Node) → List ℕ → Option ℕ → Type 0
 KnowsNext nodes freed parent =
-    (child at : ℕ) → has_child nodes at child ≡ is_number (cond (nat_eq child (next_of freed (length nodes))) parent (parent_at nodes child)) at
+    (child at : ℕ) → has_child nodes at child ≡ is_number (cond (nat_eq child (next_node freed (length nodes))) parent (parent_at nodes child)) at
 
 vacant-filled : (nodes : List (Option Node)) (freed : List ℕ) (node : Node) → AreVacant nodes freed → IsDistinct nat_eq freed → NextIsInside nodes freed → (number : ℕ) → is_among (drop 1 freed) number ≡ is_vacant (filled freed nodes node) number
 vacant-filled nodes [] node vacant apart inside number =
@@ -360,9 +360,9 @@ distinct-drop [] apart = apart
 distinct-drop (first ∷ freed) apart = IsDistinct-tail nat_eq first freed apart
 
 -- a number given with a parent, or none, where the children know of it already
-AreKept-given : (nodes : List (Option Node)) (freed : List ℕ) (parent : Option ℕ) → AreVacant nodes freed → IsDistinct nat_eq freed → NextIsInside nodes freed → NextIsVacant nodes freed → KnowsNext nodes freed parent → AreKept (filled freed nodes (new_node parent)) (drop 1 freed)
-AreKept-given nodes freed parent vacant apart inside lacks links =
-    let next = next_of freed (length nodes) in
+IsLinked-given : (nodes : List (Option Node)) (freed : List ℕ) (parent : Option ℕ) → AreVacant nodes freed → IsDistinct nat_eq freed → NextIsInside nodes freed → NextIsVacant nodes freed → KnowsNext nodes freed parent → IsLinked (filled freed nodes (new_node parent)) (drop 1 freed)
+IsLinked-given nodes freed parent vacant apart inside lacks links =
+    let next = next_node freed (length nodes) in
     record {
       vacant = vacant-filled nodes freed (new_node parent) vacant apart inside;
       apart = distinct-drop freed apart;
@@ -378,27 +378,27 @@ AreKept-given nodes freed parent vacant apart inside lacks links =
           ∙ sym (ap (λ o. is_number (option_and_then (λ node. node.parent) o) at) (slot-filled freed nodes child (new_node parent) inside));
     }
 
-module _ (nodes : List (Option Node)) (freed : List ℕ) (kept : AreKept nodes freed) where
+module _ (nodes : List (Option Node)) (freed : List ℕ) (kept : IsLinked nodes freed) where
   -- a number given with no links
-  pub AreKept-filled : AreKept (filled freed nodes (new_node None)) (drop 1 freed)
-  AreKept-filled =
-      let next = next_of freed (length nodes) in
+  pub IsLinked-filled : IsLinked (filled freed nodes (new_node None)) (drop 1 freed)
+  IsLinked-filled =
+      let next = next_node freed (length nodes) in
       let lacks = next_vacant nodes freed kept in
-      AreKept-given nodes freed None kept.vacant kept.apart (next_inside nodes freed kept) lacks (λ child at.
+      IsLinked-given nodes freed None kept.vacant kept.apart (next_inside nodes freed kept) lacks (λ child at.
       kept.linked child at
       ∙ by_eq child next (λ t. is_number (parent_at nodes child) at ≡ is_number (cond t None (parent_at nodes child)) at)
       (λ same. ap (λ o. is_number (option_and_then (λ node. node.parent) o) at) (ap (node_at nodes) same ∙ lacks))
       (λ _. refl))
 
   -- a number given as a child
-  pub AreKept-filled_child : (parent : ℕ) → is_some (node_at nodes parent) ≡ true → AreKept (filled freed (changed (with_child (next_of freed (length nodes))) nodes parent) (new_node (Some parent))) (drop 1 freed)
-  AreKept-filled_child parent there =
-      let next = next_of freed (length nodes) in
-      let more = changed (with_child next) nodes parent in
+  pub IsLinked-filled_child : (parent : ℕ) → is_some (node_at nodes parent) ≡ true → IsLinked (filled freed (with_node (with_child (next_node freed (length nodes))) nodes parent) (new_node (Some parent))) (drop 1 freed)
+  IsLinked-filled_child parent there =
+      let next = next_node freed (length nodes) in
+      let more = with_node (with_child next) nodes parent in
       let long : length more ≡ length nodes = length-changed (with_child next) nodes parent in
-      let same_next : next_of freed (length more) ≡ next = ap (next_of freed) long in
+      let same_next : next_node freed (length more) ≡ next = ap (next_node freed) long in
       let lacks = next_vacant nodes freed kept in
-      AreKept-given more freed (Some parent)
+      IsLinked-given more freed (Some parent)
       (λ number. kept.vacant number ∙ sym (is_vacant-changed (with_child next) nodes parent number))
       kept.apart
       (λ some. rw (same_next, long) (next_inside nodes freed kept some))
@@ -410,9 +410,9 @@ module _ (nodes : List (Option Node)) (freed : List ℕ) (kept : AreKept nodes f
       ∙ ap (λ n. is_number (cond (nat_eq child n) (Some parent) (parent_at more child)) at) (sym same_next))
 
 -- no numbers at all
-pub AreKept-none : AreKept [] []
+pub IsLinked-none : IsLinked [] []
 unfolding IsDistinct
-AreKept-none = record {
+IsLinked-none = record {
   vacant = λ number. sym (ap (λ b. b && true) (le-ltb number 0 (omega arith)));
   apart = tt;
   linked = λ child parent. contains-empty nat_cmp child;
@@ -430,7 +430,7 @@ length-filled [] nodes node capacity room reserved = omega (arith, length_push n
 length-filled (first ∷ freed) nodes node capacity room reserved = omega (arith, length-set nodes first (Some node))
 
 -- where the next number is a u32, so is each number
-pub length-filled_small : (freed : List ℕ) (nodes : List (Option Node)) (node : Node) → next_of freed (length nodes) ≤ 4294967295 → length nodes ≤ 4294967296 → length (filled freed nodes node) ≤ 4294967296
+pub length-filled_small : (freed : List ℕ) (nodes : List (Option Node)) (node : Node) → next_node freed (length nodes) ≤ 4294967295 → length nodes ≤ 4294967296 → length (filled freed nodes node) ≤ 4294967296
 length-filled_small [] nodes node next small = omega (arith, length_push nodes (Some node))
 length-filled_small (first ∷ freed) nodes node next small = omega (arith, length-set nodes first (Some node))
 
@@ -438,6 +438,6 @@ pub some_reversed : (xs : List ℕ) → xs ≢ [] → reverse xs ≢ []
 some_reversed xs some none = some (sym (reverse-reverse xs) ∙ ap reverse none)
 
 -- where a number is freed, the next number is a u32
-pub next_small : (nodes : List (Option Node)) (stack : List ℕ) → AreKept nodes (reverse stack) → length nodes ≤ 4294967296 → nat_eq (length stack) 0 ≡ false → next_of (reverse stack) (length nodes) ≤ 4294967295
+pub next_small : (nodes : List (Option Node)) (stack : List ℕ) → IsLinked nodes (reverse stack) → length nodes ≤ 4294967296 → nat_eq (length stack) 0 ≡ false → next_node (reverse stack) (length nodes) ≤ 4294967295
 next_small nodes stack kept small some =
     omega (arith, next_inside nodes (reverse stack) kept (some_reversed stack (λ none. true≢false (ap (λ xs. nat_eq (length xs) 0) (sym none) ∙ some))))

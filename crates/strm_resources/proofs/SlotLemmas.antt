@@ -4,7 +4,7 @@ use Rattle.std.proofs.lemmas.List.{get_or-set_same, get_or-set_other, get_or_pas
 use Rattle.std.proofs.lemmas.Bool.{cases_lt, true≢false}
 use Rattle.std.specs.Prelude.{nat_eq, option_map}
 use Rattle.std.specs.Cmp.{unsigned_Decides}
-use Rattle.strm_resources.specs.Nodes.{Node, node_at, changed, next_of, filled}
+use Rattle.strm_resources.specs.Nodes.{Node, node_at, with_node, next_node, filled}
 
 -- a test of two numbers, by cases
 pub by_eq : (a b : ℕ) (P : Bool → Type 0) → (a ≡ b → P true) → (a ≢ b → P false) → P (nat_eq a b)
@@ -36,12 +36,12 @@ module _ {X : Type 0} where
       (cases_lt number (length slots)))
 
   -- a number's slot after the next one was filled
-  pub slot-filled : (freed : List ℕ) (slots : List (Option X)) (number : ℕ) (x : X) → (freed ≢ [] → next_of freed (length slots) < length slots) → get_or (filled freed slots x) number None ≡ cond (nat_eq number (next_of freed (length slots))) (Some x) (get_or slots number None)
+  pub slot-filled : (freed : List ℕ) (slots : List (Option X)) (number : ℕ) (x : X) → (freed ≢ [] → next_node freed (length slots) < length slots) → get_or (filled freed slots x) number None ≡ cond (nat_eq number (next_node freed (length slots))) (Some x) (get_or slots number None)
   slot-filled [] slots number x inside = slot-push slots number x
   slot-filled (at ∷ freed) slots number x inside = slot-set slots at number (Some x) (inside (λ e. cc))
 
 -- a number's node after one was changed
-pub node_at-changed : (change : Node → Node) (nodes : List (Option Node)) (at number : ℕ) → node_at (changed change nodes at) number ≡ cond (nat_eq number at) (option_map change (node_at nodes number)) (node_at nodes number)
+pub node_at-changed : (change : Node → Node) (nodes : List (Option Node)) (at number : ℕ) → node_at (with_node change nodes at) number ≡ cond (nat_eq number at) (option_map change (node_at nodes number)) (node_at nodes number)
 node_at-changed change nodes at number =
     ⊎_elim
     (λ inside. slot-set nodes at number (option_map change (node_at nodes at)) inside ∙ by_eq number at
@@ -54,5 +54,5 @@ node_at-changed change nodes at number =
     (λ apart. refl))
     (cases_lt at (length nodes))
 
-pub length-changed : (change : Node → Node) (nodes : List (Option Node)) (at : ℕ) → length (changed change nodes at) ≡ length nodes
+pub length-changed : (change : Node → Node) (nodes : List (Option Node)) (at : ℕ) → length (with_node change nodes at) ≡ length nodes
 length-changed change nodes at = length-set nodes at _

@@ -3,7 +3,7 @@ use Rattle.std.proofs.Common.{◌≡◌, ◌≢◌, ℕ, zero, suc, ◌+◌, ◌
 use Rattle.std.proofs.lemmas.List.{length-map, map-set, map_push, set-get_or}
 use Rattle.std.specs.Prelude.{nat_eq, option_map}
 use Rattle.std.specs.Cmp.{nat_eq_equiv}
-use Rattle.strm_resources.specs.Nodes.{Node, node_at, parent_at, new_node, changed, with_parent, with_child, without_child, linked, unlinked, cut_from, cut, next_of, filled, with_new_child}
+use Rattle.strm_resources.specs.Nodes.{Node, node_at, parent_at, new_node, with_node, with_parent, with_child, without_child, linked, unlinked, cut_from, cut, next_node, filled, with_new_child}
 use Rattle.strm_resources.proofs.SlotLemmas.{eq-other}
 
 module _ {X : Type 0} where
@@ -18,7 +18,7 @@ module _ {X : Type 0} where
       map-set is_some xs number x ∙ ap (set (map is_some xs) number) (same ∙ is_some-get_or xs number) ∙ set-get_or (map is_some xs) number false
 
   -- the next slot, as a table fills it
-  pub put-filled : (freed : List ℕ) (xs : List (Option X)) (number : ℕ) (x : X) → number ≡ next_of freed (length xs) → (freed ≢ [] → number < length xs) → cond (nat_eq number (length xs)) (xs ++ Some x ∷ []) (set xs number (Some x)) ≡ filled freed xs x
+  pub put-filled : (freed : List ℕ) (xs : List (Option X)) (number : ℕ) (x : X) → number ≡ next_node freed (length xs) → (freed ≢ [] → number < length xs) → cond (nat_eq number (length xs)) (xs ++ Some x ∷ []) (set xs number (Some x)) ≡ filled freed xs x
   put-filled [] xs number x is inside =
       ap (λ n. cond (nat_eq n (length xs)) (xs ++ Some x ∷ []) (set xs n (Some x))) is ∙ ap (λ t. cond t (xs ++ Some x ∷ []) (set xs (length xs) (Some x))) (nat_eq_equiv.refl (length xs))
   put-filled (first ∷ freed) xs number x is inside =
@@ -43,7 +43,7 @@ is_some-mapped : (change : Node → Node) (o : Option Node) → is_some (option_
 is_some-mapped change None = refl
 is_some-mapped change (Some node) = refl
 
-alike-changed : (change : Node → Node) (nodes : List (Option Node)) (number : ℕ) → map is_some (changed change nodes number) ≡ map is_some nodes
+alike-changed : (change : Node → Node) (nodes : List (Option Node)) (number : ℕ) → map is_some (with_node change nodes number) ≡ map is_some nodes
 alike-changed change nodes number = alike-rewritten nodes number _ (is_some-mapped change (node_at nodes number))
 
 pub alike-linked : (nodes : List (Option Node)) (child parent : ℕ) → map is_some (linked nodes child parent) ≡ map is_some nodes
@@ -61,13 +61,13 @@ alike-cut nodes child = by (parent_at nodes child)
 
 pub alike-new_child : {X : Type 0} (xs : List (Option X)) (nodes : List (Option Node)) → map is_some xs ≡ map is_some nodes → (freed : List ℕ) (x : X) (parent : ℕ) → map is_some (filled freed xs x) ≡ map is_some (with_new_child freed nodes parent)
 alike-new_child xs nodes alike freed x parent =
-    alike-filled xs _ (alike ∙ sym (alike-changed (with_child (next_of freed (length nodes))) nodes parent)) freed x (new_node (Some parent))
+    alike-filled xs _ (alike ∙ sym (alike-changed (with_child (next_node freed (length nodes))) nodes parent)) freed x (new_node (Some parent))
 
 pub alike-deleted : {X : Type 0} (xs : List (Option X)) (nodes : List (Option Node)) → map is_some xs ≡ map is_some nodes → (number : ℕ) → map is_some (set xs number None) ≡ map is_some (set (cut nodes number) number None)
 alike-deleted xs nodes alike number = alike-emptied xs (cut nodes number) (alike ∙ sym (alike-cut nodes number)) number
 
 -- one push takes one place of the room at most
-pub room-filled : (freed : List ℕ) (number len capacity : ℕ) → number ≡ next_of freed len → (freed ≢ [] → number < len) → capacity - len + length freed ≤ capacity - cond (nat_eq number len) (len + 1) len + length (drop 1 freed) + 1
+pub room-filled : (freed : List ℕ) (number len capacity : ℕ) → number ≡ next_node freed len → (freed ≢ [] → number < len) → capacity - len + length freed ≤ capacity - cond (nat_eq number len) (len + 1) len + length (drop 1 freed) + 1
 room-filled [] number len capacity is inside =
     let new : nat_eq number len ≡ true = ap (λ n. nat_eq n len) is ∙ nat_eq_equiv.refl len in
     rw new (omega arith)
@@ -76,7 +76,7 @@ room-filled (first ∷ freed) number len capacity is inside =
     rw (eq-other number len (λ e. omega arith)) (omega arith)
 
 -- the next place is one of those that there are, or the one behind them where there is room for it
-pub next_fits : (freed : List ℕ) (number len capacity : ℕ) → number ≡ next_of freed len → (freed ≢ [] → number < len) → 0 < capacity - len + length freed → (number ≤ len) × (number ≡ len → len < capacity)
+pub next_fits : (freed : List ℕ) (number len capacity : ℕ) → number ≡ next_node freed len → (freed ≢ [] → number < len) → 0 < capacity - len + length freed → (number ≤ len) × (number ≡ len → len < capacity)
 next_fits [] number len capacity is inside room = (omega arith, λ last. omega arith)
 next_fits (first ∷ freed) number len capacity is inside room =
     let below = inside (λ e. cc) in

@@ -3,8 +3,8 @@
 -- wasmtime, `resource_table.rs`, `ResourceTable`.
 use Rattle.std.specs.Prelude.{ℕ, List, [], ◌∷◌, length, drop, slice_index_or, slice_set, Option, Some, None, refl}
 use Rattle.std.specs.Coded.{Coded, code_by, coded×, coded_ℕ, coded_list, coded_option}
-use Rattle.strm_resources.specs.Nodes.{Node, Numbers, node_code, parent_at, children_at, new_node, linked, unlinked, cut, next_of, filled, with_new_child}
-use Rattle.strm_resources.specs.Numbers.{numbers_from}
+use Rattle.strm_resources.specs.Nodes.{Node, Numbers, node_code, parent_at, children_at, new_node, linked, unlinked, cut, next_node, filled, with_new_child}
+use Rattle.strm_resources.specs.Numbers.{used_numbers_from}
 
 -- the value and the node of each number from 0 on, and the freed numbers, the last freed first
 pub record Entries (V : Type 0) : Type 0 where
@@ -13,7 +13,7 @@ pub record Entries (V : Type 0) : Type 0 where
   pub freed : List ℕ
 
 -- a table: what it holds, its capacity, and how many pushes take no memory
-pub record Table (V : Type 0) : Type 0 where
+pub record EntryTable (V : Type 0) : Type 0 where
   pub entries : Entries V
   pub capacity : ℕ
   pub room : ℕ
@@ -31,7 +31,7 @@ entries_code {V} code =
     (λ _. refl)
 
 -- and so are tables
-abbrev pub table_code : {V : Type 0} → Coded V → Coded (Table V)
+abbrev pub table_code : {V : Type 0} → Coded V → Coded (EntryTable V)
 table_code {V} code =
     code_by
     (Entries V × (ℕ × ℕ))
@@ -55,11 +55,11 @@ module _ {V : Type 0} where
 
   -- the numbers that have a value, ascending
   abbrev pub numbers : Entries V → List ℕ
-  numbers e = numbers_from 0 e.values
+  numbers e = used_numbers_from 0 e.values
 
   -- the number that the next push gives: the one freed last, else the next new one
   abbrev pub next_number : Entries V → ℕ
-  next_number e = next_of e.freed (length e.nodes)
+  next_number e = next_node e.freed (length e.nodes)
 
   -- nothing, and nothing freed
   abbrev pub no_entries : Entries V

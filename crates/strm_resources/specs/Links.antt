@@ -47,14 +47,14 @@ is_full freed len capacity = none_freed freed && (nat_le capacity len || nat_lt 
 
 -- a number is freed, once, exactly where it has no node, and each child link has its parent link
 -- and back
-pub record AreKept (nodes : List (Option Node)) (freed : List ℕ) : Type 0 where
+pub record IsLinked (nodes : List (Option Node)) (freed : List ℕ) : Type 0 where
   pub vacant : (number : ℕ) → is_among freed number ≡ is_vacant nodes number
   pub apart : IsDistinct nat_eq freed
   pub linked : (child parent : ℕ) → set.contains (children_at nodes parent) child
       ≡ is_number (parent_at nodes child) parent
 
 -- the links are kept, there is room for the freed numbers, and each number is a u32
-pub record AreHeld (nodes : List (Option Node)) (freed : List ℕ) (capacity : ℕ) : Type 0 where
-  pub kept : AreKept nodes freed
+pub record AreNodesHeld (nodes : List (Option Node)) (freed : List ℕ) (capacity : ℕ) : Type 0 where
+  pub kept : IsLinked nodes freed
   pub reserved : length nodes ≤ capacity
   pub small : length nodes ≤ 4294967296

@@ -62,18 +62,18 @@ abbrev pub without_child : ℕ → Node → Node
 without_child child node = record node { children = set.remove node.children child }
 
 -- the nodes, with one of them changed
-abbrev pub changed : (Node → Node) → List (Option Node) → ℕ → List (Option Node)
-changed change nodes number = slice_set nodes number (option_map change (node_at nodes number))
+abbrev pub with_node : (Node → Node) → List (Option Node) → ℕ → List (Option Node)
+with_node change nodes number = slice_set nodes number (option_map change (node_at nodes number))
 
 -- the child has its parent, and the parent has its child
 abbrev pub linked : List (Option Node) → ℕ → ℕ → List (Option Node)
 linked nodes child parent =
-    changed (with_parent (Some parent)) (changed (with_child child) nodes parent) child
+    with_node (with_parent (Some parent)) (with_node (with_child child) nodes parent) child
 
 -- the child has no parent, and the parent has not this child
 abbrev pub unlinked : List (Option Node) → ℕ → ℕ → List (Option Node)
 unlinked nodes child parent =
-    changed (with_parent None) (changed (without_child child) nodes parent) child
+    with_node (with_parent None) (with_node (without_child child) nodes parent) child
 
 -- the nodes without the link from this child to that parent, where there is one
 abbrev pub cut_from : List (Option Node) → ℕ → Option ℕ → List (Option Node)
@@ -85,9 +85,9 @@ abbrev pub cut : List (Option Node) → ℕ → List (Option Node)
 cut nodes child = cut_from nodes child (parent_at nodes child)
 
 -- the number that is given next: the one freed last, else the next new one
-abbrev pub next_of : List ℕ → ℕ → ℕ
-next_of [] fresh = fresh
-next_of (number ∷ freed) fresh = number
+abbrev pub next_node : List ℕ → ℕ → ℕ
+next_node [] fresh = fresh
+next_node (number ∷ freed) fresh = number
 
 -- the slots, with one filled: that of the number freed last, else a new one
 abbrev pub filled : {X : Type 0} → List ℕ → List (Option X) → X → List (Option X)
@@ -97,5 +97,5 @@ filled (number ∷ freed) slots x = slice_set slots number (Some x)
 -- the nodes, with the next number given as a child
 abbrev pub with_new_child : List ℕ → List (Option Node) → ℕ → List (Option Node)
 with_new_child freed nodes parent =
-    let next = next_of freed (length nodes) in
-    filled freed (changed (with_child next) nodes parent) (new_node (Some parent))
+    let next = next_node freed (length nodes) in
+    filled freed (with_node (with_child next) nodes parent) (new_node (Some parent))

@@ -7,12 +7,12 @@ use Rattle.strm_resources.specs.Nodes.{Numbers}
 use Rattle.strm_resources.specs.Links.{is_among}
 
 -- the numbers of the slots in use, ascending, where the first slot has this number
-abbrev pub numbers_from : {X : Type 0} → ℕ → List (Option X) → List ℕ
-numbers_from number [] = []
-numbers_from number (None ∷ slots) = numbers_from (number + 1) slots
-numbers_from number (Some x ∷ slots) = number ∷ numbers_from (number + 1) slots
+abbrev pub used_numbers_from : {X : Type 0} → ℕ → List (Option X) → List ℕ
+used_numbers_from number [] = []
+used_numbers_from number (None ∷ slots) = used_numbers_from (number + 1) slots
+used_numbers_from number (Some x ∷ slots) = number ∷ used_numbers_from (number + 1) slots
 
 -- the list has the members of the set, ascending, each once
-pub record Lists (members : Numbers) (numbers : List ℕ) : Type 0 where
+pub record ListsNumbers (members : Numbers) (numbers : List ℕ) : Type 0 where
   pub ascending : IsStrictlyIncreasing numbers
   pub same : (number : ℕ) → is_among numbers number ≡ set.contains members number

@@ -4,18 +4,18 @@
 use Rattle.std.specs.Prelude.{ℕ, nat_eq, length, if◌then◌else◌, Option, Some, None, is_some, is_none}
 use Rattle.strm_resources.specs.Nodes.{is_childless}
 use Rattle.strm_resources.specs.Links.{is_number, is_full}
-use Rattle.strm_resources.specs.Entries.{Entries, Table, value_at, parent_of, children_of}
+use Rattle.strm_resources.specs.Entries.{Entries, EntryTable, value_at, parent_of, children_of}
 use Rattle.strm_resources.specs.declared.errors.ResourceTableError.{ResourceTableError}
 use Rattle.strm_resources.specs.declared.errors.ResourceTableError.TheVariants.{Full, NotPresent, WrongType, HasChildren, HasParent, NotChild}
 
 module _ {V : Type 0} where
   -- none is free and the length is at the capacity or above, or past u32
-  abbrev pub push_refusal : Table V → Option ResourceTableError
+  abbrev pub push_refusal : EntryTable V → Option ResourceTableError
   push_refusal t =
       if is_full t.entries.freed (length t.entries.nodes) t.capacity then Some Full else None
 
   -- the parent first, then as a push
-  abbrev pub push_child_refusal : Table V → ℕ → Option ResourceTableError
+  abbrev pub push_child_refusal : EntryTable V → ℕ → Option ResourceTableError
   push_child_refusal t parent =
       if is_none (value_at t.entries parent) then Some NotPresent else push_refusal t
 

@@ -4,9 +4,9 @@
 //! stack of their numbers stands beside the entries.
 
 ghost use Rattle.std.specs.Prelude.{◌≡◌, ◌≢◌, ◌+◌, ◌<◌, ◌≤◌, [], ◌∷◌, length, drop, reverse, true, false, is_some, IfSome, Some, None, OnOk, OnErr, IfOk, IsOk, slice_set, option_copied, vec_len, vec_capacity};
-ghost use Rattle.strm_resources.specs.Nodes.{new_node, with_new_child, node_at, parent_at, children_at, is_childless, linked, unlinked, cut, next_of, filled};
-ghost use Rattle.strm_resources.specs.Links.{none_freed, is_full, AreKept};
-ghost use Rattle.strm_resources.specs.Numbers.{numbers_from, Lists};
+ghost use Rattle.strm_resources.specs.Nodes.{new_node, with_new_child, node_at, parent_at, children_at, is_childless, linked, unlinked, cut, next_node, filled};
+ghost use Rattle.strm_resources.specs.Links.{none_freed, is_full, IsLinked};
+ghost use Rattle.strm_resources.specs.Numbers.{used_numbers_from, ListsNumbers};
 ghost use Rattle.std.specs.List.Sorted.{IsStrictlyIncreasing};
 
 use crate::nodes::{Node, add_child, remove_child, set_parent};
@@ -25,7 +25,7 @@ pub(crate) struct Links {
 
 impl Model for Links {
     ghost use Rattle.std.specs.Prelude.{◌+◌, ◌-◌, min, reverse, vec_len, vec_capacity};
-    ghost use Rattle.strm_resources.specs.Links.{Links as Seen, links_code, AreHeld};
+    ghost use Rattle.strm_resources.specs.Links.{Links as Seen, links_code, AreNodesHeld};
 
     ghost Value = { Seen };
 
@@ -37,16 +37,16 @@ impl Model for Links {
       room = min (vec_capacity l.nodes) (vec_capacity l.freed) - vec_len l.nodes + vec_len l.freed;
     } };
 
-    ghost invariant = { λ l. AreHeld l.nodes.items (reverse l.freed.items) (vec_capacity l.freed) };
+    ghost invariant = { λ l. AreNodesHeld l.nodes.items (reverse l.freed.items) (vec_capacity l.freed) };
 }
 
 // Fills the slot of the number freed last, else a new one.
 fn fill(nodes: &mut Vec<Option<Node>>, freed: &mut Vec<u32>, node: Node) -> u32
     requires inside { freed.old.items ≢ []
-        → next_of (reverse freed.old.items) (length nodes.old.items) < vec_len nodes.old }
-    requires small { next_of (reverse freed.old.items) (length nodes.old.items) ≤ 4294967295 }
+        → next_node (reverse freed.old.items) (length nodes.old.items) < vec_len nodes.old }
+    requires small { next_node (reverse freed.old.items) (length nodes.old.items) ≤ 4294967295 }
     requires room { freed.old.items ≡ [] → vec_len nodes.old < vec_capacity nodes.old }
-    ensures number { result ≡ next_of (reverse freed.old.items) (length nodes.old.items) }
+    ensures number { result ≡ next_node (reverse freed.old.items) (length nodes.old.items) }
     ensures nodes { nodes.new.items ≡ filled (reverse freed.old.items) nodes.old.items node }
     ensures freed { reverse freed.new.items ≡ drop 1 (reverse freed.old.items) }
     ensures count { vec_len nodes.new + vec_len freed.old
@@ -95,7 +95,7 @@ impl Links {
 
     /// Freed numbers are those without a node, and each child link has its parent link and back.
     pub(crate) fn are_kept(&self)
-        ensures { AreKept self.now.nodes self.now.freed }
+        ensures { IsLinked self.now.nodes self.now.freed }
     {
         let _ = &self.nodes;
     }
@@ -140,7 +140,7 @@ impl Links {
     /// The children of a number, ascending, if the number is given out.
     pub(crate) fn children(&self, number: u32) -> Option<Children<'_>>
         ensures some { is_some result ≡ is_some (node_at self.now.nodes number) }
-        ensures value { IfSome result (Lists (children_at self.now.nodes number)) }
+        ensures value { IfSome result (ListsNumbers (children_at self.now.nodes number)) }
     {
         match self.node(number) {
             Some(node) => Some(node.children()),
@@ -150,7 +150,7 @@ impl Links {
 
     /// The numbers that are given out, ascending.
     pub(crate) fn keys(&self) -> Keys<'_>
-        ensures exact { result ≡ numbers_from 0 self.now.nodes }
+        ensures exact { result ≡ used_numbers_from 0 self.now.nodes }
         ensures ascending { IsStrictlyIncreasing result }
     {
         Keys {
@@ -163,7 +163,7 @@ impl Links {
     pub(crate) fn is_full(&self, capacity: usize) -> bool
         ensures exact { result ≡ is_full self.now.freed (length self.now.nodes) capacity }
         ensures small { result ≡ false
-            → next_of self.now.freed (length self.now.nodes) ≤ 4294967295 }
+            → next_node self.now.freed (length self.now.nodes) ≤ 4294967295 }
     {
         self.freed.is_empty()
             && (self.nodes.len() >= capacity || self.nodes.len() > u32::MAX as usize)
@@ -195,8 +195,8 @@ impl Links {
     /// Gives a number with no links: the one freed last, else a new one.
     pub(crate) fn insert(&mut self) -> u32
         requires room { 0 < self.old.room }
-        requires small { next_of self.old.freed (length self.old.nodes) ≤ 4294967295 }
-        ensures number { result ≡ next_of self.old.freed (length self.old.nodes) }
+        requires small { next_node self.old.freed (length self.old.nodes) ≤ 4294967295 }
+        ensures number { result ≡ next_node self.old.freed (length self.old.nodes) }
         ensures inside { self.old.freed ≢ [] → result < length self.old.nodes }
         ensures nodes { self.new.nodes ≡ filled self.old.freed self.old.nodes (new_node None) }
         ensures freed { self.new.freed ≡ drop 1 self.old.freed }
@@ -244,8 +244,8 @@ impl Links {
 
     /// The number that is given next.
     fn next(&self) -> u32
-        requires { next_of self.now.freed (length self.now.nodes) ≤ 4294967295 }
-        ensures { result ≡ next_of self.now.freed (length self.now.nodes) }
+        requires { next_node self.now.freed (length self.now.nodes) ≤ 4294967295 }
+        ensures { result ≡ next_node self.now.freed (length self.now.nodes) }
     {
         match self.freed.last() {
             Some(number) => *number,
@@ -256,9 +256,9 @@ impl Links {
     /// Gives a number as the child of another. Where there is no memory, nothing changes.
     pub(crate) fn insert_child(&mut self, parent: u32) -> Result<u32, AllocError>
         requires room { 0 < self.old.room }
-        requires small { next_of self.old.freed (length self.old.nodes) ≤ 4294967295 }
+        requires small { next_node self.old.freed (length self.old.nodes) ≤ 4294967295 }
         requires parent { is_some (node_at self.old.nodes parent) ≡ true }
-        ensures number { IfOk result (λ n. n ≡ next_of self.old.freed (length self.old.nodes)) }
+        ensures number { IfOk result (λ n. n ≡ next_node self.old.freed (length self.old.nodes)) }
         ensures inside { IfOk result (λ n. self.old.freed ≢ [] → n < length self.old.nodes) }
         ensures nodes { OnOk result
             (self.new.nodes ≡ with_new_child self.old.freed self.old.nodes parent) }

@@ -4,7 +4,7 @@
 
 ghost use Rattle.std.specs.Prelude.{◌≡◌, Some, OnOk, OnErr, option_map};
 ghost use Rattle.strm_resources.specs.Nodes.{is_childless, new_node, with_parent, with_child, without_child};
-ghost use Rattle.strm_resources.specs.Numbers.{Lists};
+ghost use Rattle.strm_resources.specs.Numbers.{ListsNumbers};
 
 use crate::walks::Children;
 use std::alloc::{AllocError, Global};
@@ -57,7 +57,7 @@ impl Node {
 
     /// The children, ascending.
     pub(crate) fn children(&self) -> Children<'_>
-        ensures { Lists self.now.children result }
+        ensures { ListsNumbers self.now.children result }
     {
         Children {
             inner: self.children.iter(),

@@ -10,7 +10,7 @@ ghost use Rattle.strm_resources.specs.declared.errors.ResourceTableError.TheVari
 ghost use Rattle.strm_resources.specs.Errors.{refusal_of};
 ghost use Rattle.strm_resources.specs.Links.{is_among};
 ghost use Rattle.strm_resources.specs.Nodes.{node_at};
-ghost use Rattle.strm_resources.specs.Numbers.{Lists};
+ghost use Rattle.strm_resources.specs.Numbers.{ListsNumbers};
 ghost use Rattle.strm_resources.specs.WellKept.{IsWellKept};
 ghost use Rattle.std.specs.FinSet as set;
 ghost use Rattle.strm_resources.specs.Entries.{value_at, parent_of, children_of, numbers, next_number, no_entries, pushed, pushed_child, child_added, child_removed, deleted};
@@ -36,9 +36,9 @@ pub struct ResourceTable<V: Resident> {
 
 impl<V: Resident> Model for ResourceTable<V> {
     ghost use Rattle.std.specs.Prelude.{◌≡◌, ◌+◌, ◌-◌, min, map, is_some, length, vec_len, vec_capacity};
-    ghost use Rattle.strm_resources.specs.Entries.{Table, table_code};
+    ghost use Rattle.strm_resources.specs.Entries.{EntryTable, table_code};
 
-    ghost Value = { Table V };
+    ghost Value = { EntryTable V };
 
     ghost coded = { table_code V.code };
 
@@ -257,7 +257,7 @@ impl<V: Resident> ResourceTable<V> {
 
     /// The children of a value, ascending, each once.
     pub fn iter_children<T>(&self, parent: &Resource<T>) -> Result<Children<'_>, ResourceTableError>
-        ensures value { IfOk result (Lists (children_of self.now.entries parent.now)) }
+        ensures value { IfOk result (ListsNumbers (children_of self.now.entries parent.now)) }
         ensures refused { result_err result ≡ any_refusal self.now.entries parent.now }
         ensures takes_no_memory { result ≢ Err OutOfMemory }
     {

@@ -18,11 +18,11 @@ pub struct Keys<'a> {
 
 impl<'a> Model for Keys<'a> {
     ghost use Rattle.std.specs.Prelude.{ℕ, ◌+◌, ◌≤◌, List, length};
-    ghost use Rattle.strm_resources.specs.Numbers.{numbers_from};
+    ghost use Rattle.strm_resources.specs.Numbers.{used_numbers_from};
 
     ghost Value = { List ℕ };
 
-    ghost view = { λ keys. numbers_from keys.number keys.nodes.now };
+    ghost view = { λ keys. used_numbers_from keys.number keys.nodes.now };
 
     ghost invariant = { λ keys. keys.number + length keys.nodes.now ≤ 4294967296 };
 }

@@ -16,14 +16,14 @@ use Rattle.strm_host_machine.specs.Does.{Fits}
 use Rattle.strm_transmit.specs.Hosted.{lone}
 use Rattle.strm_transmit.specs.Guests.{Unhosted, is_of_guests}
 use Rattle.strm_transmit.proofs.GuestLemmas.{reaction-unhosted, empty-unhosted, touches-none}
-use Rattle.strm_session.specs.Runs.{start, AreOfGuests}
+use Rattle.strm_session.specs.Runs.{run_start, AreOfGuests}
 use Rattle.strm_session.proofs.PlayLemmas.{HaveLed, IsAt, take-at, played_more}
 
 -- no host end is in use at the start
-pub start-fits : (tells : Tells) → Fits start tells
-start-fits tells = record {
-  writers = λ n s e. absurd (let made = serving_made start Writing n s (HostsHold-empty 0 _) e in omega (arith, made));
-  readers = λ r s e. absurd (let made = serving_made start Reading r s (HostsHold-empty 0 _) e in omega (arith, made));
+pub run_start-fits : (tells : Tells) → Fits run_start tells
+run_start-fits tells = record {
+  writers = λ n s e. absurd (let made = serving_made run_start Writing n s (HostsHold-empty 0 _) e in omega (arith, made));
+  readers = λ r s e. absurd (let made = serving_made run_start Reading r s (HostsHold-empty 0 _) e in omega (arith, made));
 }
 
 abbrev IsOfGuests : Step → Type 0
@@ -39,7 +39,7 @@ pub record LedAlone (old : Tells) (steps : List Step) (k : ℕ) (told : List Rep
 abbrev pub LedByGuests : Tells → List Step → ℕ → List Reply → State → Tells → Type 0
 LedByGuests old steps k told state now = AreOfGuests (take k steps) → LedAlone old steps k told state now
 
-pub alone_none : (old : Tells) (steps : List Step) → LedAlone old steps 0 [] start old
+pub alone_none : (old : Tells) (steps : List Step) → LedAlone old steps 0 [] run_start old
 alone_none old steps = record { so_far = λ more. refl; same = refl; unhosted = empty-unhosted 0 _ }
 
 -- a step that touches no host end

@@ -14,8 +14,8 @@ use Rattle.strm_machine.specs.declared.replies.Reply.{Reply}
 use Rattle.strm_machine.specs.declared.stops.Stop.{Stop}
 use Rattle.strm_machine.specs.declared.streams.HostEnd.{HostEnd}
 use Rattle.strm_host_machine.specs.Outcomes.{Outcome}
-use Rattle.strm_host_machine.specs.Steps.{step_of}
-use Rattle.strm_host_machine.specs.HostPlays.{play, after_step, Ends, Halts}
+use Rattle.strm_host_machine.specs.Steps.{outcome_of_step}
+use Rattle.strm_host_machine.specs.HostPlays.{host_play, after_host_step, Ends, Halts}
 use Rattle.strm_host_machine.specs.Ends.{Writer, Reader, writer_in}
 use Rattle.strm_host_machine.specs.World.{World}
 use Rattle.strm_host_laws.specs.HostLaws.{EndsExactly}
@@ -26,11 +26,11 @@ use Rattle.strm_machine.specs.declared.stops.Stop.TheVariants.{HostFailed, BadIt
 use Rattle.strm_machine.proofs.AskedLemmas.{bad-traps}
 use Rattle.std.specs.Prelude.{slice_get}
 use Rattle.std.proofs.lemmas.Option.{slice_get_within, slice_get-get_or}
-use Rattle.strm_host_machine.specs.Does.{Logs, saids, Extends, is_ended, first_duty, first_log, writer_of, writers_from, world_of, spent, faults_of, Caused, Does, RunsTo, StopsWith, AreSuppliedSince}
+use Rattle.strm_host_machine.specs.Does.{Logs, saids, Extends, is_ended, first_duty, first_log, writer_of, writers_from, world_of, world_spent, faults_of, Caused, Does, RunsTo, StopsWith, AreSuppliedSince}
 use Rattle.strm_host_machine.proofs.DoesLemmas.{rose_more, extends_self}
 use Rattle.strm_host_machine.proofs.GrowLemmas.{supplied_since_itself}
 use Rattle.strm_session.specs.Records.{HostsGoOn}
-use Rattle.strm_session.specs.Runs.{start, start_among, stop_of, halted_in, HaltsBy, Raised, StaysThere, StopsAsking, WantsUnmet, StopsAmong, WantsThere, Before, Behind, InPoll, BeforeOffer, StopsWanting, WantsStep, Polling, Untouched, Unkept, LeavesWanting}
+use Rattle.strm_session.specs.Runs.{run_start, start_among, stop_of, halted_in, HaltsBy, Raised, StaysThere, StopsAsking, WantsUnmet, StopsAmong, WantsThere, Before, Behind, InPoll, BeforeOffer, StopsWanting, WantsStep, Polling, Untouched, Unkept, LeavesWanting}
 use Rattle.strm_transmit.specs.Hosted.{lone}
 use Rattle.strm_transmit.specs.WantsMemory.{WantsInPoll, InAPoll, InADrive}
 use Rattle.strm_session.specs.declared.runs.RunCause.{RunCause}
@@ -47,7 +47,7 @@ goes_on_same old new e = subst (HostsGoOn old) (sym e) (goes_on_itself old)
 -- on these records the first k steps were answered so, and led there
 pub record LedOn (old : Tells) (steps : List Step) (k : ℕ) (told : List Reply) (state : State) (now : Tells) (logs : Logs) : Type 0 where
   pub begins : Extends old logs
-  pub goes_on : (more : List Step) → play [] (world_of start old logs) (take k steps ++ more) ≡ play told (world_of state now logs) more
+  pub goes_on : (more : List Step) → host_play [] (world_of run_start old logs) (take k steps ++ more) ≡ host_play told (world_of state now logs) more
 
 -- on whichever records, while no count of faults fell
 pub record LedAmong (old : Tells) (steps : List Step) (k : ℕ) (told : List Reply) (state : State) (now : Tells) : Type 0 where
@@ -55,7 +55,7 @@ pub record LedAmong (old : Tells) (steps : List Step) (k : ℕ) (told : List Rep
   pub faults : (end : HostEnd) → faults_of old end ≤ faults_of now end
   pub supplied : AreSuppliedSince old now
 
-pub led_none : (old : Tells) (steps : List Step) → LedAmong old steps 0 [] start old
+pub led_none : (old : Tells) (steps : List Step) → LedAmong old steps 0 [] run_start old
 led_none old steps = record { led = λ logs e. record { begins = e; goes_on = λ more. refl }; faults = λ end. omega arith; supplied = supplied_since_itself old }
 
 -- WHERE THE MACHINE HALTS
@@ -90,19 +90,19 @@ all_gone ps qs (w ∷ ws) logs h =
 -- where the machine halts in these steps, host writers tell that they are gone as its state has it
 abbrev pub WritersGone : World → List Step → Type 0
 WritersGone first steps =
-    (replies : List Reply) (stop : Stop) (writers : List Writer) (readers : List Reader) → play [] first steps ≡ Halts replies stop writers readers → EndsExactly (halted_in first steps) writers
+    (replies : List Reply) (stop : Stop) (writers : List Writer) (readers : List Reader) → host_play [] first steps ≡ Halts replies stop writers readers → EndsExactly (halted_in first steps) writers
 
 -- so what they tell in a store's state there they tell in the machine's
 module _ (first : World) (steps : List Step) (gone : WritersGone first steps) (told : List Reply) (stop : Stop) (new : Tells) (state : State) (e : StopsWith first steps told stop new state) where
-  same_there : (spent state new).writers ≡ (spent (halted_in first steps) new).writers
+  same_there : (world_spent state new).writers ≡ (world_spent (halted_in first steps) new).writers
   same_there = all_gone state.producers (halted_in first steps).producers new.writers (saids new).writers (gone told stop _ _ e)
 
   halts_there : HaltsBy first steps told new (Some stop)
-  halts_there = e ∙ ap (λ ws. Halts told stop ws (spent state new).readers) same_there
+  halts_there = e ∙ ap (λ ws. Halts told stop ws (world_spent state new).readers) same_there
 
 -- one step more, which is answered or stops the run
 module _ (old now new : Tells) (steps : List Step) (k : ℕ) (step : Step) (told : List Reply) (state next : State) (at : IsAt steps k step) (l : LedAmong old steps k told state now) where
-  pub led_more : (reply : Reply) → Does state next now new (Ok reply) (λ w. step_of w step) → LedAmong old steps (k + 1) (told ++ reply ∷ []) next new
+  pub led_more : (reply : Reply) → Does state next now new (Ok reply) (λ w. outcome_of_step w step) → LedAmong old steps (k + 1) (told ++ reply ∷ []) next new
   led_more reply d = record {
     led = λ logs e.
         let before = l.led logs (d.begins logs e) in
@@ -110,23 +110,23 @@ module _ (old now new : Tells) (steps : List Step) (k : ℕ) (step : Step) (told
           begins = before.begins;
           goes_on = λ more.
               let cut : take (k + 1) steps ++ more ≡ take k steps ++ step ∷ more = ap (λ t. t ++ more) (take-at steps k step at) ∙ append_assoc (take k steps) (step ∷ []) more in
-              ap (play [] (world_of start old logs)) cut ∙ before.goes_on (step ∷ more)
-              ∙ ap (λ (o : Outcome). after_step told o (λ told' world'. play told' world' more)) (d.gives logs e);
+              ap (host_play [] (world_of run_start old logs)) cut ∙ before.goes_on (step ∷ more)
+              ∙ ap (λ (o : Outcome). after_host_step told o (λ told' world'. host_play told' world' more)) (d.gives logs e);
         };
     faults = λ end. le_trans (l.faults end) (d.faults end);
     supplied = d.supplied old l.supplied;
   }
 
-  halts_with : (stop : Stop) → Does state next now new (Err (Some stop)) (λ w. step_of w step) → StopsWith (start_among old new) steps told stop new next
+  halts_with : (stop : Stop) → Does state next now new (Err (Some stop)) (λ w. outcome_of_step w step) → StopsWith (start_among old new) steps told stop new next
   halts_with stop d =
       let logs = saids new in
       let rest = drop (suc k) steps in
       let e = extends_self new in
       let cut : steps ≡ take k steps ++ step ∷ rest = split_at steps k step at.inside ∙ ap (λ s. take k steps ++ s ∷ rest) at.is in
-      ap (play [] (start_among old new)) cut ∙ (l.led logs (d.begins logs e)).goes_on (step ∷ rest)
-      ∙ ap (λ (o : Outcome). after_step told o (λ told' world'. play told' world' rest)) (d.gives logs e)
+      ap (host_play [] (start_among old new)) cut ∙ (l.led logs (d.begins logs e)).goes_on (step ∷ rest)
+      ∙ ap (λ (o : Outcome). after_host_step told o (λ told' world'. host_play told' world' rest)) (d.gives logs e)
 
-  halts_by : WritersGone (start_among old new) steps → (stop : Option Stop) → Does state next now new (Err stop) (λ w. step_of w step) → HaltsBy (start_among old new) steps told new stop
+  halts_by : WritersGone (start_among old new) steps → (stop : Option Stop) → Does state next now new (Err stop) (λ w. outcome_of_step w step) → HaltsBy (start_among old new) steps told new stop
   halts_by gone None d = tt
   halts_by gone (Some stop) d = halts_there (start_among old new) steps gone told stop new next (halts_with stop d)
 
@@ -138,10 +138,10 @@ module _ (old now new : Tells) (steps : List Step) (k : ℕ) (step : Step) (told
   abbrev before_it : World
   before_it = world_of state now (saids new)
 
-  led_before : (stop : Option Stop) → length told ≡ k → Does state next now new (Err stop) (λ w. step_of w step) → play [] (start_among old new) (take (length told) steps) ≡ Ends told before_it
+  led_before : (stop : Option Stop) → length told ≡ k → Does state next now new (Err stop) (λ w. outcome_of_step w step) → host_play [] (start_among old new) (take (length told) steps) ≡ Ends told before_it
   led_before stop n d =
-      ap (λ m. play [] (start_among old new) (take m steps)) n
-      ∙ ap (play [] (start_among old new)) (sym (append-nil (take k steps)))
+      ap (λ m. host_play [] (start_among old new) (take m steps)) n
+      ∙ ap (host_play [] (start_among old new)) (sym (append-nil (take k steps)))
       ∙ (l.led (saids new) (d.begins (saids new) (extends_self new))).goes_on []
 
   -- at a bad item guests move nothing
@@ -151,13 +151,13 @@ module _ (old now new : Tells) (steps : List Step) (k : ℕ) (step : Step) (told
   stays_there s (InDrive d) t = tt
 
   -- a step that stops at a bad item asks for it, and nothing moves
-  asking : WritersGone (start_among old new) steps → (cause : RunCause) → length told ≡ k → state.trapped ≡ false → Does state next now new (Err (stop_of cause)) (λ w. step_of w step) → StopsAsking (start_among old new) steps told new cause
+  asking : WritersGone (start_among old new) steps → (cause : RunCause) → length told ≡ k → state.trapped ≡ false → Does state next now new (Err (stop_of cause)) (λ w. outcome_of_step w step) → StopsAsking (start_among old new) steps told new cause
   asking gone (causes.BadItem s) n t d =
       let gives = d.gives (saids new) (extends_self new) in
       let a = stops-asks before_it step t s _ _ gives in
       let same = sym gives ∙ asks-stops before_it step t s a in
       let there = same_there (start_among old new) steps gone told (BadItem s) new next (halts_with (BadItem s) d) in
-      let stood : (spent next new).writers ≡ (stands_at before_it step s a).writers = cc in
+      let stood : (world_spent next new).writers ≡ (stands_at before_it step s a).writers = cc in
       record {
         asks = record {
           world = before_it;
@@ -189,7 +189,7 @@ module _ (old now new : Tells) (steps : List Step) (k : ℕ) (step : Step) (told
   NoneMet cause = cause ≡ causes.OutOfMemory → (s : ℕ) → GuestAsksBad (lone state) step s → ⊥
 
   -- a step that stops a run stops it so
-  pub stops_among : WritersGone (start_among old new) steps → (cause : RunCause) → length told ≡ k → state.trapped ≡ false → NoneMet cause → Does state next now new (Err (stop_of cause)) (λ w. step_of w step) → StopsAmong old new steps told cause
+  pub stops_among : WritersGone (start_among old new) steps → (cause : RunCause) → length told ≡ k → state.trapped ≡ false → NoneMet cause → Does state next now new (Err (stop_of cause)) (λ w. outcome_of_step w step) → StopsAmong old new steps told cause
   stops_among gone cause n t m d = record {
     world = before_it;
     before = led_before (stop_of cause) n d;
@@ -205,17 +205,17 @@ module _ (old now new : Tells) (steps : List Step) (k : ℕ) (step : Step) (told
   among = start_among old new
 
   -- the replies so far, on the records that are told in the end
-  replied : Extends now (saids new) → play [] among (take (length told) steps) ≡ Ends told (world_of state now (saids new))
+  replied : Extends now (saids new) → host_play [] among (take (length told) steps) ≡ Ends told (world_of state now (saids new))
   replied e =
-      ap (λ m. play [] among (take m steps)) n
-      ∙ ap (play [] among) (sym (append-nil (take k steps)))
+      ap (λ m. host_play [] among (take m steps)) n
+      ∙ ap (host_play [] among) (sym (append-nil (take k steps)))
       ∙ (l.led (saids new) e).goes_on []
 
-  untouched : new ≡ now → play [] among (take (length told) steps) ≡ Ends told (spent state new)
+  untouched : new ≡ now → host_play [] among (take (length told) steps) ≡ Ends told (world_spent state new)
   untouched same = replied (subst (λ t. Extends now (saids t)) (sym same) (extends_self now)) ∙ ap (λ t. Ends told (world_of state t (saids new))) (sym same)
 
   -- had the host end that was polled failed
-  polled_there : WantsInPoll state now new (λ w. step_of w step) → WantsThere old new steps told
+  polled_there : WantsInPoll state now new (λ w. outcome_of_step w step) → WantsThere old new steps told
   polled_there w =
       InPoll w.end w.more w.fails (halts_by old now w.more steps k step told state w.state at l (gone w.more) (Some (HostFailed w.end)) w.does)
 
@@ -238,8 +238,8 @@ module _ (old now new : Tells) (steps : List Step) (k : ℕ) (step : Step) (told
   wants_there e (Unkept reply d) =
       let more = led_more old now new steps k step told state next at l reply d in
       Behind reply next
-      (ap (λ m. play [] among (take (m + 1) steps)) n
-      ∙ ap (play [] among) (sym (append-nil (take (k + 1) steps)))
+      (ap (λ m. host_play [] among (take (m + 1) steps)) n
+      ∙ ap (host_play [] among) (sym (append-nil (take (k + 1) steps)))
       ∙ (more.led (saids new) (extends_self new)).goes_on [])
 
   pub wanting_there : (cause : RunCause) → Extends now (saids new) → LeavesWanting state next now new step cause → StopsWanting old new steps told (stop_of cause)
@@ -256,13 +256,13 @@ begins_among old new steps k told state now l e = (l.led (saids new) e).begins
 pub runs_to : (old new : Tells) (steps : List Step) (k : ℕ) (told : List Reply) (state : State) → length steps ≤ k → LedAmong old steps k told state new → RunsTo (start_among old new) steps told state new
 runs_to old new steps k told state n l =
     let all : take k steps ++ [] ≡ steps = append-nil (take k steps) ∙ take_all k steps n in
-    ap (play [] (start_among old new)) (sym all) ∙ (l.led (saids new) (extends_self new)).goes_on []
+    ap (host_play [] (start_among old new)) (sym all) ∙ (l.led (saids new) (extends_self new)).goes_on []
 
 -- a run whose counts find no memory stops behind its last step
 pub stops_behind : (old new : Tells) (steps : List Step) (told : List Reply) (state : State) → length told ≡ length steps → RunsTo (start_among old new) steps told state new → StopsAmong old new steps told causes.OutOfMemory
 stops_behind old new steps told state n r = record {
   world = world_of state new (saids new);
-  before = ap (play [] (start_among old new)) (take_all (length told) steps (omega (arith, n))) ∙ r;
+  before = ap (host_play [] (start_among old new)) (take_all (length told) steps (omega (arith, n))) ∙ r;
   halts = tt;
   raised = tt;
   asks = tt;

@@ -21,12 +21,12 @@ use Rattle.strm_machine.specs.Soundness.{IsSound}
 use Rattle.strm_buffers.specs.Tells.{Tells}
 use Rattle.strm_machine.specs.declared.streams.Side.TheVariants.{Writing}
 use Rattle.strm_host_machine.specs.World.{World, stream_in}
-use Rattle.strm_host_machine.specs.HostPlays.{Played, play, Ends}
+use Rattle.strm_host_machine.specs.HostPlays.{HostPlayed, host_play, Ends}
 use Rattle.strm_host_machine.specs.HostRefusals.{refusal_in}
 use Rattle.strm_host_machine.specs.Asking.{AsksBadItem, ByGuest, InCall, InDrive, asked_by, with_write}
 use Rattle.strm_host_machine.proofs.AskingLemmas.{opened-payload}
 use Rattle.strm_host_machine.proofs.OutcomeLemmas.{refusal_in-on_end}
-use Rattle.strm_host_laws.specs.HostMoments.{host_moments, last_of}
+use Rattle.strm_host_laws.specs.HostMoments.{host_moments, end_world}
 use Rattle.strm_machine.specs.Acts.{act_of}
 use Rattle.strm_machine.specs.declared.acts.NamedEnd.{NamedEnd}
 use Rattle.strm_machine.specs.declared.acts.EndAct.TheVariants.{Operate}
@@ -138,14 +138,14 @@ none_bad world step s h d (InCall c) =
 none_bad world step s h d (InDrive r) = absurd (let wrong = sym (ap is_of_guests r.does) ∙ d.alone in cc)
 
 -- the world that the laws speak of
-sound_after : (first : World) (steps : List Step) (told : List Reply) (world : World) → IsKeptBefore first steps told → play [] first (take (length told) steps) ≡ Ends told world → IsSound world.state
+sound_after : (first : World) (steps : List Step) (told : List Reply) (world : World) → IsKeptBefore first steps told → host_play [] first (take (length told) steps) ≡ Ends told world → IsSound world.state
 sound_after first steps told world k e =
     let front = take (length told) steps in
-    let laws = subst (λ (xs : List Step). HasLawsAmong first (host_moments first xs) (last_of first (host_moments first xs))) (take_all (length front) front (omega arith)) (all_laws first (take (length front) front) (k.kept.laws (length front))) in
+    let laws = subst (λ (xs : List Step). HasLawsAmong first (host_moments first xs) (end_world first (host_moments first xs))) (take_all (length front) front (omega arith)) (all_laws first (take (length front) front) (k.kept.laws (length front))) in
     let same : k.world ≡ world = ap end_of_play (sym k.before ∙ e) in
     subst (λ (w : World). IsSound w.state) (k.kept.ends ∙ same) laws.sound
   where
-    end_of_play : Played → World
+    end_of_play : HostPlayed → World
     end_of_play (Ends all end) = end
     end_of_play _ = world
 

@@ -10,7 +10,7 @@ use Rattle.strm_machine.specs.declared.replies.Reply.{Reply}
 use Rattle.strm_machine.specs.declared.replies.Reply.TheVariants as replies
 use Rattle.strm_machine.proofs.AskedLemmas.{react-by, reply-bad, bad-traps}
 use Rattle.strm_transmit.specs.Meets.{is_done, is_settled}
-use Rattle.strm_session.specs.Runs.{start, StopsAt, StopsStep}
+use Rattle.strm_session.specs.Runs.{run_start, StopsAt, StopsStep}
 use Rattle.strm_session.specs.declared.runs.RunCause.{RunCause}
 use Rattle.strm_session.specs.declared.runs.RunCause.TheVariants as causes
 
@@ -87,7 +87,7 @@ goes_on_done told state step h = goes_on_to told state (react state step).state 
 
 -- the first k steps were answered so, and led there
 abbrev pub HaveLed : List Step → ℕ → List Reply → State → Type 0
-HaveLed steps k told state = (more : List Step) → play [] start (take k steps ++ more) ≡ play told state more
+HaveLed steps k told state = (more : List Step) → play [] run_start (take k steps ++ more) ≡ play told state more
 
 -- the step of number k, from 0
 pub record IsAt (steps : List Step) (k : ℕ) (step : Step) : Type 0 where
@@ -101,19 +101,19 @@ pub take-at : (steps : List Step) (k : ℕ) (step : Step) → IsAt steps k step 
 take-at steps k step h = take_more steps k step h.inside ∙ ap (λ s. take k steps ++ s ∷ []) h.is
 
 -- the replies so far are those to the steps before
-pub stopped_before : (steps : List Step) (k : ℕ) (told : List Reply) (state : State) → length told ≡ k → HaveLed steps k told state → play [] start (take (length told) steps) ≡ Ends told state
+pub stopped_before : (steps : List Step) (k : ℕ) (told : List Reply) (state : State) → length told ≡ k → HaveLed steps k told state → play [] run_start (take (length told) steps) ≡ Ends told state
 stopped_before steps k told state n led =
-    ap (λ m. play [] start (take m steps)) n ∙ ap (play [] start) (sym (append-nil (take k steps))) ∙ led []
+    ap (λ m. play [] run_start (take m steps)) n ∙ ap (play [] run_start) (sym (append-nil (take k steps))) ∙ led []
 
 -- where the step of number k stops a run
 pub stops : (steps : List Step) (k : ℕ) (step : Step) (told : List Reply) (state : State) (cause : RunCause) → IsAt steps k step → length told ≡ k → HaveLed steps k told state → state.trapped ≡ false → StopsStep told state step cause → StopsAt steps told cause
 stops steps k step told state (causes.BadItem stream) h n led t answered =
     let bad = reply-bad state step stream t answered in
     let cut : steps ≡ take k steps ++ step ∷ drop (suc k) steps = split_at steps k step h.inside ∙ ap (λ s. take k steps ++ s ∷ drop (suc k) steps) h.is in
-    ap (play [] start) cut ∙ led (step ∷ drop (suc k) steps) ∙ play-halts told state (record state { trapped = true }) step (drop (suc k) steps) stream (bad-traps state step stream t bad)
+    ap (play [] run_start) cut ∙ led (step ∷ drop (suc k) steps) ∙ play-halts told state (record state { trapped = true }) step (drop (suc k) steps) stream (bad-traps state step stream t bad)
 stops steps k step told state causes.OutOfMemory h n led t w =
     let cut : take (length told + 1) steps ≡ take k steps ++ step ∷ [] = ap (λ m. take (m + 1) steps) n ∙ take-at steps k step h in
-    (w.0 ∷ [], w.1, ap (play [] start) cut ∙ led (step ∷ []) ∙ w.2)
+    (w.0 ∷ [], w.1, ap (play [] run_start) cut ∙ led (step ∷ []) ∙ w.2)
 stops steps k step told state (causes.HostFailed end) h n led t stop = absurd stop
 stops steps k step told state (causes.HostBroke end) h n led t stop = absurd stop
 
@@ -121,4 +121,4 @@ stops steps k step told state (causes.HostBroke end) h n led t stop = absurd sto
 pub played_more : (steps : List Step) (k : ℕ) (step : Step) (told told' : List Reply) (state state' : State) → IsAt steps k step → HaveLed steps k told state → ((more : List Step) → play told state (step ∷ more) ≡ play told' state' more) → HaveLed steps (k + 1) told' state'
 played_more steps k step told told' state state' h led goes more =
     let cut : take (k + 1) steps ++ more ≡ take k steps ++ step ∷ more = ap (λ t. t ++ more) (take-at steps k step h) ∙ append_assoc (take k steps) (step ∷ []) more in
-    ap (play [] start) cut ∙ led (step ∷ more) ∙ goes more
+    ap (play [] run_start) cut ∙ led (step ∷ more) ∙ goes more

@@ -5,7 +5,7 @@ use Rattle.std.proofs.Math.Nat.{le_trans}
 use Rattle.std.proofs.lemmas.List.{take_all, take_more, append-nil, drop_more, length-drop, length_push}
 use Rattle.std.proofs.lemmas.List.Elements.{All-nil, All-push}
 use Rattle.strm_buffers.specs.Tells.{Tells, HoldsItems}
-use Rattle.strm_laws.specs.Laws.{HasBytes}
+use Rattle.strm_laws.specs.Laws.{StepHasBytes}
 use Rattle.strm_machine.specs.Acts.{act_of}
 use Rattle.strm_machine.specs.State.{State}
 use Rattle.strm_machine.specs.Plays.{play, Ends}
@@ -14,24 +14,24 @@ use Rattle.strm_machine.specs.declared.steps.Step.{Step}
 use Rattle.strm_machine.specs.declared.replies.Reply.{Reply}
 use Rattle.strm_transmit.specs.Hosted.{lone}
 use Rattle.strm_host_machine.specs.World.{World}
-use Rattle.strm_host_machine.specs.Steps.{step_of, touches}
+use Rattle.strm_host_machine.specs.Steps.{outcome_of_step, touches}
 use Rattle.strm_host_machine.specs.Does.{Fits, Does}
 use Rattle.strm_host_machine.specs.Asking.{GuestAsksBad}
-use Rattle.strm_host_machine.specs.HostPlays.{play as play_among}
+use Rattle.strm_host_machine.specs.HostPlays.{host_play as play_among}
 use Rattle.strm_machine.specs.Hosting.{HostsHold}
 use Rattle.strm_session.specs.declared.playing.Ended.{Ended}
 use Rattle.strm_session.specs.declared.runs.RunCause.{RunCause}
 use Rattle.strm_session.specs.declared.runs.RunCause.TheVariants as causes
 use Rattle.strm_session.specs.Records.{StopsByRecord, StopRules}
-use Rattle.strm_session.specs.Runs.{start, start_among, AreOfGuests, counts_of, stop_of, StopsAmong, StopsWanting, LeavesWanting, Before, StopsStep, StopsAt, HasStopped}
-use Rattle.strm_session.specs.Playing.{IsPlayed, HasRun}
+use Rattle.strm_session.specs.Runs.{run_start, start_among, AreOfGuests, counts_of, stop_of, StopsAmong, StopsWanting, LeavesWanting, Before, StopsStep, StopsAt, HasStopped}
+use Rattle.strm_session.specs.Playing.{IsRunPlayed, HasRun}
 use Rattle.strm_session.proofs.PlayLemmas.{IsAt, stops, stopped_before}
 use Rattle.strm_host_machine.proofs.DoesLemmas.{extends_self}
 use Rattle.strm_session.proofs.AmongLemmas.{WritersGone, LedAmong, led_none, led_more, begins_among, runs_to, stops_among, stops_behind, wanting_there}
 use Rattle.strm_session.proofs.KeptLemmas.{LawsAmong, LeadsAmong, WritersClose, ReadersClose, WritersStop, ReadersStop, are_first, kept_among, stop_kept, stop_closes, stop_uses, delivers_each}
 use Rattle.strm_session.proofs.LawLemmas.{LawsHold, StepHolds, run_kept, front_kept}
 use Rattle.strm_session.proofs.RecordLemmas.{KeepOn, keep_none, rules_of_stop, rules_more, hosts_before, stops_by_record}
-use Rattle.strm_session.proofs.AloneLemmas.{start-fits, LedByGuests, StepAlone, alone_none, alone_more, alone_before, untouched_at}
+use Rattle.strm_session.proofs.AloneLemmas.{run_start-fits, LedByGuests, StepAlone, alone_none, alone_more, alone_before, untouched_at}
 
 -- the next of the steps that are left behind the first k
 is_next : (steps : List Step) (k : ℕ) (step : Step) (rest : List Step) → drop k steps ≡ step ∷ rest → IsAt steps k step × (drop (k + 1) steps ≡ rest)
@@ -49,18 +49,18 @@ pub record Playing (old now : Tells) (steps : List Step) (k : ℕ) (left : List 
   pub running : state.trapped ≡ false
   pub count : length told ≡ k
   pub rest : drop k steps ≡ left
-  pub bytes : All HasBytes (take k steps)
+  pub bytes : All StepHasBytes (take k steps)
 
-pub playing_none : (old : Tells) (steps : List Step) → Playing old old steps 0 steps [] start
+pub playing_none : (old : Tells) (steps : List Step) → Playing old old steps 0 steps [] run_start
 playing_none old steps = record {
   led = led_none old steps;
   alone = λ _. alone_none old steps;
   keeps = keep_none old;
-  fits = start-fits old;
+  fits = run_start-fits old;
   running = refl;
   count = refl;
   rest = refl;
-  bytes = All-nil HasBytes;
+  bytes = All-nil StepHasBytes;
 }
 
 -- one step more, which is answered or stops the run
@@ -74,15 +74,15 @@ module _ (old now new : Tells) (steps left rest : List Step) (k : ℕ) (step : S
 
   module _ (laws : LawsAmong (start_among old now)) (leads : LeadsAmong (start_among old now)) (gone : (tells : Tells) → WritersGone (start_among old tells) steps) (few : length steps ≤ 4294967295) where
     -- with what this step puts into a memory
-    bytes_more : HasBytes step → All HasBytes (take (k + 1) steps)
+    bytes_more : StepHasBytes step → All StepHasBytes (take (k + 1) steps)
     bytes_more bytes =
-        subst (All HasBytes) (sym (take_more steps k _ at.0.inside))
-        (All-push HasBytes (take k steps) _ p.bytes (subst HasBytes (sym at.0.is) bytes))
+        subst (All StepHasBytes) (sym (take_more steps k _ at.0.inside))
+        (All-push StepHasBytes (take k steps) _ p.bytes (subst StepHasBytes (sym at.0.is) bytes))
 
     hold : HostsHold state
     hold = hosts_before old now laws leads steps k told state (are_first steps k few p.bytes) p.led
 
-    pub playing_more : (reply : Reply) → HasBytes step → Does state next now new (Ok reply) (λ w. step_of w step)
+    pub playing_more : (reply : Reply) → StepHasBytes step → Does state next now new (Ok reply) (λ w. outcome_of_step w step)
         → Fits next new → next.trapped ≡ false → Aside (StepAlone told (told ++ reply ∷ []) state next now new step)
         → Playing old new steps (k + 1) rest (told ++ reply ∷ []) next
     playing_more reply bytes d fits running alone = record {
@@ -96,10 +96,10 @@ module _ (old now new : Tells) (steps left rest : List Step) (k : ℕ) (step : S
       bytes = bytes_more bytes;
     }
 
-    module _ (cause : RunCause) (here : HasBytes step) (d : Does state next now new (Err (stop_of cause)) (λ w. step_of w step))
+    module _ (cause : RunCause) (here : StepHasBytes step) (d : Does state next now new (Err (stop_of cause)) (λ w. outcome_of_step w step))
         (unmet : cause ≡ causes.OutOfMemory → (s : ℕ) → GuestAsksBad (lone state) step s → ⊥)
         (wants : LeavesWanting state next now new step cause) (alone : Aside (StopsStep told state step cause × (new ≡ now))) where
-      stopped_so : IsPlayed old new steps told next (Err cause)
+      stopped_so : IsRunPlayed old new steps told next (Err cause)
       stopped_so =
           let begins = begins_among old now steps k told state now p.led (extends_self now) in
           let touched = λ (all : AreOfGuests steps). alone (untouched_at steps k step state at.0 (alone_before old now steps k told state p.alone all).unhosted all) in
@@ -125,17 +125,17 @@ module _ (old now new : Tells) (steps left rest : List Step) (k : ℕ) (step : S
             };
             all = tt;
             count = omega (arith, p.count, at.0.inside);
-            bytes = subst (λ n. All HasBytes (take n steps)) (sym p.count) p.bytes;
-            bytes_there = subst (λ n. All HasBytes (take (n + 1) steps)) (sym p.count) (bytes_more here);
+            bytes = subst (λ n. All StepHasBytes (take n steps)) (sym p.count) p.bytes;
+            bytes_there = subst (λ n. All StepHasBytes (take (n + 1) steps)) (sym p.count) (bytes_more here);
           }
 
       -- of what the exit of a `?` answers
-      pub played_stop : (r : Result (Unit {0}) RunCause) → IsErrAnd r (λ e. e ≡ cause) → IsPlayed old new steps told next r
+      pub played_stop : (r : Result (Unit {0}) RunCause) → IsErrAnd r (λ e. e ≡ cause) → IsRunPlayed old new steps told next r
       played_stop (Ok u) f = absurd f
-      played_stop (Err e) f = subst (λ x. IsPlayed old new steps told next (Err x)) (sym f) stopped_so
+      played_stop (Err e) f = subst (λ x. IsRunPlayed old new steps told next (Err x)) (sym f) stopped_so
 
 -- all steps are done
-pub played_all : (old now : Tells) (steps left : List Step) (k : ℕ) (told : List Reply) (state : State) (u : Unit {0}) → Playing old now steps k left told state → k ≡ length steps → IsPlayed old now steps told state (Ok u)
+pub played_all : (old now : Tells) (steps left : List Step) (k : ℕ) (told : List Reply) (state : State) (u : Unit {0}) → Playing old now steps k left told state → k ≡ length steps → IsRunPlayed old now steps told state (Ok u)
 played_all old now steps left k told state u p e =
     let whole : length steps ≤ k = omega (arith, e) in
     record {
@@ -146,29 +146,29 @@ played_all old now steps left k told state u p e =
       rules = tt;
       wanting = tt;
       alone = λ all.
-          ap (play [] start) (sym (append-nil (take k steps) ∙ take_all k steps whole))
+          ap (play [] run_start) (sym (append-nil (take k steps) ∙ take_all k steps whole))
           ∙ (alone_before old now steps k told state p.alone all).so_far [];
       stop_alone = λ _. tt;
       hosts = λ all. (alone_before old now steps k told state p.alone all).same;
       goes_on = record { begins = begins_among old now steps k told state now p.led (extends_self now); faults = p.led.faults; supplied = p.led.supplied };
       all = p.count ∙ e;
       count = omega (arith, p.count, e);
-      bytes = subst (λ n. All HasBytes (take n steps)) (sym p.count) p.bytes;
+      bytes = subst (λ n. All StepHasBytes (take n steps)) (sym p.count) p.bytes;
       bytes_there =
           let all : take k steps ≡ take (length told + 1) steps = take_all k steps whole ∙ sym (take_all (length told + 1) steps (omega (arith, p.count, whole))) in
-          subst (All HasBytes) all p.bytes;
+          subst (All StepHasBytes) all p.bytes;
     }
 
 -- of guests alone it stopped as the machine without host ends does
 abbrev StoppedAlone : List Step → List Reply → RunCause → Type 0
 StoppedAlone steps told cause =
-    AreOfGuests steps → (s : State) × (play [] start (take (length told) steps) ≡ Ends told s) × StopsAt steps told cause
+    AreOfGuests steps → (s : State) × (play [] run_start (take (length told) steps) ≡ Ends told s) × StopsAt steps told cause
 
 -- a run by its play, and by the laws of all runs
 module _ (laws : LawsHold) (aside : StepHolds StaysAside) (put : StepHolds LieThere) (among : (old new : Tells) → LawsAmong (start_among old new)) (leads : (old new : Tells) → LeadsAmong (start_among old new)) (writers_close : (old new : Tells) (steps : List Step) → WritersClose (start_among old new) steps) (readers_close : (old new : Tells) (steps : List Step) → ReadersClose (start_among old new) steps) (writers_stop : (old new : Tells) (steps : List Step) → WritersStop (start_among old new) steps) (readers_stop : (old new : Tells) (steps : List Step) → ReadersStop (start_among old new) steps) (old new : Tells) (steps : List Step) (few : length steps ≤ 4294967295) (told : List Reply) (state : State) where
   -- what the first of the steps put into memories is bytes
   abbrev BytesTo : ℕ → Type 0
-  BytesTo n = All HasBytes (take n steps)
+  BytesTo n = All StepHasBytes (take n steps)
 
   -- the world that it begins from
   abbrev begun : World
@@ -196,7 +196,7 @@ module _ (laws : LawsHold) (aside : StepHolds StaysAside) (put : StepHolds LieTh
         };
   }
 
-  pub run_stopped : (cause : RunCause) → IsPlayed old new steps told state (Err cause) → HasRun old new steps told (Err cause)
+  pub run_stopped : (cause : RunCause) → IsRunPlayed old new steps told state (Err cause) → HasRun old new steps told (Err cause)
   run_stopped cause p = record {
     ok = tt;
     received = tt;
@@ -207,15 +207,15 @@ module _ (laws : LawsHold) (aside : StepHolds StaysAside) (put : StepHolds LieTh
   }
 
   -- all steps were done, but the counts may find no memory
-  module _ (u : Unit {0}) (p : IsPlayed old new steps told state (Ok u)) where
+  module _ (u : Unit {0}) (p : IsRunPlayed old new steps told state (Ok u)) where
     all : take (length told) steps ≡ steps
     all = take_all (length told) steps (omega (arith, p.all))
 
-    bytes : All HasBytes steps
-    bytes = subst (All HasBytes) all p.bytes
+    bytes : All StepHasBytes steps
+    bytes = subst (All StepHasBytes) all p.bytes
 
-    before : AreOfGuests steps → play [] start (take (length told) steps) ≡ Ends told state
-    before alone = ap (play [] start) all ∙ p.alone alone
+    before : AreOfGuests steps → play [] run_start (take (length told) steps) ≡ Ends told state
+    before alone = ap (play [] run_start) all ∙ p.alone alone
 
     unkept : HasRun old new steps told (Err causes.OutOfMemory)
     unkept = record {
@@ -224,7 +224,7 @@ module _ (laws : LawsHold) (aside : StepHolds StaysAside) (put : StepHolds LieTh
       stop = stopped_by causes.OutOfMemory p.bytes p.bytes_there (stops_behind old new steps told state p.all p.ok) tt tt (Before state (ap (play_among [] (start_among old new)) all ∙ p.ok)) (λ alone. (
         state,
         before alone,
-        ([], state, ap (play [] start) (take_all (length told + 1) steps (omega (arith, p.all))) ∙ p.alone alone ∙ ap (λ t. Ends t state) (sym (append-nil told))),
+        ([], state, ap (play [] run_start) (take_all (length told + 1) steps (omega (arith, p.all))) ∙ p.alone alone ∙ ap (λ t. Ends t state) (sym (append-nil told))),
       ));
       hosts = p.hosts;
       goes_on = p.goes_on;

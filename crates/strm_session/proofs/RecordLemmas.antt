@@ -14,15 +14,15 @@ use Rattle.strm_host_machine.specs.World.{World, writer_at, reader_at}
 use Rattle.strm_host_machine.specs.Ends.{no_writer, no_reader}
 use Rattle.strm_buffers.specs.Tells.{WriterTells, ReaderTells, Tells, no_tells, no_reader_tells, told_by, told_by_reader}
 use Rattle.strm_machine.specs.declared.streams.Producer.{Producer}
-use Rattle.strm_host_machine.specs.Does.{AllBegin, Extends, saids, writers_from, readers_from, world_of, spent, Logs, Fits, Does}
-use Rattle.strm_host_machine.specs.HostPlays.{play, Ends}
+use Rattle.strm_host_machine.specs.Does.{AllBegin, Extends, saids, writers_from, readers_from, world_of, world_spent, Logs, Fits, Does}
+use Rattle.strm_host_machine.specs.HostPlays.{host_play, Ends}
 use Rattle.strm_host_machine.proofs.DoesLemmas.{extends_self}
 use Rattle.strm_host_machine.proofs.LaterLemmas.{Used, UsedLast}
 use Rattle.strm_host_machine.proofs.StepRecordLemmas.{Halts, act-halts}
 use Rattle.strm_host_machine.proofs.LastRecordLemmas.{writer-coming, writer-spent, writer-kind, reader-coming, reader-spent, reader-kind, AreServing, ends_fit, halts_by_record}
 use Rattle.strm_host_machine.specs.LastRecord.{SaysFailed, SaysBroken, ReaderSaysFailed, ReaderSaysBroken, SaysLast, HaltsByRecord, KeepsRules, ReaderKeepsRules, SaysWhy, ReaderSaysWhy}
 use Rattle.strm_machine.specs.Acts.{act_of}
-use Rattle.strm_host_machine.specs.Steps.{step_of}
+use Rattle.strm_host_machine.specs.Steps.{outcome_of_step}
 use Rattle.strm_session.specs.Records.{StopsByRecord, AddsKept, AddsWhy, WriterKeeps, WriterTellsWhy, ReaderKeeps, ReaderTellsWhy, RulesKept, RulesKeptBut, StopRules}
 use Rattle.strm_session.specs.Runs.{start_among}
 use Rattle.strm_machine.specs.Hosting.{HostsHold}
@@ -36,7 +36,7 @@ serving : (state : State) → HostsHold state → AreServing state
 serving state h side n s = (h.serve side n s).serves
 
 -- a step that stops
-step_by_record : (now new : Tells) (state next : State) (step : Step) (stop : Option Stop) → HostsHold state → Fits state now → Does state next now new (Err stop) (λ w. step_of w step) → StopsByRecord now new stop
+step_by_record : (now new : Tells) (state next : State) (step : Step) (stop : Option Stop) → HostsHold state → Fits state now → Does state next now new (Err stop) (λ w. outcome_of_step w step) → StopsByRecord now new stop
 step_by_record now new state next step None h fits d = tt
 step_by_record now new state next step (Some stop) h fits d = halts_by_record now new state next (act_of step) stop (serving state h) fits d
 
@@ -134,17 +134,17 @@ module _ (now new : Tells) (state next : State) (step : Step) (h : HostsHold sta
   reader_here : (r : ℕ) → (reader_at here r).kind ≡ (told_by_reader now r).kind
   reader_here r = reader-kind now.readers (saids new).readers r
 
-  writer_kept : (n : ℕ) → Extends now (saids new) → Used (KeepsRules (writer_at here n).kind) (writer_at here n).coming (writer_at (spent next new) n).coming → WriterKeeps now new n
+  writer_kept : (n : ℕ) → Extends now (saids new) → Used (KeepsRules (writer_at here n).kind) (writer_at here n).coming (writer_at (world_spent next new) n).coming → WriterKeeps now new n
   writer_kept n b u =
       subst (λ q. AddsKept (KeepsRules q) (told_by now n).said (told_by new n).said) (writer_here n)
       (adds_kept _ _ _ _ _ (writer-coming state.producers now.writers new.writers n b.0) (writer-spent next.producers new.writers n) u)
 
-  reader_kept : (r : ℕ) → Extends now (saids new) → Used (ReaderKeepsRules (reader_at here r).kind) (reader_at here r).coming (reader_at (spent next new) r).coming → ReaderKeeps now new r
+  reader_kept : (r : ℕ) → Extends now (saids new) → Used (ReaderKeepsRules (reader_at here r).kind) (reader_at here r).coming (reader_at (world_spent next new) r).coming → ReaderKeeps now new r
   reader_kept r b u =
       subst (λ q. AddsKept (ReaderKeepsRules q) (told_by_reader now r).said (told_by_reader new r).said) (reader_here r)
       (adds_kept _ _ _ _ _ (reader-coming now.readers new.readers r b.1) (reader-spent new.readers r) u)
 
-  pub step_keeps : (reply : Reply) → Does state next now new (Ok reply) (λ w. step_of w step) → KeepOn now new
+  pub step_keeps : (reply : Reply) → Does state next now new (Ok reply) (λ w. outcome_of_step w step) → KeepOn now new
   step_keeps reply d =
       let logs = saids new in
       let e = extends_self new in
@@ -156,19 +156,19 @@ module _ (now new : Tells) (state next : State) (step : Step) (h : HostsHold sta
         reader_kinds = λ r. sym (reader-kind new.readers (saids new).readers r) ∙ (later.readers r).kind ∙ reader_here r;
       }
 
-  writer_stop : (stop : Stop) (n : ℕ) → Extends now (saids new) → UsedLast (KeepsRules (writer_at here n).kind) (SaysWhy stop n (writer_at here n).kind) (writer_at here n).coming (writer_at (spent next new) n).coming
+  writer_stop : (stop : Stop) (n : ℕ) → Extends now (saids new) → UsedLast (KeepsRules (writer_at here n).kind) (SaysWhy stop n (writer_at here n).kind) (writer_at here n).coming (writer_at (world_spent next new) n).coming
       → WriterTellsWhy stop now new n
   writer_stop stop n b u =
       subst (λ q. AddsWhy (KeepsRules q) (SaysWhy stop n q) (told_by now n).said (told_by new n).said) (writer_here n)
       (adds_why _ _ _ _ _ _ (writer-coming state.producers now.writers new.writers n b.0) (writer-spent next.producers new.writers n) u)
 
-  reader_stop : (stop : Stop) (r : ℕ) → Extends now (saids new) → UsedLast (ReaderKeepsRules (reader_at here r).kind) (ReaderSaysWhy stop r (reader_at here r).kind) (reader_at here r).coming (reader_at (spent next new) r).coming
+  reader_stop : (stop : Stop) (r : ℕ) → Extends now (saids new) → UsedLast (ReaderKeepsRules (reader_at here r).kind) (ReaderSaysWhy stop r (reader_at here r).kind) (reader_at here r).coming (reader_at (world_spent next new) r).coming
       → ReaderTellsWhy stop now new r
   reader_stop stop r b u =
       subst (λ q. AddsWhy (ReaderKeepsRules q) (ReaderSaysWhy stop r q) (told_by_reader now r).said (told_by_reader new r).said) (reader_here r)
       (adds_why _ _ _ _ _ _ (reader-coming now.readers new.readers r b.1) (reader-spent new.readers r) u)
 
-  step_stops : (stop : Option Stop) → Does state next now new (Err stop) (λ w. step_of w step) → StopRules stop now new
+  step_stops : (stop : Option Stop) → Does state next now new (Err stop) (λ w. outcome_of_step w step) → StopRules stop now new
   step_stops None d = tt
   step_stops (Some stop) d =
       let logs = saids new in
@@ -181,11 +181,11 @@ module _ (now new : Tells) (state next : State) (step : Step) (h : HostsHold sta
       }
 
 -- and where it stops a run
-pub rules_of_stop : (old now new : Tells) (state next : State) (step : Step) (stop : Option Stop) → KeepOn old now → HostsHold state → Fits state now → Does state next now new (Err stop) (λ w. step_of w step) → StopRules stop old new
+pub rules_of_stop : (old now new : Tells) (state next : State) (step : Step) (stop : Option Stop) → KeepOn old now → HostsHold state → Fits state now → Does state next now new (Err stop) (λ w. outcome_of_step w step) → StopRules stop old new
 rules_of_stop old now new state next step None k h fits d = tt
 rules_of_stop old now new state next step (Some stop) k h fits d = keep_but old now new k stop (step_stops now new state next step h fits (Some stop) d)
 
-pub rules_more : (old now new : Tells) (state next : State) (step : Step) (reply : Reply) → KeepOn old now → HostsHold state → Fits state now → Does state next now new (Ok reply) (λ w. step_of w step) → KeepOn old new
+pub rules_more : (old now new : Tells) (state next : State) (step : Step) (reply : Reply) → KeepOn old now → HostsHold state → Fits state now → Does state next now new (Ok reply) (λ w. outcome_of_step w step) → KeepOn old new
 rules_more old now new state next step reply k h fits d = keep_more old now new k (step_keeps now new state next step h fits reply d)
 
 -- THE RUN OF WHICH IT IS A STEP
@@ -206,11 +206,11 @@ hosts_before old now laws leads steps k told state a l =
     let first = start_among old now in
     let front = take k steps in
     let led = (l.led (saids now) (extends_self now)).goes_on [] in
-    let played : play [] first front ≡ Ends told (world_of state now (saids now)) = ap (play [] first) (sym (append-nil front)) ∙ led in
+    let played : host_play [] first front ≡ Ends told (world_of state now (saids now)) = ap (host_play [] first) (sym (append-nil front)) ∙ led in
     let end = leads front told (world_of state now (saids now)) played in
     subst (λ (w : World). HostsHold w.state) end (all_laws (start_among old now) front (laws front a)).hosts
 
 -- a step that stops a run
-pub stops_by_record : (old now new : Tells) (state next : State) (step : Step) (stop : Option Stop) → Extends old (saids now) → HostsHold state → Fits state now → Does state next now new (Err stop) (λ w. step_of w step) → StopsByRecord old new stop
+pub stops_by_record : (old now new : Tells) (state next : State) (step : Step) (stop : Option Stop) → Extends old (saids now) → HostsHold state → Fits state now → Does state next now new (Err stop) (λ w. outcome_of_step w step) → StopsByRecord old new stop
 stops_by_record old now new state next step stop b h fits d =
     by_record_before old now new stop b (step_by_record now new state next step stop h fits d)

@@ -36,14 +36,14 @@ use Rattle.strm_host_machine.specs.World.{World, stream_in, writer_at, reader_at
 use Rattle.strm_host_machine.specs.Ends.{polled_writer, polled_reader}
 use Rattle.strm_host_machine.specs.Outcomes.{Outcome, Goes, Stops, Stuck, stops, done, then_on, of_reply}
 use Rattle.strm_host_machine.specs.Polls.{AfterWriter, is_failed, is_writer_poll, writer_judged, writer_says, polls_writer, AfterReader, is_reader_poll, tells_truly, reader_judged, reader_says, polls_reader}
-use Rattle.strm_host_machine.specs.Producing.{receives, with_answer, produced_result, is_produced, produces, producer_turn}
-use Rattle.strm_host_machine.specs.Consuming.{lifted, with_taken, gives_up, consumer_turn}
+use Rattle.strm_host_machine.specs.WriterTurn.{receives, with_answer, produced_result, is_produced, produces, writer_turn}
+use Rattle.strm_host_machine.specs.ReaderTurn.{lifted_items, reader_with_taken, gives_up, reader_turn}
 use Rattle.strm_host_machine.specs.Settling.{answered_with}
 use Rattle.strm_host_machine.specs.Piping.{wants_items, fetches, gathered, passed_on, offers, is_done_with, is_run_dry, both_gone, ends_if_done, pipe_round}
 use Rattle.strm_host_machine.specs.Driving.{if_open, driven_by, drive_turn, driven}
 use Rattle.strm_host_machine.specs.Attaching.{has_items, hosts_new, is_dry, piped, without_ends, piped_by, pipes, forsakes}
 use Rattle.strm_host_machine.specs.HostRefusals.{refusal_in}
-use Rattle.strm_host_machine.specs.Steps.{reacts, operates_by, drops_in, on_host, performs_by, performs_in, unless_refused_in, outcome, step_of}
+use Rattle.strm_host_machine.specs.Steps.{reacts, operates_by, drops_in, on_host, performs_by, performs_in, unless_refused_in, outcome, outcome_of_step}
 use Rattle.strm_host_machine.proofs.TouchLemmas.{touch-by}
 use Rattle.strm_machine.specs.declared.steps.Step.{Step}
 use Rattle.strm_session.proofs.PlayLemmas.{RunsOn, reaction-runs}
@@ -112,8 +112,8 @@ produces-runs world s n read [] t =
     cond_both (producer_at world.state n).over (done (receives world s read [] (Some results.Dropped))) (is_produced world s n read) Running
     (λ o. with_stream-runs _ s _ t) (λ o. produced-runs world s n read t)
 
-turn-runs : (world : World) (s n : ℕ) (read : Operation) → IsRunning world → Running (producer_turn world s n read)
-unfolding producer_turn
+turn-runs : (world : World) (s n : ℕ) (read : Operation) → IsRunning world → Running (writer_turn world s n read)
+unfolding writer_turn
 turn-runs world s n read t = produces-runs world s n read _ t
 
 -- A HOST READER'S TURN
@@ -135,11 +135,11 @@ reader_says-runs world s r offered finish first (said ∷ more) next t h =
     cond_both (is_reader_poll offered (consumer_at world.state r).since finish said && tells_truly offered first said) (reader_judged after (stream_in world s).kind s r said next) Stuck Running
     (λ p. judged_reader-runs after (stream_in world s).kind s r said next t h) (λ p. tt)
 
-consumer_turn-runs : (world : World) (s r : ℕ) (write : Operation) → IsRunning world → Running (consumer_turn world s r write)
-unfolding consumer_turn
-consumer_turn-runs world s r write t =
-    reader_says-runs world s r write.left write.asked (lifted world.state.guests (stream_in world s).payload write) (reader_at world r).coming
-    (λ after said. done (gives_up (with_taken after r said.answer said.taken) s write said.taken said.answer))
+reader_turn-runs : (world : World) (s r : ℕ) (write : Operation) → IsRunning world → Running (reader_turn world s r write)
+unfolding reader_turn
+reader_turn-runs world s r write t =
+    reader_says-runs world s r write.left write.asked (lifted_items world.state.guests (stream_in world s).payload write) (reader_at world r).coming
+    (λ after said. done (gives_up (reader_with_taken after r said.answer said.taken) s write said.taken said.answer))
     t (λ w x k. with_stream-runs _ s _ k)
 
 -- THE ROUND OF A PIPE
@@ -183,7 +183,7 @@ open-runs world (Some operation) turn t h = cond_both operation.is_open (turn op
 driven_by-runs : (world : World) (s : ℕ) (stream : Stream) (writer reader : Owner) → IsRunning world → Running (driven_by world s stream writer reader)
 driven_by-runs world s stream (Host n) (Host r) t = pipe_round-runs world s n r t
 driven_by-runs world s stream (Host n) _ t = open-runs world stream.reader.operation _ t (λ o. turn-runs world s n o t)
-driven_by-runs world s stream _ (Host r) t = open-runs world stream.writer.operation _ t (λ o. consumer_turn-runs world s r o t)
+driven_by-runs world s stream _ (Host r) t = open-runs world stream.writer.operation _ t (λ o. reader_turn-runs world s r o t)
 driven_by-runs world s stream _ _ t = t
 
 drive_turn-runs : (world : World) (s : ℕ) → IsRunning world → Running (drive_turn world s)
@@ -211,7 +211,7 @@ operates-runs : (world : World) (side : Side) (end : NamedEnd) (address count : 
 operates-runs world Reading end address count (Host n) t r =
     then-runs _ _ (turn-runs _ _ n _ (with_stream-runs world _ _ t)) (λ w k. answered-runs w _ Reading _ k)
 operates-runs world Writing end address count (Host n) t r =
-    then-runs _ _ (consumer_turn-runs _ _ n _ (with_stream-runs world _ _ t)) (λ w k. answered-runs w _ Writing _ k)
+    then-runs _ _ (reader_turn-runs _ _ n _ (with_stream-runs world _ _ t)) (λ w k. answered-runs w _ Writing _ k)
 operates-runs world side end address count _ t r = reacts-runs world (OnEnd side end (Operate address count)) r
 
 drops-runs : (world : World) (s : ℕ) (side : Side) (act : Act) → RunsOn (reaction world.state act) → Running (drops_in world s side act)
@@ -250,7 +250,7 @@ unless-runs : (world : World) (act : Act) (o : Option Refusal) → IsRunning wor
 unless-runs world act (Some refusal) t r = t
 unless-runs world act None t r = performs-runs world act t r
 
-pub step-runs : (world : World) (step : Step) → IsRunning world → Running (step_of world step)
+pub step-runs : (world : World) (step : Step) → IsRunning world → Running (outcome_of_step world step)
 unfolding outcome
 step-runs world step t =
     let act = act_of step in

@@ -6,13 +6,13 @@ use Rattle.std.specs.Prelude.{codes}
 use Rattle.strm_machine.specs.declared.steps.Step.{Step}
 use Rattle.strm_input_output.specs.Faults.{Rose}
 use Rattle.strm_lines.specs.Grammar.{IsU32}
-use Rattle.strm_lines.specs.Lines.{lines_of, Spells, IsFirstBad, IsTooLong}
+use Rattle.strm_lines.specs.Lines.{lines_of, Spells, IsFirstBadLine, IsTooLong}
 use Rattle.strm_input_output.specs.Serving.{IsOfSource}
 use Rattle.strm_input_output.proofs.ServingLemmas.{source_of_input, is_read}
-use Rattle.strm_session.specs.Serving.{IsRun, IsGen, IsStop, IsOfLines, IsStatusOf, PlaysOn, HaltsWith, StandsFor, IsOfInput, IsOutput, IsComplete, EndsOrStops, WasRun, LeavesUnwritten}
+use Rattle.strm_session.specs.Serving.{TellsToRun, IsGen, IsStopStatus, IsOfLines, IsStatusOf, PlaysOn, HaltsWith, StandsFor, IsOfInput, IsRunOutput, IsComplete, EndsOrStops, InputWasRun, LeavesUnwritten}
 use Rattle.strm_host_machine.specs.Ends.{Writer, Reader}
 use Rattle.strm_host_machine.specs.World.{World}
-use Rattle.strm_host_machine.specs.HostPlays.{Played, play, Ends, Halts}
+use Rattle.strm_host_machine.specs.HostPlays.{HostPlayed, host_play, Ends, Halts}
 use Rattle.std.specs.Io.KnownBytes.{IsAtEnd}
 use Rattle.strm_lines.proofs.LineLemmas.{one_spelling, spelled_not_bad}
 use Rattle.strm_machine.specs.declared.replies.Reply.{Reply}
@@ -39,27 +39,27 @@ one_word f (y ∷ z ∷ more) x word l e = absurd (omega (arith, l))
 
 -- the statuses of a text
 abbrev pub Known : ℕ → Type 0
-Known status = (status ≤ 4) ⊎ IsStop status
+Known status = (status ≤ 4) ⊎ IsStopStatus status
 
 -- those of lines that are neither of the other two
-zero_of : {status : ℕ} → IsOfLines status → status ≢ 2 → (IsStop status → ⊥) → status ≡ 0
+zero_of : {status : ℕ} → IsOfLines status → status ≢ 2 → (IsStopStatus status → ⊥) → status ≡ 0
 zero_of (inl e) bad stop = e
 zero_of (inr (inl e)) bad stop = absurd (bad e)
 zero_of (inr (inr s)) bad stop = absurd (stop s)
 
-two_of : {status : ℕ} → IsOfLines status → status ≢ 0 → (IsStop status → ⊥) → status ≡ 2
+two_of : {status : ℕ} → IsOfLines status → status ≢ 0 → (IsStopStatus status → ⊥) → status ≡ 2
 two_of (inl e) done stop = absurd (done e)
 two_of (inr (inl e)) done stop = e
 two_of (inr (inr s)) done stop = absurd (stop s)
 
-stop_of_lines : {status : ℕ} → IsOfLines status → status ≢ 0 → status ≢ 2 → IsStop status
+stop_of_lines : {status : ℕ} → IsOfLines status → status ≢ 0 → status ≢ 2 → IsStopStatus status
 stop_of_lines (inl e) done bad = absurd (done e)
 stop_of_lines (inr (inl e)) done bad = absurd (bad e)
 stop_of_lines (inr (inr s)) done bad = s
 
 -- AMONG HOST ENDS
 
-abbrev stop_in : Played → Stop
+abbrev stop_in : HostPlayed → Stop
 stop_in (Halts told stop writers readers) = stop
 stop_in _ = stops.StoreTrapped
 
@@ -104,10 +104,10 @@ on_any (Err e) p = p
 pub unwritten_of_source : {old new : Tells} (left : Option (List ℕ)) (input : List ℕ) → IfSome left (λ bytes. input ≡ bytes) → LeavesUnwritten (Some input) old new → LeavesUnwritten left old new
 unwritten_of_source left input e (inl same) = inl same
 unwritten_of_source None input e (inr w) = inr (record { steps = w.steps; spelled = tt; within = tt; replies = w.replies; run = w.run })
-unwritten_of_source {old} {new} (Some bytes) input e (inr w) = inr (subst (λ b. WasRun (Some b) old new) e w)
+unwritten_of_source {old} {new} (Some bytes) input e (inr w) = inr (subst (λ b. InputWasRun (Some b) old new) e w)
 
 -- a run of which nothing is written
-pub was_run : {old new : Tells} (input : List ℕ) (steps : List Step) (told : List Reply) (r : Result Ended RunCause) → Spells (lines_of input) steps → (IsTooLong input → ⊥) → HasRun old new steps told r → WasRun (Some input) old new
+pub was_run : {old new : Tells} (input : List ℕ) (steps : List Step) (told : List Reply) (r : Result Ended RunCause) → Spells (lines_of input) steps → (IsTooLong input → ⊥) → HasRun old new steps told r → InputWasRun (Some input) old new
 was_run {old} {new} input steps told r s long h = record { steps = steps; spelled = s; within = long; replies = told; run = by r h }
   where
     by : (r : Result Ended RunCause) → HasRun old new steps told r → EndsOrStops old new steps told
@@ -164,7 +164,7 @@ module _ {rest : Option (List ℕ)} {old new : Tells} {before after status : ℕ
             let undone : status ≢ 0 = λ q.
             let done = h.done q in
             let same = one_spelling (lines_of input) done.steps steps done.spelled s in
-            halts_no_end halts.0 done.replies stop halts.1 halts.2 _ (sym halts.3 ∙ ap (play [] (start_among old new)) (sym same) ∙ done.run.played) in
+            halts_no_end halts.0 done.replies stop halts.1 halts.2 _ (sym halts.3 ∙ ap (host_play [] (start_among old new)) (sym same) ∙ done.run.played) in
             let stopped = h.stopped (stop_of_lines lines undone no_bad_line) in
             let same = one_spelling (lines_of input) stopped.steps steps stopped.spelled s in
             stands_for old new stopped.steps stopped.replies status stopped.cause stopped.why stop stopped.status_is stopped.run.stops.halts
@@ -187,7 +187,7 @@ module _ {rest : Option (List ℕ)} {old new : Tells} {before after status : ℕ
             halts_of (BadItem stream) (told, _, _, halts)
 
       -- a bad line is told
-      bad_line_of : (line : ℕ) → IsFirstBad (lines_of input) line → status ≡ 2
+      bad_line_of : (line : ℕ) → IsFirstBadLine (lines_of input) line → status ≡ 2
       bad_line_of line bad =
           two_of lines
           (λ q. let done = h.done q in spelled_not_bad (lines_of input) done.steps line done.spelled bad)
@@ -197,27 +197,27 @@ module _ {rest : Option (List ℕ)} {old new : Tells} {before after status : ℕ
     too_long_of : IsTooLong input → status ≡ 3
     too_long_of long = three_of status not_fault (λ q. h.source.within (is_read h.source q not_fault) long)
 
-  module _ {words : List (List ℕ)} (left : Option (List ℕ)) (input : List ℕ) (h : IsOutput words left rest old new before after status text) where
+  module _ {words : List (List ℕ)} (left : Option (List ℕ)) (input : List ℕ) (h : IsRunOutput words left rest old new before after status text) where
     -- of a source that has this input left, where nothing fails
-    told_input : IsRun words → left ≡ Some input → IsOfInput (Some input) rest old new before after status text
+    told_input : TellsToRun words → left ≡ Some input → IsOfInput (Some input) rest old new before after status text
     told_input r e = subst (λ l. IsOfInput l rest old new before after status text) e (h.of_input r)
 
-    pub told_done : IsRun words → left ≡ Some input → (Rose before after → ⊥) → (IsTooLong input → ⊥) → (steps : List Step) → Spells (lines_of input) steps → NoneRose old new → ObeyRules old new → AsksItems (start_among old new) steps → status ≡ 0
+    pub told_done : TellsToRun words → left ≡ Some input → (Rose before after → ⊥) → (IsTooLong input → ⊥) → (steps : List Step) → Spells (lines_of input) steps → NoneRose old new → ObeyRules old new → AsksItems (start_among old new) steps → status ≡ 0
     told_done r e calm = done_of input (told_input r e) calm
 
-    pub told_bad_item : IsRun words → left ≡ Some input → (Rose before after → ⊥) → (IsTooLong input → ⊥) → (steps : List Step) → Spells (lines_of input) steps → (told : List Reply) (stream : ℕ) → AsksBad (start_among old new) steps told stream → status ≡ 8
+    pub told_bad_item : TellsToRun words → left ≡ Some input → (Rose before after → ⊥) → (IsTooLong input → ⊥) → (steps : List Step) → Spells (lines_of input) steps → (told : List Reply) (stream : ℕ) → AsksBad (start_among old new) steps told stream → status ≡ 8
     told_bad_item r e calm = bad_item_of input (told_input r e) calm
 
-    pub told_ends : IsRun words → left ≡ Some input → (Rose before after → ⊥) → (IsTooLong input → ⊥) → (steps : List Step) → Spells (lines_of input) steps → PlaysOn (start_among old new) steps → status ≡ 0
+    pub told_ends : TellsToRun words → left ≡ Some input → (Rose before after → ⊥) → (IsTooLong input → ⊥) → (steps : List Step) → Spells (lines_of input) steps → PlaysOn (start_among old new) steps → status ≡ 0
     told_ends r e calm = ends_of input (told_input r e) calm
 
-    pub told_halts : IsRun words → left ≡ Some input → (Rose before after → ⊥) → (IsTooLong input → ⊥) → (steps : List Step) → Spells (lines_of input) steps → (stop : Stop) → HaltsWith (start_among old new) steps stop → StandsFor status stop
+    pub told_halts : TellsToRun words → left ≡ Some input → (Rose before after → ⊥) → (IsTooLong input → ⊥) → (steps : List Step) → Spells (lines_of input) steps → (stop : Stop) → HaltsWith (start_among old new) steps stop → StandsFor status stop
     told_halts r e calm = halts_of input (told_input r e) calm
 
-    pub told_bad_line : IsRun words → left ≡ Some input → (Rose before after → ⊥) → (IsTooLong input → ⊥) → (line : ℕ) → IsFirstBad (lines_of input) line → status ≡ 2
+    pub told_bad_line : TellsToRun words → left ≡ Some input → (Rose before after → ⊥) → (IsTooLong input → ⊥) → (line : ℕ) → IsFirstBadLine (lines_of input) line → status ≡ 2
     told_bad_line r e calm = bad_line_of input (told_input r e) calm
 
-    pub told_too_long : IsRun words → left ≡ Some input → (Rose before after → ⊥) → IsTooLong input → status ≡ 3
+    pub told_too_long : TellsToRun words → left ≡ Some input → (Rose before after → ⊥) → IsTooLong input → status ≡ 3
     told_too_long r e calm = too_long_of input (told_input r e) calm
 
 -- COMPLETENESS
@@ -252,7 +252,7 @@ module _ (words : List (List ℕ)) (left rest : Option (List ℕ)) (sb sa kb ka 
   }
 
   -- what is written has its cause
-  pub complete_told : (status : ℕ) (text : List ℕ) → IsOutput words left rest old new sb sa status text → IsComplete words left sb sa kb ka old new status
+  pub complete_told : (status : ℕ) (text : List ℕ) → IsRunOutput words left rest old new sb sa status text → IsComplete words left sb sa kb ka old new status
   complete_told status text o = record {
     complete = λ steps r none obey items.
         let f = r.faultless in inl (told_done left r.input o r.run f.input_is f.source r.within steps r.spelled none obey items);
@@ -270,7 +270,7 @@ module _ (words : List (List ℕ)) (left rest : Option (List ℕ)) (sb sa kb ka 
   }
 
   -- so has what was answered, of which the sink took all or failed
-  pub complete_written : (answered status : ℕ) (text : List ℕ) {Taken : Type 0} → IsOutput words left rest old new sb sa status text → (answered ≢ 5 → (answered ≡ status) × Taken) → (answered ≡ 5 → Rose kb ka) → IsComplete words left sb sa kb ka old new answered
+  pub complete_written : (answered status : ℕ) (text : List ℕ) {Taken : Type 0} → IsRunOutput words left rest old new sb sa status text → (answered ≢ 5 → (answered ≡ status) × Taken) → (answered ≡ 5 → Rose kb ka) → IsComplete words left sb sa kb ka old new answered
   complete_written answered status text o told fault = by (cases_eq answered 5)
     where
       by : (answered ≡ 5) ⊎ (answered ≢ 5) → IsComplete words left sb sa kb ka old new answered

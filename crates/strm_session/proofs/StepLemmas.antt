@@ -11,12 +11,12 @@ use Rattle.strm_machine.specs.declared.replies.Reply.TheVariants as replies
 use Rattle.strm_machine.specs.declared.stops.Stop.TheVariants as stops
 use Rattle.strm_host_machine.specs.World.{World}
 use Rattle.strm_host_machine.specs.Outcomes.{Outcome}
-use Rattle.strm_host_machine.specs.Steps.{step_of, may_poll}
+use Rattle.strm_host_machine.specs.Steps.{outcome_of_step, may_poll}
 use Rattle.strm_host_machine.specs.Asking.{GuestAsksBad, ByGuest}
 use Rattle.strm_host_machine.proofs.AskingLemmas.{asks-stops}
 use Rattle.strm_host_machine.specs.Does.{Answered, saids, world_of, Does}
 use Rattle.strm_transmit.specs.Meets.{Meets, act_takes_memory, takes_memory}
-use Rattle.strm_transmit.specs.Hosted.{answered, lone, Wanting, Leaves}
+use Rattle.strm_transmit.specs.Hosted.{call_answered, lone, Wanting, Leaves}
 use Rattle.strm_transmit.specs.declared.errors.StoreError.{StoreError}
 use Rattle.strm_transmit.specs.declared.errors.StoreError.TheVariants as errors
 use Rattle.strm_session.specs.Runs.{stop_of, StopsStep, WantsStep, Polling, Untouched, LeavesWanting}
@@ -27,12 +27,12 @@ use Rattle.strm_session.proofs.RunningLemmas.{Running, step-runs}
 use Rattle.strm_host_machine.proofs.DoesLemmas.{extends_self}
 
 -- a step that was answered leaves the store untrapped
-pub does_runs : (old new : State) (tells told : Tells) (reply : Reply) (step : Step) → old.trapped ≡ false → Does old new tells told (Ok reply) (λ w. step_of w step) → new.trapped ≡ false
+pub does_runs : (old new : State) (tells told : Tells) (reply : Reply) (step : Step) → old.trapped ≡ false → Does old new tells told (Ok reply) (λ w. outcome_of_step w step) → new.trapped ≡ false
 does_runs old new tells told reply step t d =
     subst Running (d.gives (saids told) (extends_self told)) (step-runs (world_of old tells (saids told)) step t)
 
 -- none finds it trapped
-pub never_trapped : (old new : State) (tells told : Tells) (step : Step) → old.trapped ≡ false → Does old new tells told (Err (Some stops.StoreTrapped)) (λ w. step_of w step) → ⊥
+pub never_trapped : (old new : State) (tells told : Tells) (step : Step) → old.trapped ≡ false → Does old new tells told (Err (Some stops.StoreTrapped)) (λ w. outcome_of_step w step) → ⊥
 never_trapped old new tells told step t d =
     subst Running (d.gives (saids told) (extends_self told)) (step-runs (world_of old tells (saids told)) step t) refl
 
@@ -47,7 +47,7 @@ does_wanting old new tells told reply machine d = record {
 }
 
 -- a step that was answered asks for no bad item
-pub answered_unmet : (old new : State) (tells told : Tells) (reply : Reply) (step : Step) (s : ℕ) → old.trapped ≡ false → Does old new tells told (Ok reply) (λ w. step_of w step) → GuestAsksBad (lone old) step s → ⊥
+pub answered_unmet : (old new : State) (tells told : Tells) (reply : Reply) (step : Step) (s : ℕ) → old.trapped ≡ false → Does old new tells told (Ok reply) (λ w. outcome_of_step w step) → GuestAsksBad (lone old) step s → ⊥
 answered_unmet old new tells told reply step s t d g =
     let here = world_of old tells (saids told) in
     let halts = sym (d.gives (saids told) (extends_self told)) ∙ asks-stops here step t s (ByGuest (record { asks = g.asks; unhosted = g.unhosted })) in
@@ -61,7 +61,7 @@ meeting_takes_none state step s g =
       ap (may_poll (lone state)) a.does ∙ ap (λ k. is_host (end_of (opposite a.side) (stream_at state k)).owner) a.stream ∙ g.unhosted,
     )
 
-none_wanted : (error : StoreError) → ◌≡◌ {A = Answered} (answered (Err error)) (Err None) → error ≡ errors.OutOfMemory
+none_wanted : (error : StoreError) → ◌≡◌ {A = Answered} (call_answered (Err error)) (Err None) → error ≡ errors.OutOfMemory
 none_wanted (errors.Refused refusal) e = cc
 none_wanted (errors.HostFailed end) e = cc
 none_wanted (errors.HostBroke end) e = cc
@@ -70,11 +70,11 @@ none_wanted errors.StoreTrapped e = cc
 none_wanted errors.OutOfMemory e = refl
 
 -- which error is told as want of memory
-pub wanted_error : (error : StoreError) (cause : RunCause) → ◌≡◌ {A = Answered} (answered (Err error)) (Err (stop_of cause)) → cause ≡ causes.OutOfMemory → error ≡ errors.OutOfMemory
+pub wanted_error : (error : StoreError) (cause : RunCause) → ◌≡◌ {A = Answered} (call_answered (Err error)) (Err (stop_of cause)) → cause ≡ causes.OutOfMemory → error ≡ errors.OutOfMemory
 wanted_error error cause e o = none_wanted error (e ∙ ap (λ c. Err (stop_of c)) o)
 
 -- what a step leaves that found no memory
-pub leaves_wanting : (old new : State) (tells told : Tells) (step : Step) (error : StoreError) (cause : RunCause) → ◌≡◌ {A = Answered} (answered (Err error)) (Err (stop_of cause)) → Leaves (act_of step) old new tells told error → LeavesWanting old new tells told step cause
+pub leaves_wanting : (old new : State) (tells told : Tells) (step : Step) (error : StoreError) (cause : RunCause) → ◌≡◌ {A = Answered} (call_answered (Err error)) (Err (stop_of cause)) → Leaves (act_of step) old new tells told error → LeavesWanting old new tells told step cause
 leaves_wanting old new tells told step errors.OutOfMemory causes.OutOfMemory e l = by (may_poll (lone old) (act_of step)) l
   where
     by : (b : Bool) → Wanting b (act_of step) old new tells told → WantsStep old new tells told step
@@ -92,7 +92,7 @@ pub does_answering : {old new : State} {tells told : Tells} {machine : World →
 does_answering {old} {new} {tells} {told} {machine} a b e d = subst (λ r. Does old new tells told r machine) e d
 
 -- of guests alone, a step that stops a run asks for a bad item, or memory was wanted
-pub meets_stops : (told : List Reply) (old new : State) (step : Step) (error : StoreError) (cause : RunCause) → ◌≡◌ {A = Answered} (answered (Err error)) (Err (stop_of cause)) → Meets old new (Err error) (react old step) → StopsStep told old step cause
+pub meets_stops : (told : List Reply) (old new : State) (step : Step) (error : StoreError) (cause : RunCause) → ◌≡◌ {A = Answered} (call_answered (Err error)) (Err (stop_of cause)) → Meets old new (Err error) (react old step) → StopsStep told old step cause
 meets_stops told old new step (errors.Refused refusal) cause e m = cc
 meets_stops told old new step (errors.HostFailed end) cause e m = absurd m
 meets_stops told old new step (errors.HostBroke end) cause e m = absurd m

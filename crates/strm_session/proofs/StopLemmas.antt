@@ -13,8 +13,8 @@ use Rattle.strm_machine.specs.declared.stops.Stop.TheVariants.{BadItem}
 use Rattle.strm_host_machine.specs.Ends.{Writer, Reader}
 use Rattle.strm_host_machine.specs.World.{World}
 use Rattle.strm_host_machine.specs.Outcomes.{Outcome, Goes, Stops, Stuck, stops}
-use Rattle.strm_host_machine.specs.Steps.{step_of}
-use Rattle.strm_host_machine.specs.HostPlays.{play, after_step, Ends, Halts}
+use Rattle.strm_host_machine.specs.Steps.{outcome_of_step}
+use Rattle.strm_host_machine.specs.HostPlays.{host_play, after_host_step, Ends, Halts}
 use Rattle.strm_host_machine.specs.Asking.{GuestAsksBad, AsksBadItem, ByGuest, InCall, InDrive, stands_at}
 use Rattle.strm_host_machine.specs.Does.{RunsTo}
 use Rattle.strm_host_machine.proofs.AskingLemmas.{asks-stops}
@@ -29,19 +29,19 @@ use Rattle.strm_session.proofs.RunningLemmas.{IsRunning, Running, step-runs}
 
 -- a play that ends leaves a store that is not trapped, and goes on from there
 record Leads (told : List Reply) (world : World) (steps : List Step) (all : List Reply) (end : World) : Type 0 where
-  goes_on : (more : List Step) → play told world (steps ++ more) ≡ play all end more
+  goes_on : (more : List Step) → host_play told world (steps ++ more) ≡ host_play all end more
   running : IsRunning end
 
 -- one step
-one_step : (told : List Reply) (world : World) (step : Step) (o : Outcome) (more : List Step) → step_of world step ≡ o → play told world (step ∷ more) ≡ after_step told o (λ told' world'. play told' world' more)
-one_step told world step o more e = ap (λ p. after_step told p (λ told' world'. play told' world' more)) e
+one_step : (told : List Reply) (world : World) (step : Step) (o : Outcome) (more : List Step) → outcome_of_step world step ≡ o → host_play told world (step ∷ more) ≡ after_host_step told o (λ told' world'. host_play told' world' more)
+one_step told world step o more e = ap (λ p. after_host_step told p (λ told' world'. host_play told' world' more)) e
 
 -- what the rest of a play does
 abbrev LeadsOn : List Step → List Reply → World → Type 0
-LeadsOn steps all end = (told : List Reply) (world : World) → IsRunning world → play told world steps ≡ Ends all end → Leads told world steps all end
+LeadsOn steps all end = (told : List Reply) (world : World) → IsRunning world → host_play told world steps ≡ Ends all end → Leads told world steps all end
 
-leads_by : (told : List Reply) (world : World) (step : Step) (steps : List Step) (all : List Reply) (end : World) → IsRunning world → play told world (step ∷ steps) ≡ Ends all end → LeadsOn steps all end
-    → (o : Outcome) → step_of world step ≡ o → Leads told world (step ∷ steps) all end
+leads_by : (told : List Reply) (world : World) (step : Step) (steps : List Step) (all : List Reply) (end : World) → IsRunning world → host_play told world (step ∷ steps) ≡ Ends all end → LeadsOn steps all end
+    → (o : Outcome) → outcome_of_step world step ≡ o → Leads told world (step ∷ steps) all end
 leads_by told world step steps all end t e on (Goes reply next) f =
     let rest = on (told ++ reply ∷ []) next (subst Running f (step-runs world step t)) (sym (one_step told world step (Goes reply next) steps f) ∙ e) in
     record { goes_on = λ more. one_step told world step (Goes reply next) (steps ++ more) f ∙ rest.goes_on more; running = rest.running }
@@ -52,18 +52,18 @@ leads : (steps : List Step) (all : List Reply) (end : World) → LeadsOn steps a
 leads [] all end told world t e =
     let same : world ≡ end = cc in
     let replies : told ≡ all = cc in
-    record { goes_on = λ more. ap (λ r. play r world more) replies ∙ ap (λ w. play all w more) same; running = subst IsRunning same t }
-leads (step ∷ steps) all end told world t e = leads_by told world step steps all end t e (leads steps all end) (step_of world step) refl
+    record { goes_on = λ more. ap (λ r. host_play r world more) replies ∙ ap (λ w. host_play all w more) same; running = subst IsRunning same t }
+leads (step ∷ steps) all end told world t e = leads_by told world step steps all end t e (leads steps all end) (outcome_of_step world step) refl
 
 -- the machine halts where a bad item is asked for
 pub asks-halts : (first : World) → IsRunning first → (steps : List Step) (told : List Reply) (s : ℕ) (a : AsksBad first steps told s)
-    → play [] first steps ≡ Halts told (BadItem s) (stands_at a.world a.step s a.bad).writers (stands_at a.world a.step s a.bad).readers
+    → host_play [] first steps ≡ Halts told (BadItem s) (stands_at a.world a.step s a.bad).writers (stands_at a.world a.step s a.bad).readers
 asks-halts first t steps told s a =
     let k = length told in
     let rest = drop (suc k) steps in
     let cut : steps ≡ take k steps ++ a.step ∷ rest = split_at steps k a.step (slice_get_within steps k a.step a.next) ∙ ap (λ step. take k steps ++ step ∷ rest) (get_or_from_slice_get steps k a.step a.step a.next) in
     let led = leads (take k steps) told a.world [] first t a.before in
-    ap (play [] first) cut ∙ led.goes_on (a.step ∷ rest)
+    ap (host_play [] first) cut ∙ led.goes_on (a.step ∷ rest)
     ∙ one_step told a.world a.step (stops (BadItem s) (stands_at a.world a.step s a.bad)) rest (asks-stops a.world a.step led.running s a.bad)
 
 -- the first n steps ask for what all of them do before
@@ -75,7 +75,7 @@ asks-take first steps n told s l a =
     let here : k < length front = omega (arith, length-take n steps, inside, l) in
     record {
       world = a.world;
-      before = ap (play [] first) (take-take k n steps (omega (arith, l))) ∙ a.before;
+      before = ap (host_play [] first) (take-take k n steps (omega (arith, l))) ∙ a.before;
       step = a.step;
       next = slice_get-get_or front k a.step here ∙ ap Some (get_or-take n steps k a.step l ∙ get_or_from_slice_get steps k a.step a.step a.next);
       bad = a.bad;
@@ -91,7 +91,7 @@ module _ (old new : Tells) (steps : List Step) where
 
   -- the machine came there behind these replies
   abbrev LedTo : List Reply → World → Type 0
-  LedTo replies world = play [] first (take (length replies) steps) ≡ Ends replies world
+  LedTo replies world = host_play [] first (take (length replies) steps) ≡ Ends replies world
 
   -- guests meet at a bad item where memory was not wanted
   met-before : (replies told : List Reply) (s : ℕ) (a : AsksBad first steps told s) (g : GuestAsksBad a.world a.step s) (world : World) → LedTo replies world → WantsUnmet world steps replies causes.OutOfMemory → length replies ≤ length told → length replies < length told
@@ -100,7 +100,7 @@ module _ (old new : Tells) (steps : List Step) where
       (λ m. m)
       (λ m.
       let same : length told ≡ length replies = omega (arith, l, m) in
-      let ends : Ends told a.world ≡ Ends replies world = sym a.before ∙ ap (λ n. play [] first (take n steps)) same ∙ before in
+      let ends : Ends told a.world ≡ Ends replies world = sym a.before ∙ ap (λ n. host_play [] first (take n steps)) same ∙ before in
       let there : a.world ≡ world = cc in
       absurd (unmet a.step s (ap (slice_get steps) (sym same) ∙ a.next) (subst (λ w. GuestAsksBad w a.step s) there g)))
       (cases_lt (length replies) (length told))

@@ -14,7 +14,7 @@ use Rattle.strm_machine.specs.declared.streams.Duty.TheVariants.{Unused, Serves,
 use Rattle.strm_machine.specs.declared.streams.Producer.{Producer}
 use Rattle.strm_host_machine.specs.Ends.{Writer, no_writer}
 use Rattle.strm_host_machine.specs.World.{writer_at}
-use Rattle.strm_host_machine.specs.Does.{held_while, first_duty, writer_of, writers_from, SaidFits, IsSuppliedSince, AreSuppliedSince, spent}
+use Rattle.strm_host_machine.specs.Does.{held_while, first_duty, writer_of, writers_from, SaidFits, IsSuppliedSince, AreSuppliedSince, world_spent}
 use Rattle.strm_host_laws.specs.HostLaws.{Supplies}
 use Rattle.strm_session.specs.Runs.{start_among}
 
@@ -54,6 +54,6 @@ one_supplies ps qs (w ∷ ws) (v ∷ vs) (suc n) h a e =
     one_supplies (drop 1 ps) (drop 1 qs) ws vs n (All-tail HoldsItems w ws h) a e
 
 -- what is to come of each in a run that ends here are items
-pub all_supply : (old new : Tells) (state : State) → All HoldsItems old.writers → AreSuppliedSince old new → ((n : ℕ) → (writer_at (spent state new) n).payload ≡ (writer_at (start_among old new) n).payload) → (n : ℕ) → Supplies (writer_at (start_among old new) n)
+pub all_supply : (old new : Tells) (state : State) → All HoldsItems old.writers → AreSuppliedSince old new → ((n : ℕ) → (writer_at (world_spent state new) n).payload ≡ (writer_at (start_among old new) n).payload) → (n : ℕ) → Supplies (writer_at (start_among old new) n)
 all_supply old new state h a e n =
     one_supplies (start_among old new).state.producers state.producers old.writers new.writers n h (a n) (e n)

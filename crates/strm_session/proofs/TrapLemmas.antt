@@ -6,14 +6,14 @@ use Rattle.strm_machine.specs.Acts.{act_of}
 use Rattle.strm_machine.specs.declared.steps.Step.{Step}
 use Rattle.strm_machine.specs.declared.replies.Reply.{Reply}
 use Rattle.strm_machine.specs.declared.stops.Stop.TheVariants as stops
-use Rattle.strm_host_machine.specs.Steps.{step_of}
+use Rattle.strm_host_machine.specs.Steps.{outcome_of_step}
 use Rattle.strm_host_machine.specs.Does.{saids, world_of, Does}
 use Rattle.strm_host_machine.proofs.OutcomeLemmas.{outcome-trapped}
 use Rattle.strm_host_machine.proofs.DoesLemmas.{extends_self}
 use Rattle.strm_session.proofs.StepLemmas.{does_runs, never_trapped}
 
 -- a store that answers was not trapped
-pub untrapped_before : (old new : State) (tells told : Tells) (reply : Reply) (step : Step) → Does old new tells told (Ok reply) (λ w. step_of w step) → old.trapped ≡ false
+pub untrapped_before : (old new : State) (tells told : Tells) (reply : Reply) (step : Step) → Does old new tells told (Ok reply) (λ w. outcome_of_step w step) → old.trapped ≡ false
 untrapped_before old new tells told reply step d = by old.trapped refl
   where
     by : (b : Bool) → old.trapped ≡ b → old.trapped ≡ false
@@ -22,11 +22,11 @@ untrapped_before old new tells told reply step d = by old.trapped refl
         absurd (let wrong = sym (outcome-trapped (world_of old tells (saids told)) (act_of step) t) ∙ d.gives (saids told) (extends_self told) in cc)
 
 -- nor is it then
-pub untrapped_after : (old new : State) (tells told : Tells) (reply : Reply) (step : Step) → Does old new tells told (Ok reply) (λ w. step_of w step) → new.trapped ≡ false
+pub untrapped_after : (old new : State) (tells told : Tells) (reply : Reply) (step : Step) → Does old new tells told (Ok reply) (λ w. outcome_of_step w step) → new.trapped ≡ false
 untrapped_after old new tells told reply step d = does_runs old new tells told reply step (untrapped_before old new tells told reply step d) d
 
 -- one that says that it is trapped was
-pub trapped_before : (old new : State) (tells told : Tells) (step : Step) → Does old new tells told (Err (Some stops.StoreTrapped)) (λ w. step_of w step) → old.trapped ≡ true
+pub trapped_before : (old new : State) (tells told : Tells) (step : Step) → Does old new tells told (Err (Some stops.StoreTrapped)) (λ w. outcome_of_step w step) → old.trapped ≡ true
 trapped_before old new tells told step d = by old.trapped refl
   where
     by : (b : Bool) → old.trapped ≡ b → old.trapped ≡ true

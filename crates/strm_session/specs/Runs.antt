@@ -13,7 +13,7 @@ use Rattle.strm_machine.specs.declared.streams.HostEnd.{HostEnd}
 use Rattle.strm_machine.specs.declared.steps.Step.{Step}
 use Rattle.strm_machine.specs.declared.replies.Reply.{Reply}
 use Rattle.strm_machine.specs.declared.replies.Reply.TheVariants as replies
-use Rattle.strm_laws.specs.Conservation.{moments, last, replies_of, calls, got}
+use Rattle.strm_laws.specs.Conservation.{moments, state_after_steps, replies_of, calls, got}
 use Rattle.strm_laws.specs.Laws.{Conserves, waiting, Stands, AreCounted, HandlesHold, HandlesAreSingle, MembersAreLive, ContextsCount}
 use Rattle.strm_machine.specs.Untouched.{StaysAside, LieThere}
 use Rattle.strm_machine.specs.Acts.{act_of}
@@ -22,17 +22,17 @@ use Rattle.strm_machine.specs.declared.stops.Stop.TheVariants as stops
 use Rattle.strm_buffers.specs.Tells.{Tells, Rose}
 use Rattle.strm_machine.specs.Hosting.{HostsHold}
 use Rattle.strm_host_machine.specs.World.{World, writer_at, reader_at, stream_in}
-use Rattle.strm_host_machine.specs.HostPlays.{play as play_among}
+use Rattle.strm_host_machine.specs.HostPlays.{host_play as play_among}
 use Rattle.strm_host_machine.specs.HostPlays as world_plays
 use Rattle.strm_transmit.specs.WantsMemory.{FailsOnce, HoldsBefore, WantsIn, up_to_offer}
 use Rattle.strm_host_machine.specs.Outcomes.{Goes}
-use Rattle.strm_host_machine.specs.Steps.{step_of}
+use Rattle.strm_host_machine.specs.Steps.{outcome_of_step}
 use Rattle.strm_host_machine.specs.Asking.{GuestAsksBad, AsksBadItem, ByGuest, stands_at}
-use Rattle.strm_host_machine.specs.Does.{saids, spent, world_of, faults_of, Does, RunsTo, StopsWith}
+use Rattle.strm_host_machine.specs.Does.{saids, world_spent, world_of, faults_of, Does, RunsTo, StopsWith}
 use Rattle.strm_transmit.specs.Guests.{is_of_guests}
-use Rattle.strm_host_laws.specs.HostMoments.{HostMoment, host_moments, first_moments, last_of}
+use Rattle.strm_host_laws.specs.HostMoments.{HostMoment, host_moments, first_moments, end_world}
 use Rattle.strm_host_laws.specs.Isolation.{AreIsolated}
-use Rattle.strm_host_laws.specs.HostLaws.{ClosesExactly, WriterGoesOn, WriterStops, Supplies, DeliversAll, ReadersCloseExactly, ReaderGoesOn, ReaderStops, TellsTaken, host_got, ConservesAmong, MovesByHosts, is_hosted, is_piped, plains}
+use Rattle.strm_host_laws.specs.HostLaws.{ClosesExactly, WriterGoesOn, WriterHalts, Supplies, DeliversAll, ReadersCloseExactly, ReaderGoesOn, ReaderHalts, TellsTaken, host_got, ConservesAmong, MovesByHosts, is_hosted, was_piped, plains}
 use Rattle.strm_session.specs.Records.{StopsByRecord, RulesKept, StopRules, ObeyRules, NoneRose}
 use Rattle.strm_session.specs.declared.runs.RunCause.{RunCause}
 use Rattle.strm_session.specs.declared.runs.RunStop.{RunStop}
@@ -40,13 +40,13 @@ use Rattle.strm_session.specs.declared.runs.Transcript.{Transcript}
 use Rattle.strm_session.specs.declared.runs.RunCause.TheVariants as causes
 
 -- a run begins with a store without guests, named 0, under these limits
-abbrev pub start : State
-start = empty 0 (record { handles = 1000000; places = 1000000 })
+abbrev pub run_start : State
+run_start = empty 0 (record { handles = 1000000; places = 1000000 })
 
 -- the same among host ends that tell this, and will tell that in the end: what they add to their records
 -- meanwhile is what is to come
 abbrev pub start_among : Tells → Tells → World
-start_among old new = world_of start old (saids new)
+start_among old new = world_of run_start old (saids new)
 
 -- there is room for these host ends in a run: a step names one of 64 on a side
 abbrev pub HaveRoom : Tells → Type 0
@@ -86,12 +86,12 @@ pub record HasLaws (all : List Moment) (end : State) : Type 0 where
 -- the replies are those of the run's moments, and the state is that after the last; the laws hold
 -- after each step, the last one too, in each all bytes stay that are neither put nor received, and those
 -- that are put lie there
-pub record IsKept (steps : List Step) (replies : List Reply) (end : State) : Type 0 where
-  pub told : replies ≡ replies_of (moments start steps)
-  pub ends : end ≡ last start steps
-  pub laws : (n : ℕ) → HasLaws (moments start (take n steps)) (last start (take n steps))
-  pub aside : All StaysAside (moments start steps)
-  pub put : All LieThere (moments start steps)
+pub record IsRunKept (steps : List Step) (replies : List Reply) (end : State) : Type 0 where
+  pub told : replies ≡ replies_of (moments run_start steps)
+  pub ends : end ≡ state_after_steps run_start steps
+  pub laws : (n : ℕ) → HasLaws (moments run_start (take n steps)) (state_after_steps run_start (take n steps))
+  pub aside : All StaysAside (moments run_start steps)
+  pub put : All LieThere (moments run_start steps)
 
 -- AMONG HOST ENDS
 
@@ -139,11 +139,11 @@ pub record HasLawsAmong (first : World) (all : List HostMoment) (end : World) : 
   pub writers : HasWriterLaws first all end
   pub readers : HasReaderLaws first all end
   pub hosts : HostsHold end.state
-  pub streams : (s : ℕ) → is_hosted s all ≡ false → is_piped s all ≡ false → HasStreamLaws s all end
+  pub streams : (s : ℕ) → is_hosted s all ≡ false → was_piped s all ≡ false → HasStreamLaws s all end
   pub written : (s : ℕ) → is_hosted s all ≡ false → HasWrittenLaws s all end
   pub apart : (s : ℕ) → both_open (stream_in end s) ≡ false
   pub unwritten : (s : ℕ) → is_hosted s all ≡ true → (stream_in end s).writer.operation ≡ None
-  pub unread : (s : ℕ) → is_piped s all ≡ true → (stream_in end s).reader.operation ≡ None
+  pub unread : (s : ℕ) → was_piped s all ≡ true → (stream_in end s).reader.operation ≡ None
   pub moves : (s : ℕ) → MovesByHosts (stream_in end s)
   pub counted : (s : ℕ) → AreCounted (stream_in end s)
   pub aside : All StaysAside (plains all)
@@ -159,12 +159,12 @@ pub record HasLawsAmong (first : World) (all : List HostMoment) (end : World) : 
 -- step stops
 abbrev pub HasLawsFirst : ℕ → World → List Step → Type 0
 HasLawsFirst count first steps =
-    HasLawsAmong first (first_moments count first steps) (last_of first (first_moments count first steps))
+    HasLawsAmong first (first_moments count first steps) (end_world first (first_moments count first steps))
 
 -- a run of these steps leads from one world to the other, and the laws hold after each step, the last one too, and
 -- in a drive round after each stream's turn
 pub record IsKeptAmong (first : World) (steps : List Step) (end : World) : Type 0 where
-  pub ends : last_of first (host_moments first steps) ≡ end
+  pub ends : end_world first (host_moments first steps) ≡ end
   pub laws : (n count : ℕ) → HasLawsFirst count first (take n steps)
 
 -- what the host writer of each stream produced in a run of these steps, which ends here, is received, held
@@ -188,7 +188,7 @@ stop_of causes.OutOfMemory = None
 -- the machine's state where it halts, behind the last moment that was done: in the one that stops it no host end
 -- becomes an end of a stream, or is gone
 abbrev pub halted_in : World → List Step → State
-halted_in first steps = (last_of first (host_moments first steps)).state
+halted_in first steps = (end_world first (host_moments first steps)).state
 
 -- the machine halts behind these replies by this stop, and the host ends tell what they do in its state there;
 -- nothing is said for want of memory
@@ -226,8 +226,8 @@ StaysThere world step s _ = Unit {0}
 pub record StopsBad (first : World) (steps : List Step) (told : List Reply) (new : Tells) (s : ℕ) : Type 0 where
   pub asks : AsksBad first steps told s
   pub stays : StaysThere asks.world asks.step s asks.bad
-  pub writers : (spent (halted_in first steps) new).writers ≡ (stands_at asks.world asks.step s asks.bad).writers
-  pub readers : (spent (halted_in first steps) new).readers ≡ (stands_at asks.world asks.step s asks.bad).readers
+  pub writers : (world_spent (halted_in first steps) new).writers ≡ (stands_at asks.world asks.step s asks.bad).writers
+  pub readers : (world_spent (halted_in first steps) new).readers ≡ (stands_at asks.world asks.step s asks.bad).readers
 
 -- where a run stops at a bad item, it does so
 abbrev pub StopsAsking : World → List Step → List Reply → Tells → RunCause → Type 0
@@ -263,15 +263,15 @@ abbrev pub StopCloses : World → List Step → Tells → Option Stop → Type 0
 StopCloses first steps new None = Unit {0}
 StopCloses first steps new (Some stop) =
     let state = halted_in first steps in
-    ClosesExactly first state (spent state new).writers × ReadersCloseExactly first state (spent state new).readers
+    ClosesExactly first state (world_spent state new).writers × ReadersCloseExactly first state (world_spent state new).readers
 
 -- where the machine halts, each host end used the records of its polls there, and heard no more than before
 abbrev pub StopUses : World → List Step → Tells → Option Stop → Type 0
 StopUses first steps new None = Unit {0}
 StopUses first steps new (Some stop) =
-    let last = last_of first (host_moments first steps) in
-    ((n : ℕ) → WriterStops (writer_at last n) (writer_at (spent last.state new) n))
-    × ((r : ℕ) → ReaderStops (reader_at last r) (reader_at (spent last.state new) r))
+    let state_after_steps = end_world first (host_moments first steps) in
+    ((n : ℕ) → WriterHalts (writer_at state_after_steps n) (writer_at (world_spent state_after_steps.state new) n))
+    × ((r : ℕ) → ReaderHalts (reader_at state_after_steps r) (reader_at (world_spent state_after_steps.state new) r))
 
 -- the step behind these replies is a drive round, in which memory was wanted before items that a host writer holds
 -- itself were offered along a pipe: host ends tell what they told then
@@ -285,17 +285,17 @@ pub record WantsOffer (old new : Tells) (steps : List Step) (told : List Reply) 
   pub writer : ℕ
   pub reader : ℕ
   pub state : State
-  pub behind : up_to_offer stream writer reader world ≡ Goes replies.Done (spent state new)
+  pub behind : up_to_offer stream writer reader world ≡ Goes replies.Done (world_spent state new)
   pub holds : HoldsBefore stream writer reader state new
 
 -- what host ends tell where memory was wanted: what they told behind these replies, or behind one more, which was
 -- not kept; or what they would tell had one that was polled failed in that poll, with no items, so that the machine
 -- halted behind these replies, but for its record of it; or what they told in a drive round before an offer
 pub data WantsThere (old new : Tells) (steps : List Step) (told : List Reply) : Type 0 where
-  Before : (state : State) → play_among [] (start_among old new) (take (length told) steps) ≡ world_plays.Ends told (spent state new) →
+  Before : (state : State) → play_among [] (start_among old new) (take (length told) steps) ≡ world_plays.Ends told (world_spent state new) →
       WantsThere old new steps told
   Behind : (reply : Reply) (state : State) →
-      play_among [] (start_among old new) (take (length told + 1) steps) ≡ world_plays.Ends (told ++ reply ∷ []) (spent state new) →
+      play_among [] (start_among old new) (take (length told + 1) steps) ≡ world_plays.Ends (told ++ reply ∷ []) (world_spent state new) →
       WantsThere old new steps told
   InPoll : (end : HostEnd) (more : Tells) → FailsOnce end new more →
       HaltsBy (start_among old more) steps told more (Some (stops.HostFailed end)) →
@@ -312,7 +312,7 @@ StopsWanting old new steps told (Some stop) = Unit {0}
 pub data WantsStep (old new : State) (tells told : Tells) (step : Step) : Type 0 where
   Polling : WantsIn old tells told (act_of step) → WantsStep old new tells told step
   Untouched : new ≡ old → told ≡ tells → WantsStep old new tells told step
-  Unkept : (reply : Reply) → Does old new tells told (Ok reply) (λ world. step_of world step) →
+  Unkept : (reply : Reply) → Does old new tells told (Ok reply) (λ world. outcome_of_step world step) →
       WantsStep old new tells told step
 
 -- the same of a step that stops a run by this cause
@@ -344,24 +344,24 @@ StopsStep told state step (causes.HostBroke end) = ⊥
 
 -- a run stops for want of memory: the machine goes on from the step behind these replies, or there
 -- is none
-abbrev pub GoesOn : List Step → List Reply → Type 0
-GoesOn steps told =
+abbrev pub RunGoesOn : List Step → List Reply → Type 0
+RunGoesOn steps told =
     (more : List Reply) × (state : State)
-    × (play [] start (take (length told + 1) steps) ≡ Ends (told ++ more) state)
+    × (play [] run_start (take (length told + 1) steps) ≡ Ends (told ++ more) state)
 
 -- why a run stops behind these replies: the machine without host ends halts there at a bad item, or memory
 -- was wanted
 abbrev pub StopsAt : List Step → List Reply → RunCause → Type 0
-StopsAt steps told (causes.BadItem s) = play [] start steps ≡ Halts told (replies.BadItem s)
-StopsAt steps told causes.OutOfMemory = GoesOn steps told
+StopsAt steps told (causes.BadItem s) = play [] run_start steps ≡ Halts told (replies.BadItem s)
+StopsAt steps told causes.OutOfMemory = RunGoesOn steps told
 StopsAt steps told (causes.HostFailed end) = ⊥
 StopsAt steps told (causes.HostBroke end) = ⊥
 
 -- a run stops behind these replies: they are the machine's to the steps before, which keep the laws
 pub record StopsBy (steps : List Step) (told : List Reply) (cause : RunCause) : Type 0 where
   pub state : State
-  pub before : play [] start (take (length told) steps) ≡ Ends told state
-  pub kept : IsKept (take (length told) steps) told state
+  pub before : play [] run_start (take (length told) steps) ≡ Ends told state
+  pub kept : IsRunKept (take (length told) steps) told state
   pub at : StopsAt steps told cause
 
 -- WHOLE RUNS
@@ -372,11 +372,11 @@ pub record StopsBy (steps : List Step) (told : List Reply) (cause : RunCause) : 
 -- guests alone it is the machine's without host ends
 pub record IsWhole (old new : Tells) (steps : List Step) (replies : List Reply) (state : State) : Type 0 where
   pub played : RunsTo (start_among old new) steps replies state new
-  pub kept_among : IsKeptAmong (start_among old new) steps (spent state new)
-  pub delivers : DeliversEach (start_among old new) steps (spent state new)
+  pub kept_among : IsKeptAmong (start_among old new) steps (world_spent state new)
+  pub delivers : DeliversEach (start_among old new) steps (world_spent state new)
   pub rules : RulesKept old new
-  pub alone : AreOfGuests steps → play [] start steps ≡ Ends replies state
-  pub kept : AreOfGuests steps → IsKept steps replies state
+  pub alone : AreOfGuests steps → play [] run_start steps ≡ Ends replies state
+  pub kept : AreOfGuests steps → IsRunKept steps replies state
 
 -- a run of these steps stops behind these replies, by this cause: they are the machine's to the steps before,
 -- which keep the laws, as do the turns of a drive round before the one that stopped. A host end that failed, or

@@ -9,13 +9,13 @@ use Rattle.strm_machine.specs.declared.stops.Stop.TheVariants as stops
 use Rattle.strm_buffers.specs.Tells.{Tells}
 use Rattle.strm_host_machine.specs.Ends.{Writer, Reader}
 use Rattle.strm_host_machine.specs.World.{World}
-use Rattle.strm_host_machine.specs.HostPlays.{play as play_among}
+use Rattle.strm_host_machine.specs.HostPlays.{host_play as play_among}
 use Rattle.strm_host_machine.specs.HostPlays as world_plays
 use Rattle.strm_input_output.specs.Faults.{Rose}
 use Rattle.strm_input_output.specs.Serving.{IsFaultless, IsOfSource, IsOr}
 use Rattle.strm_lines.specs.Grammar.{IsU32}
 use Rattle.strm_lines.specs.Generator.{generated}
-use Rattle.strm_lines.specs.Lines.{lines_of, Spells, IsFirstBad, IsTooLong}
+use Rattle.strm_lines.specs.Lines.{lines_of, Spells, IsFirstBadLine, IsTooLong}
 use Rattle.strm_session.specs.declared.runs.RunCause.{RunCause}
 use Rattle.strm_session.specs.declared.runs.RunCause.TheVariants as causes
 use Rattle.strm_session.specs.Records.{NoneRose, ObeyRules}
@@ -23,8 +23,8 @@ use Rattle.strm_session.specs.Runs.{start_among, AreOfGuests, counts_of, AsksBad
 use Rattle.strm_lines.specs.Text.{transcript_text, summary_text, stopped_text, usage_text, bad_line_text, too_long_text, read_fault_text}
 
 -- the words behind the program's name tell it to run an input
-abbrev pub IsRun : List (List ℕ) → Type 0
-IsRun words = words ≡ codes "run" ∷ []
+abbrev pub TellsToRun : List (List ℕ) → Type 0
+TellsToRun words = words ≡ codes "run" ∷ []
 
 -- they tell it to run so many steps that the generator draws from a seed: numbers as in a line
 pub record IsGen (words : List (List ℕ)) (n seed : ℕ) : Type 0 where
@@ -34,7 +34,7 @@ pub record IsGen (words : List (List ℕ)) (n seed : ℕ) : Type 0 where
 
 -- they tell it one of the two
 abbrev pub IsCommand : List (List ℕ) → Type 0
-IsCommand words = IsRun words ⊎ ((n : ℕ) × (seed : ℕ) × IsGen words n seed)
+IsCommand words = TellsToRun words ⊎ ((n : ℕ) × (seed : ℕ) × IsGen words n seed)
 
 -- the text of a run of the steps that the lines of an input spell
 pub record IsTranscript (old new : Tells) (input text : List ℕ) : Type 0 where
@@ -91,12 +91,12 @@ pub record IsStopped (old new : Tells) (status : ℕ) (input text : List ℕ) : 
   pub text_is : text ≡ stopped_text replies why
 
 -- the statuses of a run that stops
-abbrev pub IsStop : ℕ → Type 0
-IsStop status = (6 ≤ status) × (status ≤ 8)
+abbrev pub IsStopStatus : ℕ → Type 0
+IsStopStatus status = (6 ≤ status) × (status ≤ 8)
 
 -- the statuses of an input that was read and is within the limits
 abbrev pub IsOfLines : ℕ → Type 0
-IsOfLines status = (status ≡ 0) ⊎ ((status ≡ 2) ⊎ IsStop status)
+IsOfLines status = (status ≡ 0) ⊎ ((status ≡ 2) ⊎ IsStopStatus status)
 
 -- a status but 5 and 9, and its text, of a program that runs an input, by why they come: from the bytes that
 -- the source had left before and has left after, where these are told, what the host ends told before
@@ -106,8 +106,8 @@ pub record IsOfInput (left rest : Option (List ℕ)) (old new : Tells)
   pub source : IsOfSource IsOfLines IsTooLong left rest before after status text
   pub done : status ≡ 0 → IfSome left (λ input. IsTranscript old new input text)
   pub bad_line : status ≡ 2 → (line : ℕ)
-      × IfSome left (λ input. IsFirstBad (lines_of input) line) × (text ≡ bad_line_text line)
-  pub stopped : IsStop status → IfSome left (λ input. IsStopped old new status input text)
+      × IfSome left (λ input. IsFirstBadLine (lines_of input) line) × (text ≡ bad_line_text line)
+  pub stopped : IsStopStatus status → IfSome left (λ input. IsStopped old new status input text)
   -- where nothing is run, the host ends are as they were
   pub unrun : (1 ≤ status) → (status ≤ 4) → new ≡ old
   -- an input with too many lines was read to its end too, unless its bytes are too many
@@ -122,10 +122,10 @@ pub record IsOfNumbers (old new : Tells) (n seed status : ℕ) (text : List ℕ)
   pub hosts : new ≡ old
 
 -- a status but 5 and 9, and its text, by what the program's words tell it
-pub record IsOutput (words : List (List ℕ)) (left rest : Option (List ℕ)) (old new : Tells)
+pub record IsRunOutput (words : List (List ℕ)) (left rest : Option (List ℕ)) (old new : Tells)
     (before after status : ℕ) (text : List ℕ) : Type 0 where
   pub usage : ¬ IsCommand words → (status ≡ 1) × (text ≡ usage_text) × (new ≡ old)
-  pub of_input : IsRun words → IsOfInput left rest old new before after status text
+  pub of_input : TellsToRun words → IsOfInput left rest old new before after status text
   pub of_numbers : (n seed : ℕ) → IsGen words n seed → IsOfNumbers old new n seed status text
 
 -- a run of these steps came to its end, or stopped
@@ -135,7 +135,7 @@ EndsOrStops old new steps replies =
     ⊎ ((cause : RunCause) × HasStopped old new steps replies cause)
 
 -- the steps that the lines of an input spell were run, to their end or to a stop
-pub record WasRun (left : Option (List ℕ)) (old new : Tells) : Type 0 where
+pub record InputWasRun (left : Option (List ℕ)) (old new : Tells) : Type 0 where
   pub steps : List Step
   pub spelled : IfSome left (λ input. Spells (lines_of input) steps)
   pub within : IfSome left (λ input. ¬ IsTooLong input)
@@ -145,17 +145,17 @@ pub record WasRun (left : Option (List ℕ)) (old new : Tells) : Type 0 where
 -- what is left where memory was wanting for the text: host ends as they were, where nothing was run; else what the
 -- run of the input did to them
 abbrev pub LeavesUnwritten : Option (List ℕ) → Tells → Tells → Type 0
-LeavesUnwritten left old new = (new ≡ old) ⊎ WasRun left old new
+LeavesUnwritten left old new = (new ≡ old) ⊎ InputWasRun left old new
 
 -- the statuses of the program
-abbrev pub IsStatus : ℕ → Type 0
-IsStatus status = status ≤ 9
+abbrev pub IsRunStatus : ℕ → Type 0
+IsRunStatus status = status ≤ 9
 
 -- the program is told to run an input in the grammar and the limits, which spells these steps, and neither source
 -- nor sink fails
-pub record IsRunOf (words : List (List ℕ)) (left : Option (List ℕ))
+pub record IsRunOfInput (words : List (List ℕ)) (left : Option (List ℕ))
     (source_before source_after sink_before sink_after : ℕ) (steps : List Step) : Type 0 where
-  pub run : IsRun words
+  pub run : TellsToRun words
   pub input : List ℕ
   pub faultless : IsFaultless left input source_before source_after sink_before sink_after
   pub spelled : Spells (lines_of input) steps
@@ -168,22 +168,22 @@ pub record IsRunOf (words : List (List ℕ)) (left : Option (List ℕ))
 pub record IsComplete (words : List (List ℕ)) (left : Option (List ℕ))
     (source_before source_after sink_before sink_after : ℕ) (old new : Tells) (status : ℕ) : Type 0 where
   pub complete : (steps : List Step) →
-      IsRunOf words left source_before source_after sink_before sink_after steps →
+      IsRunOfInput words left source_before source_after sink_before sink_after steps →
       NoneRose old new → ObeyRules old new → AsksItems (start_among old new) steps → IsOr 0 status
   pub bad_item : (steps : List Step) →
-      IsRunOf words left source_before source_after sink_before sink_after steps →
+      IsRunOfInput words left source_before source_after sink_before sink_after steps →
       (told : List Reply) (s : ℕ) → AsksBad (start_among old new) steps told s → IsOr 8 status
   -- the machine plays them to their end on the records that were added, or halts by a stop
   pub ends : (steps : List Step) →
-      IsRunOf words left source_before source_after sink_before sink_after steps →
+      IsRunOfInput words left source_before source_after sink_before sink_after steps →
       PlaysOn (start_among old new) steps → IsOr 0 status
   pub halts : (steps : List Step) →
-      IsRunOf words left source_before source_after sink_before sink_after steps → (stop : Stop) →
+      IsRunOfInput words left source_before source_after sink_before sink_after steps → (stop : Stop) →
       HaltsWith (start_among old new) steps stop → StandsFor status stop ⊎ (status ≡ 9)
-  pub bad_line : (input : List ℕ) (line : ℕ) → IsRun words →
+  pub bad_line : (input : List ℕ) (line : ℕ) → TellsToRun words →
       IsFaultless left input source_before source_after sink_before sink_after →
-      IsFirstBad (lines_of input) line → ¬ IsTooLong input → IsOr 2 status
-  pub too_long : (input : List ℕ) → IsRun words →
+      IsFirstBadLine (lines_of input) line → ¬ IsTooLong input → IsOr 2 status
+  pub too_long : (input : List ℕ) → TellsToRun words →
       IsFaultless left input source_before source_after sink_before sink_after →
       IsTooLong input → IsOr 3 status
   pub generated : (n seed : ℕ) → IsGen words n seed → ¬ Rose sink_before sink_after → n ≤ 262140 → IsOr 0 status

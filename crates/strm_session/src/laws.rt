@@ -7,16 +7,16 @@ ghost use Rattle.strm_machine.specs.declared.steps.Step.{Step};
 ghost use Rattle.strm_machine.specs.declared.replies.Reply.{Reply};
 ghost use Rattle.strm_machine.specs.Moments.{moment_of};
 ghost use Rattle.strm_machine.specs.Untouched.{StaysAside, LieThere};
-ghost use Rattle.strm_laws.specs.Conservation.{moments, last};
+ghost use Rattle.strm_laws.specs.Conservation.{moments, state_after_steps};
 ghost use Rattle.strm_laws.specs.Laws.{AreSteps};
 ghost use Rattle.strm_host_machine.specs.World.{World, writer_at, reader_at};
 ghost use Rattle.strm_host_machine.specs.Ends.{Writer, Reader, writer_in, reader_in};
-ghost use Rattle.strm_host_machine.specs.HostPlays.{play as play_among, Ends as EndsAmong, Halts as HaltsAmong};
+ghost use Rattle.strm_host_machine.specs.HostPlays.{host_play as play_among, Ends as EndsAmong, Halts as HaltsAmong};
 ghost use Rattle.strm_machine.specs.declared.stops.Stop.{Stop};
-ghost use Rattle.strm_host_laws.specs.HostLaws.{ClosesExactly, EndsExactly, WriterStops, ReadersCloseExactly, ReaderStops};
-ghost use Rattle.strm_host_laws.specs.HostMoments.{host_moments, last_of};
+ghost use Rattle.strm_host_laws.specs.HostLaws.{ClosesExactly, EndsExactly, WriterHalts, ReadersCloseExactly, ReaderHalts};
+ghost use Rattle.strm_host_laws.specs.HostMoments.{host_moments, end_world};
 ghost use Rattle.strm_buffers.specs.Tells.{Tells};
-ghost use Rattle.strm_session.specs.Runs.{start, start_among, HasLaws, HasLawsFirst};
+ghost use Rattle.strm_session.specs.Runs.{run_start, start_among, HasLaws, HasLawsFirst};
 
 use strm_host_laws::{guests, runs};
 use strm_laws::laws::{
@@ -28,11 +28,11 @@ use strm_laws::laws::{
 // What the laws say of every run. It does nothing.
 pub(crate) fn laws_hold()
     ensures laws { (steps : List Step) → AreSteps steps →
-        HasLaws (moments start steps) (last start steps) }
+        HasLaws (moments run_start steps) (state_after_steps run_start steps) }
     ensures aside { (steps : List Step) (step : Step) → AreSteps (steps ++ step ∷ []) →
-        StaysAside (moment_of (last start steps) step) }
+        StaysAside (moment_of (state_after_steps run_start steps) step) }
     ensures put { (steps : List Step) (step : Step) → AreSteps (steps ++ step ∷ []) →
-        LieThere (moment_of (last start steps) step) }
+        LieThere (moment_of (state_after_steps run_start steps) step) }
 {
     conservation();
     futures_pass_one();
@@ -53,35 +53,35 @@ pub(crate) fn laws_hold_among()
         HasLawsFirst count (start_among old new) steps }
     ensures leads { (old new : Tells) (steps : List Step) (replies : List Reply) (end : World) →
         play_among [] (start_among old new) steps ≡ EndsAmong replies end →
-        last_of (start_among old new) (host_moments (start_among old new) steps) ≡ end }
+        end_world (start_among old new) (host_moments (start_among old new) steps) ≡ end }
     ensures writers { (old new : Tells) (steps : List Step) (replies : List Reply) (stop : Stop)
         (writers : List Writer) (readers : List Reader) →
         play_among [] (start_among old new) steps ≡ HaltsAmong replies stop writers readers →
         ClosesExactly (start_among old new)
-        (last_of (start_among old new) (host_moments (start_among old new) steps)).state writers }
+        (end_world (start_among old new) (host_moments (start_among old new) steps)).state writers }
     ensures readers { (old new : Tells) (steps : List Step) (replies : List Reply) (stop : Stop)
         (writers : List Writer) (readers : List Reader) →
         play_among [] (start_among old new) steps ≡ HaltsAmong replies stop writers readers →
         ReadersCloseExactly (start_among old new)
-        (last_of (start_among old new) (host_moments (start_among old new) steps)).state readers }
+        (end_world (start_among old new) (host_moments (start_among old new) steps)).state readers }
     ensures gone { (old new : Tells) (steps : List Step) (replies : List Reply) (stop : Stop)
         (writers : List Writer) (readers : List Reader) →
         play_among [] (start_among old new) steps ≡ HaltsAmong replies stop writers readers →
         EndsExactly
-        (last_of (start_among old new) (host_moments (start_among old new) steps)).state writers }
+        (end_world (start_among old new) (host_moments (start_among old new) steps)).state writers }
     ensures fed { (old new : Tells) (steps : List Step) (replies : List Reply) (stop : Stop)
         (writers : List Writer) (readers : List Reader) →
         play_among [] (start_among old new) steps ≡ HaltsAmong replies stop writers readers →
         (n : ℕ) →
-        WriterStops
-        (writer_at (last_of (start_among old new) (host_moments (start_among old new) steps)) n)
+        WriterHalts
+        (writer_at (end_world (start_among old new) (host_moments (start_among old new) steps)) n)
         (writer_in writers n) }
     ensures granted { (old new : Tells) (steps : List Step) (replies : List Reply) (stop : Stop)
         (writers : List Writer) (readers : List Reader) →
         play_among [] (start_among old new) steps ≡ HaltsAmong replies stop writers readers →
         (r : ℕ) →
-        ReaderStops
-        (reader_at (last_of (start_among old new) (host_moments (start_among old new) steps)) r)
+        ReaderHalts
+        (reader_at (end_world (start_among old new) (host_moments (start_among old new) steps)) r)
         (reader_in readers r) }
 {
     runs::moments_lead_to_the_end();

@@ -6,12 +6,12 @@ ghost use Rattle.std.specs.Prelude.{◌≡◌, ◌≢◌, ◌≤◌, ◌<◌, �
 ghost use Rattle.strm_codes.specs.declared.refusals.Refusal.{Refusal};
 ghost use Rattle.strm_machine.specs.Acts.{act_of};
 ghost use Rattle.strm_machine.specs.declared.replies.Reply.{Reply};
-ghost use Rattle.strm_laws.specs.Laws.{HasBytes};
+ghost use Rattle.strm_laws.specs.Laws.{StepHasBytes};
 ghost use Rattle.strm_host_machine.specs.Steps.{touches};
 ghost use Rattle.strm_host_machine.specs.Does.{Fits};
-ghost use Rattle.strm_transmit.specs.Hosted.{answered, lone};
-ghost use Rattle.strm_session.specs.Runs.{start, counts_of, stop_of, HaveRoom};
-ghost use Rattle.strm_session.specs.Playing.{IsStepped, IsSteppedAlone, IsPlayed, HasRun};
+ghost use Rattle.strm_transmit.specs.Hosted.{call_answered, lone};
+ghost use Rattle.strm_session.specs.Runs.{run_start, counts_of, stop_of, HaveRoom};
+ghost use Rattle.strm_session.specs.Playing.{IsStepped, IsSteppedAlone, IsRunPlayed, HasRun};
 
 use crate::laws::{laws_hold, laws_hold_among};
 use crate::runs::{PROGRAM_LIMITS, RunCause};
@@ -90,11 +90,11 @@ fn play_steps<L: GivesSteps, R: KeepsReplies, H: HostEnds>(
     replies: &mut R,
     steps: &mut L,
 ) -> Result<(), RunCause>
-    requires begins { store.old ≡ start }
+    requires begins { store.old ≡ run_start }
     requires none { R.keeps replies.old [] }
     requires few { length (L.left steps.old) ≤ 4294967295 }
     ensures { (told : List Reply) × R.keeps replies.new told
-        × IsPlayed (H.tells hosts.old) (H.tells hosts.new)
+        × IsRunPlayed (H.tells hosts.old) (H.tells hosts.new)
         (L.left steps.old) told store.new result }
 {
     laws_hold_among();
@@ -108,7 +108,7 @@ fn play_steps<L: GivesSteps, R: KeepsReplies, H: HostEnds>(
 
 // What a step puts into a memory is bytes. It does nothing.
 fn sound(step: &Step)
-    ensures { HasBytes step.now }
+    ensures { StepHasBytes step.now }
 {
     match step {
         Step::Poke { bytes, .. } | Step::Feed { bytes, .. } => bytes.sound(),
@@ -149,7 +149,7 @@ fn step_once<R: KeepsReplies, H: HostEnds>(
 fn cause_of(error: StoreError) -> RunCause
     requires refused { (refusal : Refusal) → error ≢ StoreError.Refused refusal }
     requires trapped { error ≢ StoreError.StoreTrapped }
-    ensures { answered (Err error) ≡ Err (stop_of result) }
+    ensures { call_answered (Err error) ≡ Err (stop_of result) }
 {
     match error {
         StoreError::HostFailed { end } => RunCause::HostFailed { end },

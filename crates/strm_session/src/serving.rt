@@ -9,7 +9,7 @@ ghost use Rattle.strm_input_output.specs.Serving.{ReadsWithin, WritesWhole, Writ
 ghost use Rattle.strm_session.specs.Runs.{HaveRoom};
 ghost use Rattle.strm_lines.specs.Lines.{lines_of, Spells, IsTooLong};
 ghost use Rattle.strm_lines.specs.Generator.{generated};
-ghost use Rattle.strm_session.specs.Serving.{IsRun, IsGen, IsOfInput, IsOfNumbers, IsSummary, IsStop, IsOutput, IsStatus, IsStatusOf, IsComplete, IsTranscript, IsStopped, WasRun, LeavesUnwritten};
+ghost use Rattle.strm_session.specs.Serving.{TellsToRun, IsGen, IsOfInput, IsOfNumbers, IsSummary, IsStopStatus, IsRunOutput, IsRunStatus, IsStatusOf, IsComplete, IsTranscript, IsStopped, InputWasRun, LeavesUnwritten};
 
 use crate::playing::play_all;
 use crate::runs::RunCause;
@@ -51,13 +51,13 @@ pub fn serve<S: Source, K: Sink, H: HostEnds>(
     hosts: &mut H,
 ) -> u8
     requires room { HaveRoom (H.tells hosts.old) }
-    ensures known { IsStatus result }
+    ensures known { IsRunStatus result }
     ensures told { result ≢ WRITE_FAULT → result ≢ OUT_OF_MEMORY → WritesWhole
-        (IsOutput (map string_bytes words.now.items) (S.left source.old) (S.left source.new)
+        (IsRunOutput (map string_bytes words.now.items) (S.left source.old) (S.left source.new)
         (H.tells hosts.old) (H.tells hosts.new) (S.faults source.old) (S.faults source.new))
         (K.taken sink.old) (K.taken sink.new) result }
     ensures part { result ≡ WRITE_FAULT → WritesPart
-        (IsOutput (map string_bytes words.now.items) (S.left source.old) (S.left source.new)
+        (IsRunOutput (map string_bytes words.now.items) (S.left source.old) (S.left source.new)
         (H.tells hosts.old) (H.tells hosts.new) (S.faults source.old) (S.faults source.new))
         (K.taken sink.old) (K.taken sink.new) }
     ensures write_fault { result ≡ WRITE_FAULT → Rose (K.faults sink.old) (K.faults sink.new) }
@@ -65,8 +65,8 @@ pub fn serve<S: Source, K: Sink, H: HostEnds>(
     ensures wanting { result ≡ OUT_OF_MEMORY →
         LeavesUnwritten (S.left source.old) (H.tells hosts.old) (H.tells hosts.new) }
     ensures read { ReadsWithin MAX_BYTES (S.left source.old) (S.left source.new) }
-    ensures unread { ¬ IsRun (map string_bytes words.now.items) → source.new ≡ source.old }
-    ensures unrun { ¬ IsRun (map string_bytes words.now.items) →
+    ensures unread { ¬ TellsToRun (map string_bytes words.now.items) → source.new ≡ source.old }
+    ensures unrun { ¬ TellsToRun (map string_bytes words.now.items) →
         H.tells hosts.new ≡ H.tells hosts.old }
     ensures goes_on { HostsGoOn (H.tells hosts.old) (H.tells hosts.new) }
 
@@ -89,16 +89,16 @@ fn answer_words<S: Source, H: HostEnds>(
     hosts: &mut H,
 ) -> Result<Answer, OutOfMemory>
     requires room { HaveRoom (H.tells hosts.old) }
-    ensures known { IfOk result (λ a. (a.status ≤ 4) ⊎ IsStop a.status) }
+    ensures known { IfOk result (λ a. (a.status ≤ 4) ⊎ IsStopStatus a.status) }
     ensures told { IfOk result (λ a.
-        IsOutput (map string_bytes words.now.items) (S.left source.old) (S.left source.new)
+        IsRunOutput (map string_bytes words.now.items) (S.left source.old) (S.left source.new)
         (H.tells hosts.old) (H.tells hosts.new) (S.faults source.old) (S.faults source.new)
         a.status a.text) }
     ensures wanting { IfErr result (λ _.
         LeavesUnwritten (S.left source.old) (H.tells hosts.old) (H.tells hosts.new)) }
     ensures read { ReadsWithin MAX_BYTES (S.left source.old) (S.left source.new) }
-    ensures unread { ¬ IsRun (map string_bytes words.now.items) → source.new ≡ source.old }
-    ensures unrun { ¬ IsRun (map string_bytes words.now.items) →
+    ensures unread { ¬ TellsToRun (map string_bytes words.now.items) → source.new ≡ source.old }
+    ensures unrun { ¬ TellsToRun (map string_bytes words.now.items) →
         H.tells hosts.new ≡ H.tells hosts.old }
     ensures goes_on { HostsGoOn (H.tells hosts.old) (H.tells hosts.new) }
 {
@@ -111,7 +111,7 @@ fn answer_words<S: Source, H: HostEnds>(
 
 // What the words tell the program to do.
 fn read_command(words: &Vec<String>) -> Option<Command>
-    ensures run { (result ≡ Some Command.Run) ↔ IsRun (map string_bytes words.now.items) }
+    ensures run { (result ≡ Some Command.Run) ↔ TellsToRun (map string_bytes words.now.items) }
     ensures generate { (n seed : ℕ) → (result ≡ Some (Command.Generate n seed))
         ↔ IsGen (map string_bytes words.now.items) n seed }
 {
@@ -126,7 +126,7 @@ fn read_command(words: &Vec<String>) -> Option<Command>
 
 // Whether the words tell the program to run.
 fn is_run(words: &Vec<String>) -> bool
-    ensures { IsTrue result ↔ IsRun (map string_bytes words.now.items) }
+    ensures { IsTrue result ↔ TellsToRun (map string_bytes words.now.items) }
 {
     let words = words.as_slice();
     words.len() == 1 && words[0].as_bytes() == b"run".as_slice()
@@ -209,16 +209,16 @@ fn answer_steps<H: HostEnds>(
 ) -> Result<Answer, OutOfMemory>
     requires few { length steps.now.items ≤ 4294967295 }
     requires room { HaveRoom (H.tells hosts.old) }
-    ensures known { IfOk result (λ a. (a.status ≡ DONE) ⊎ IsStop a.status) }
+    ensures known { IfOk result (λ a. (a.status ≡ DONE) ⊎ IsStopStatus a.status) }
     ensures done { (input : List ℕ) → Spells (lines_of input) steps.now.items →
         IfOk result (λ a. a.status ≡ DONE →
         IsTranscript (H.tells hosts.old) (H.tells hosts.new) input a.text) }
     ensures stopped { (input : List ℕ) → Spells (lines_of input) steps.now.items →
-        IfOk result (λ a. IsStop a.status →
+        IfOk result (λ a. IsStopStatus a.status →
         IsStopped (H.tells hosts.old) (H.tells hosts.new) a.status input a.text) }
     ensures wanting { (input : List ℕ) → Spells (lines_of input) steps.now.items →
         ¬ IsTooLong input →
-        IfErr result (λ _. WasRun (Some input) (H.tells hosts.old) (H.tells hosts.new)) }
+        IfErr result (λ _. InputWasRun (Some input) (H.tells hosts.old) (H.tells hosts.new)) }
     ensures goes_on { HostsGoOn (H.tells hosts.old) (H.tells hosts.new) }
 {
     let mut given = steps.left();
@@ -238,7 +238,7 @@ fn answer_steps<H: HostEnds>(
 
 /// The status by which a run stops, and the cause that it stands for; want of memory has none.
 pub fn status_of(cause: RunCause) -> Result<(u8, Stop), OutOfMemory>
-    ensures stop { IfOk result (λ told. IsStop told.0) }
+    ensures stop { IfOk result (λ told. IsStopStatus told.0) }
     ensures cause { IfOk result (λ told. IsStatusOf told.0 cause told.1) }
     ensures memory { IsErr result → cause ≡ RunCause.OutOfMemory }
 {

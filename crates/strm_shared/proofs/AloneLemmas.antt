@@ -21,14 +21,14 @@ use Rattle.strm_transmit.specs.declared.errors.StoreError.{StoreError}
 use Rattle.strm_transmit.specs.declared.errors.StoreError.TheVariants as errors
 use Rattle.strm_shared.specs.declared.entry.Place.{Place}
 use Rattle.strm_shared.specs.declared.entry.Wait.{Wait}
-use Rattle.strm_shared.specs.Places.{is_host_act, is_blocked, named as names}
-use Rattle.strm_shared.specs.Reaching.{IsReached}
+use Rattle.strm_shared.specs.Places.{is_host_act, is_blocked, place_named as names}
+use Rattle.strm_shared.specs.Reaching.{IsStateReached}
 use Rattle.strm_shared.specs.Waits.{wait, Each, Has, IsClear}
 use Rattle.strm_shared.proofs.ReachedLemmas.{reached-alone, Looks, Trapped, Told, Untold}
 use Rattle.strm_shared.proofs.WaitLemmas.{each_map}
 
 -- no step that names no host end touches one
-pub untouched : (state : State) (act : Act) → IsReached state → is_host_act act ≡ false → touches (lone state) act ≡ false
+pub untouched : (state : State) (act : Act) → IsStateReached state → is_host_act act ≡ false → touches (lone state) act ≡ false
 untouched state (OnEnd side end (Operate address count)) h e = reached-alone state (stream_named (named state end)) (opposite side) h
 untouched state (OnEnd side end Drop) h e = reached-alone state (stream_named (named state end)) (opposite side) h
 untouched state (OnEnd side end Lift) h e = cc

@@ -12,7 +12,7 @@ use Rattle.strm_shared.specs.Histories.{IsLegal, calls_by}
 use Rattle.strm_shared.specs.Waits.{wait, waits_by, Has, AreWaits}
 use Rattle.strm_shared.specs.Plays.{looked, queued, own, own_waits, Enters}
 use Rattle.strm_shared.specs.Turns.{turned}
-use Rattle.strm_shared.specs.Tokens.{Token, token, Rests, IsOneHistory, Finds, Stays, Adds, Idles, last}
+use Rattle.strm_shared.specs.Tokens.{Token, token, Rests, IsOneHistory, Finds, HistoryStays, AddsEntry, Idles, last_number}
 use Rattle.strm_shared.proofs.HistoryLemmas.{calls_by-own, calls_by-other}
 
 -- ## No turn
@@ -38,22 +38,22 @@ rests_looked number t v rests = record {
   below = rests.below;
 }
 
-stays_at : (z z' : TableId) (number : ℕ) (v : View) → Rests number v → v.top_ticket ≤ last → Stays (token z number v) (token z' number (looked v last))
+stays_at : (z z' : TableId) (number : ℕ) (v : View) → Rests number v → v.top_ticket ≤ last_number → HistoryStays (token z number v) (token z' number (looked v last_number))
 stays_at z z' number v rests top =
-    (refl, refl, refl, refl, refl, refl, refl, refl, (top, refl), rests_one z' number (looked v last) (rests_looked number last v rests))
+    (refl, refl, refl, refl, refl, refl, refl, refl, (top, refl), rests_one z' number (looked v last_number) (rests_looked number last_number v rests))
 
 -- a seat that found no ticket left
-pub stays : (old : Token) (z z' : TableId) (number : ℕ) (v w : View) → token z number v ≡ old → Rests number v → w ≡ looked v last → v.top_ticket ≤ last → Stays old (token z' number w)
+pub stays : (old : Token) (z z' : TableId) (number : ℕ) (v w : View) → token z number v ≡ old → Rests number v → w ≡ looked v last_number → v.top_ticket ≤ last_number → HistoryStays old (token z' number w)
 stays old z z' number v w is rests after top =
-    subst (λ o. Stays o (token z' number w)) is
-    (subst (λ x. Stays (token z number v) (token z' number x)) (sym after) (stays_at z z' number v rests top))
+    subst (λ o. HistoryStays o (token z' number w)) is
+    (subst (λ x. HistoryStays (token z number v) (token z' number x)) (sym after) (stays_at z z' number v rests top))
 
 -- ## A turn
 
 -- what the waits are that a turn finds
 pub record Took (v : View) (t : ℕ) (a : Account) : Type 0 where
   pub top : v.top_ticket ≤ t
-  pub few : t < last
+  pub few : t < last_number
   pub waits : AreWaits a.limits a.log a.waits
 
 finds_at : (z z' : TableId) (number t : ℕ) (v : View) (a b : Account) (log : List Entry) → Rests number v → Enters v a → AreWaits a.limits a.log a.waits → log ≡ a.log → Finds log (token z number v) (token z' number (turned v t a b))
@@ -63,7 +63,7 @@ finds_at z z' number t v a b log rests enters waits same = record {
 }
 
 adds_at : (z z' : TableId) (number t : ℕ) (v : View) (a b : Account) (e : Entry) → Rests number v → Enters v a → e.seat ≡ number → b.limits ≡ a.limits → b.log ≡ a.log ++ e ∷ [] → IsLegal b.limits b.log → Took v t a
-    → Adds a.log (token z number v) e (token z' number (turned v t a b))
+    → AddsEntry a.log (token z number v) e (token z' number (turned v t a b))
 adds_at z z' number t v a b e rests enters by lim more legal took = record {
   grew = enters.grew;
   ends = more;
@@ -87,10 +87,10 @@ pub record OneTurn (number t : ℕ) (v w : View) (a b : Account) : Type 0 where
 
 -- a turn that made an entry
 pub adds : (old : Token) (z z' : TableId) (number t : ℕ) (v w : View) (a b : Account) (e : Entry) → token z number v ≡ old → OneTurn number t v w a b → e.seat ≡ number → b.log ≡ a.log ++ e ∷ []
-    → Adds a.log old e (token z' number w)
+    → AddsEntry a.log old e (token z' number w)
 adds old z z' number t v w a b e is turn by more =
-    subst (λ o. Adds a.log o e (token z' number w)) is
-    (subst (λ x. Adds a.log (token z number v) e (token z' number x)) (sym turn.after)
+    subst (λ o. AddsEntry a.log o e (token z' number w)) is
+    (subst (λ x. AddsEntry a.log (token z number v) e (token z' number x)) (sym turn.after)
     (adds_at z z' number t v a b e turn.rests turn.enters by turn.limits more turn.legal turn.took))
 
 -- where a seat waits for nothing, a wait is another's

@@ -14,7 +14,7 @@ use Rattle.strm_shared.specs.declared.errors.SharedError.{SharedError}
 use Rattle.strm_shared.specs.declared.errors.SharedError.TheVariants.{HostStep, InSet, Waiting, Worn, NoSeat, OutOfMemory}
 use Rattle.strm_shared.specs.Histories.{entry}
 use Rattle.strm_shared.specs.Places.{operated, operated_in, is_host_step, is_host_act, is_move}
-use Rattle.strm_shared.specs.Tokens.{Token, last, Called, Begun}
+use Rattle.strm_shared.specs.Tokens.{Token, last_number, Called, Begun}
 use Rattle.strm_shared.specs.Causes.{IsHostStep, IsWorn, Failed, NotBegun, GivesUp, Waited, Synced, NotSynced, MovesBy, FailsToMoveBy}
 use Rattle.strm_shared.proofs.MoveLemmas.{move-guests}
 use Rattle.strm_shared.proofs.StayLemmas.{not_both}
@@ -22,13 +22,13 @@ use Rattle.strm_shared.proofs.StayLemmas.{not_both}
 -- what an error says of the ticket word
 abbrev pub Tops : Token → SharedError → Type 0
 Tops new HostStep = ⊥
-Tops new InSet = new.top_ticket < last
-Tops new (Waiting seat) = new.top_ticket < last
-Tops new (Worn ticket) = (ticket ≡ last) × (new.top_ticket ≡ last)
-Tops new (NoSeat seats) = new.top_ticket < last
-Tops new OutOfMemory = new.top_ticket < last
+Tops new InSet = new.top_ticket < last_number
+Tops new (Waiting seat) = new.top_ticket < last_number
+Tops new (Worn ticket) = (ticket ≡ last_number) × (new.top_ticket ≡ last_number)
+Tops new (NoSeat seats) = new.top_ticket < last_number
+Tops new OutOfMemory = new.top_ticket < last_number
 
-below : (n : ℕ) → n < last → n ≡ last → ⊥
+below : (n : ℕ) → n < last_number → n ≡ last_number → ⊥
 below n h e = omega (arith, h, e)
 
 -- ## What each cause says of the ticket word
@@ -63,7 +63,7 @@ not_synced_tops old step there e new f =
     (λ (w : (middle : Token) × Begun old there (entry old.number step (replies.Code codes.Blocked)) middle × GivesUp middle e new). gives_up_tops w.0 e new w.2)
     f
 
-synced_top : (old : Token) (step : Step) (there : Place) (reply : Reply) (new : Token) → Synced old step there reply new → new.top_ticket < last
+synced_top : (old : Token) (step : Step) (there : Place) (reply : Reply) (new : Token) → Synced old step there reply new → new.top_ticket < last_number
 synced_top old step there reply new f =
     ⊎_elim (λ (b : Begun old there (entry old.number step reply) new). b.0.1.top)
     (λ (w : Waited old step there reply new). w.3.0.1.top)
@@ -82,7 +82,7 @@ none_host step new (Err (NoSeat seats)) g e = ((λ h. absurd (not_both (is_host_
 none_host step new (Err OutOfMemory) g e = ((λ h. absurd (not_both (is_host_step step) h g)), λ h. absurd cc)
 
 -- and then Worn comes as the ticket word says
-none_worn : (step : Step) (new : Token) (r : Result Reply SharedError) → is_host_step step ≡ false → IfOk r (λ reply. new.top_ticket < last) → IfErr r (Tops new) → IsWorn step new r
+none_worn : (step : Step) (new : Token) (r : Result Reply SharedError) → is_host_step step ≡ false → IfOk r (λ reply. new.top_ticket < last_number) → IfErr r (Tops new) → IsWorn step new r
 none_worn step new (Ok reply) g o e = ((λ h. absurd (below new.top_ticket o h.1)), λ h. absurd cc)
 none_worn step new (Err HostStep) g o e = absurd e
 none_worn step new (Err InSet) g o e = ((λ h. absurd (below new.top_ticket e h.1)), λ h. absurd cc)
@@ -108,7 +108,7 @@ map_ok P Q (Err e) f h = tt
 pub call_worn : (old : Token) (step : Step) (new : Token) (number : ℕ) (r : Result Reply SharedError) → is_host_step step ≡ false → IfOk r (λ reply. Called old (entry number step reply) new) → IfErr r (λ e. Failed old step e new) → IsWorn step new r
 call_worn old step new number r g o e =
     none_worn step new r g
-    (map_ok (λ reply. Called old (entry number step reply) new) (new.top_ticket < last) r (λ reply c. c.0.1.top) o)
+    (map_ok (λ reply. Called old (entry number step reply) new) (new.top_ticket < last_number) r (λ reply c. c.0.1.top) o)
     (map_err (λ x. Failed old step x new) (Tops new) r (λ x f. failed_tops old step x new g f) e)
 
 -- a read or write names no host end
@@ -127,7 +127,7 @@ sync_host old step there new r is e =
 pub sync_worn : (old : Token) (step : Step) (there : Place) (new : Token) (r : Result Reply SharedError) → operated step ≡ Some there → IfOk r (λ reply. Synced old step there reply new) → IfErr r (λ e. NotSynced old step there e new) → IsWorn step new r
 sync_worn old step there new r is o e =
     none_worn step new r (operated_guests step there is)
-    (map_ok (λ reply. Synced old step there reply new) (new.top_ticket < last) r (λ reply c. synced_top old step there reply new c) o)
+    (map_ok (λ reply. Synced old step there reply new) (new.top_ticket < last_number) r (λ reply c. synced_top old step there reply new c) o)
     (map_err (λ x. NotSynced old step there x new) (Tops new) r (λ x f. not_synced_tops old step there x new f) e)
 
 pub move_host : (old : Token) (step : Step) (new : Token) (r : Result Reply SharedError) → is_move step ≡ true → IfErr r (λ e. FailsToMoveBy true old step e new) → IsHostStep step r
@@ -140,5 +140,5 @@ pub move_worn : (old : Token) (step : Step) (new : Token) (r : Result Reply Shar
 move_worn old step new r is o e =
     let g = move-guests (act_of step) is in
     none_worn step new r g
-    (map_ok (λ reply. MovesBy true old step reply new) (new.top_ticket < last) r (λ reply c. c.1.2.0.1.top) o)
+    (map_ok (λ reply. MovesBy true old step reply new) (new.top_ticket < last_number) r (λ reply c. c.1.2.0.1.top) o)
     (map_err (λ x. FailsToMoveBy true old step x new) (Tops new) r (λ x f. failed_tops f.0 step x new g f.2) e)

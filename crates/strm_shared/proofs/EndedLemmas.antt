@@ -6,8 +6,8 @@ use lib.ListN.{get_elem?}
 use Rattle.strm_shared.specs.declared.entry.Entry.{Entry}
 use Rattle.strm_shared.specs.declared.view.View.{View}
 use Rattle.strm_shared.specs.Histories.{calls_by, numbers_of, NoneIs, Differ, AreCallsIn}
-use Rattle.strm_shared.specs.Plays.{own_ended, longer, joined, RecallsAll}
-use Rattle.strm_shared.specs.Rules.{total, is}
+use Rattle.strm_shared.specs.Plays.{own_ended, longer, seats_joined, RecallsAll}
+use Rattle.strm_shared.specs.Rules.{total_by, is}
 use Rattle.strm_shared.proofs.FrontLemmas.{calls_between, fronts}
 
 -- no seat has ended in a new one
@@ -19,7 +19,7 @@ in_append [] m k p e = inr (k, e)
 in_append (x ∷ xs) m zero p e = inl (0, e)
 in_append (x ∷ xs) m (suc k) p e = ⊎_elim (λ (q : (i : ℕ) × (get_elem? xs i ≡ some p)). inl (suc q.0, q.1)) (λ (q : (i : ℕ) × (get_elem? m i ≡ some p)). inr q) (in_append xs m k p e)
 
-pub own_total : (x : ℕ) (o : Option ℕ) (calls : List Entry) → total (λ (p : ℕ × List Entry). is x (Some p.0)) (own_ended o calls) ≡ is x o
+pub own_total : (x : ℕ) (o : Option ℕ) (calls : List Entry) → total_by (λ (p : ℕ × List Entry). is x (Some p.0)) (own_ended o calls) ≡ is x o
 own_total x None calls = refl
 own_total x (Some n) calls = omega arith
 
@@ -41,7 +41,7 @@ abbrev Owns : View → List Entry → Type 0
 Owns v log = (n : ℕ) → v.number ≡ Some n → calls_by n log ≡ v.mine
 
 -- a seat that recalls one history, and one that ended in it, which saw another front of the same: it recalls the longer
-pub join_recalls : (v w : View) (log : List Entry) → IsPrefix v.seen log → IsPrefix w.seen log → RecallsAll v → RecallsAll w → Owns v log → Owns w log → AreCallsIn v.ended log → AreCallsIn w.ended log → RecallsAll (joined v w)
+pub join_recalls : (v w : View) (log : List Entry) → IsPrefix v.seen log → IsPrefix w.seen log → RecallsAll v → RecallsAll w → Owns v log → Owns w log → AreCallsIn v.ended log → AreCallsIn w.ended log → RecallsAll (seats_joined v w)
 join_recalls v w log p q f g own own' over over' =
     let fs = fronts v.seen w.seen log p q in
     let both = longer_has (λ l. IsPrefix l log) v.seen w.seen p q in

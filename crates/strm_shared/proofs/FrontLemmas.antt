@@ -6,7 +6,7 @@ use mathlib.Core.List.{IsPrefix}
 use Rattle.strm_shared.specs.declared.entry.Entry.{Entry}
 use Rattle.strm_shared.specs.Histories.{calls_by, numbers_of, NoneIs, Differ}
 use Rattle.strm_shared.specs.Plays.{longer, shorter}
-use Rattle.strm_shared.specs.Rules.{total, is}
+use Rattle.strm_shared.specs.Rules.{total_by, is}
 use Rattle.strm_shared.proofs.HistoryLemmas.{calls_by-append}
 use Rattle.strm_shared.proofs.TotalLemmas.{is-yes}
 
@@ -88,7 +88,7 @@ module _ (xs ys : List Entry) where
 
 -- how often seats that ended have a number
 abbrev pub had : ℕ → List (ℕ × List Entry) → ℕ
-had x ended = total (λ (one : ℕ × List Entry). is x (Some one.0)) ended
+had x ended = total_by (λ (one : ℕ × List Entry). is x (Some one.0)) ended
 
 none_is : (x : ℕ) (ended : List (ℕ × List Entry)) → had x ended ≤ 0 → NoneIs x (numbers_of ended)
 none_is x [] h = tt

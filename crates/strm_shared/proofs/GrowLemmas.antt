@@ -11,7 +11,7 @@ use Rattle.strm_shared.specs.declared.entry.Place.{Place}
 use Rattle.strm_shared.specs.declared.errors.SharedError.{SharedError}
 use Rattle.strm_shared.specs.declared.errors.SharedError.TheVariants.{HostStep, InSet, Waiting, Worn, NoSeat, OutOfMemory}
 use Rattle.strm_shared.specs.Histories.{entry}
-use Rattle.strm_shared.specs.Tokens.{Token, IsOneHistory, Continues, Adds, Idles, Stays, Later, Called, Begun}
+use Rattle.strm_shared.specs.Tokens.{Token, IsOneHistory, Continues, AddsEntry, Idles, HistoryStays, Later, Called, Begun}
 use Rattle.strm_shared.specs.Causes.{Failed, NotBegun, GivesUp, Waited, Synced, NotSynced, MovesBy, FailsToMoveBy}
 use Rattle.strm_shared.proofs.FrontLemmas.{front_self, front_trans}
 
@@ -23,13 +23,13 @@ pub record Grows (old new : Token) : Type 0 where
 grows_on : (old mid new : Token) → Grows old mid → Grows mid new → Grows old new
 grows_on old mid new f g = record { front = front_trans old.seen mid.seen new.seen f.front g.front; ended = g.ended ∙ f.ended }
 
-adds_grows : (before : List Entry) (old : Token) (e : Entry) (new : Token) → Adds before old e new → Grows old new
+adds_grows : (before : List Entry) (old : Token) (e : Entry) (new : Token) → AddsEntry before old e new → Grows old new
 adds_grows before old e new a = record { front = front_trans old.seen before new.seen a.grew (e ∷ [], sym a.ends); ended = a.over.0 }
 
 idles_grows : (old new : Token) → Idles old new → Grows old new
 idles_grows old new i = record { front = i.grew; ended = i.over.0 }
 
-stays_grows : (old new : Token) → Stays old new → Grows old new
+stays_grows : (old new : Token) → HistoryStays old new → Grows old new
 stays_grows old new s = record { front = subst (IsPrefix old.seen) (sym s.0) (front_self old.seen); ended = s.6 }
 
 later_grows : (old new : Token) → Later old new → Grows old new

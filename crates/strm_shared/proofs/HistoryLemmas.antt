@@ -5,7 +5,7 @@ use Rattle.strm_machine.specs.State.{State, empty}
 use Rattle.strm_machine.specs.Reactions.{Reaction, goes, react}
 use Rattle.strm_machine.specs.declared.limits.Limits.{Limits}
 use Rattle.strm_shared.specs.declared.entry.Entry.{Entry}
-use Rattle.strm_shared.specs.Histories.{after, Replies, IsLegal, state_of, calls_by}
+use Rattle.strm_shared.specs.Histories.{after, Replies, IsLegal, state_after, calls_by}
 
 pub after-snoc : (s : State) (log : List Entry) (e : Entry) → after s (log ++ e ∷ []) ≡ (react (after s log) e.step).state
 after-snoc s [] e = refl
@@ -30,8 +30,8 @@ pub calls_by-other : (n : ℕ) (log : List Entry) (e : Entry) → e.seat ≢ n �
 calls_by-other n log e is = calls_by-append n log (e ∷ []) ∙ (ap (λ b. calls_by n log ++ cond b (e ∷ []) []) (ne_eqb e.seat n is) ∙ append-nil (calls_by n log))
 
 -- a history stays legal, and its state the store's, where a step is made and entered
-pub grows : (limit : Limits) (store store' : State) (log items log' : List Entry) (e : Entry) → IsLegal limit log → store ≡ state_of limit log
-    → react store e.step ≡ goes e.reply store' → items ≡ log → log' ≡ items ++ e ∷ [] → IsLegal limit log' × (store' ≡ state_of limit log')
+pub grows : (limit : Limits) (store store' : State) (log items log' : List Entry) (e : Entry) → IsLegal limit log → store ≡ state_after limit log
+    → react store e.step ≡ goes e.reply store' → items ≡ log → log' ≡ items ++ e ∷ [] → IsLegal limit log' × (store' ≡ state_after limit log')
 grows limit store store' log items log' e legal is made same more =
     let s : State = empty 0 limit in
     let all : log' ≡ log ++ e ∷ [] = more ∙ ap (λ l. l ++ e ∷ []) same in

@@ -3,7 +3,7 @@ use Rattle.std.proofs.Common.{◌≡◌, ℕ, ◌++◌, refl, sym, ap, subst}
 use Rattle.atomic_table.specs.Seated.{TableId}
 use Rattle.strm_shared.specs.declared.view.View.{View}
 use Rattle.strm_shared.specs.Histories.{IsLegal}
-use Rattle.strm_shared.specs.Plays.{own_ended, joined, RecallsAll, IsApart}
+use Rattle.strm_shared.specs.Plays.{own_ended, seats_joined, RecallsAll, IsSeatApart}
 use Rattle.strm_shared.specs.Tokens.{Token, token, Rests}
 use Rattle.strm_shared.specs.Causes.{Joined}
 use Rattle.strm_shared.proofs.EndedLemmas.{longer_has}
@@ -11,7 +11,7 @@ use Rattle.strm_shared.proofs.FrontLemmas.{fronts_by}
 
 module _ (z z' z'' : TableId) (n m : ℕ) (v w : View) (into : Rests n v) (from : Rests m w) where
   -- both seats are of one store, and the joined one recalls one history
-  joined_at : w.limits ≡ v.limits → RecallsAll (joined v w) → IsApart (joined v w) → Joined (token z n v) (token z' m w) (token z'' n (joined v w))
+  joined_at : w.limits ≡ v.limits → RecallsAll (seats_joined v w) → IsSeatApart (seats_joined v w) → Joined (token z n v) (token z' m w) (token z'' n (seats_joined v w))
   joined_at same recalls apart =
       let fronts = fronts_by v.seen w.seen recalls.front in (
         refl,
@@ -33,7 +33,7 @@ module _ (z z' z'' : TableId) (n m : ℕ) (v w : View) (into : Rests n v) (from 
         refl,
       )
 
-  pub joins : (old other : Token) (u : View) → token z n v ≡ old → token z' m w ≡ other → w.limits ≡ v.limits → u ≡ joined v w → RecallsAll (joined v w) → IsApart (joined v w) → Joined old other (token z'' n u)
+  pub joins : (old other : Token) (u : View) → token z n v ≡ old → token z' m w ≡ other → w.limits ≡ v.limits → u ≡ seats_joined v w → RecallsAll (seats_joined v w) → IsSeatApart (seats_joined v w) → Joined old other (token z'' n u)
   joins old other u is is' same after recalls apart =
       subst (λ o. Joined o other (token z'' n u)) is
       (subst (λ o. Joined (token z n v) o (token z'' n u)) is'

@@ -14,7 +14,7 @@ use Rattle.strm_machine.specs.declared.replies.Reply.TheVariants as replies
 use Rattle.strm_machine.specs.declared.steps.Step.{Step}
 use Rattle.strm_shared.specs.declared.entry.Place.{Place}
 use Rattle.strm_shared.specs.declared.entry.Wait.{Wait}
-use Rattle.strm_shared.specs.Places.{named, named_in, is_move, is_move_act, is_host_act, is_refused_busy}
+use Rattle.strm_shared.specs.Places.{place_named, named_in, is_move, is_move_act, is_host_act, is_refused_busy}
 use Rattle.strm_shared.specs.Waits.{IsClear}
 use Rattle.strm_shared.proofs.ReachedLemmas.{move-refused}
 use Rattle.strm_shared.proofs.WaitLemmas.{each_all}
@@ -41,7 +41,7 @@ pub move-unnamed : (act : Act) → is_move_act act ≡ true → (p : Place) → 
 move-unnamed act m = moving_is act (λ a. (p : Place) → named_in a ≢ Some p) m (λ end to p e. cc)
 
 pub clear_moved : (st : Step) (ws : List Wait) → is_move st ≡ true → IsClear st ws
-clear_moved st ws m = each_all (λ w. named st ≢ Some w.place) ws (λ w. move-unnamed (act_of st) m w.place)
+clear_moved st ws m = each_all (λ w. place_named st ≢ Some w.place) ws (λ w. move-unnamed (act_of st) m w.place)
 
 pub moved_same : (store new : State) (st : Step) (r : Reply) → react store st ≡ goes r new → is_move st ≡ true → is_refused_busy r ≡ true → new ≡ store
 moved_same store new st r made m b = sym (ap (λ (x : Reaction). x.state) made) ∙ move-busy store (act_of st) m (ap (λ (x : Reaction). is_refused_busy x.reply) made ∙ b)

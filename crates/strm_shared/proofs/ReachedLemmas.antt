@@ -54,7 +54,7 @@ use Rattle.strm_machine.proofs.SoundStepLemmas.{operate-keeps, reaction-sound}
 use Rattle.strm_machine.proofs.TableLemmas.{owner-set_stays}
 use Rattle.strm_shared.specs.declared.entry.Place.{Place}
 use Rattle.strm_shared.specs.Places.{place, named_in, operated_in, told_in, is_blocked, IsBusy, IsInNoSet}
-use Rattle.strm_shared.specs.Reaching.{IsReached}
+use Rattle.strm_shared.specs.Reaching.{IsStateReached}
 use Rattle.strm_shared.proofs.StayLemmas.{IsWaiting, reaction-stays, not_both, out-same}
 
 -- ## Reached states
@@ -69,7 +69,7 @@ no_readers zero n = refl
 no_readers (suc m) zero = refl
 no_readers (suc m) (suc n) = no_readers m n
 
-pub reached-empty : (tag : ℕ) (limits : Limits) → IsReached (empty tag limits)
+pub reached-empty : (tag : ℕ) (limits : Limits) → IsStateReached (empty tag limits)
 reached-empty tag limits = record {
   sound = IsSound-empty tag limits;
   held = StateIsHeld-empty tag limits;
@@ -78,7 +78,7 @@ reached-empty tag limits = record {
   readers = λ n. no_readers host_limit n;
 }
 
-pub reached-after : (state : State) (act : Act) → IsReached state → IsReached (reaction state act).state
+pub reached-after : (state : State) (act : Act) → IsStateReached state → IsStateReached (reaction state act).state
 reached-after state act h = record {
   sound = reaction-sound state act h.sound;
   held = reaction-held state act h.sound h.held;
@@ -88,7 +88,7 @@ reached-after state act h = record {
 }
 
 -- no host end has an end of a stream
-pub reached-alone : (state : State) (s : ℕ) (side : Side) → IsReached state → is_host (end_of side (stream_at state s)).owner ≡ false
+pub reached-alone : (state : State) (s : ℕ) (side : Side) → IsStateReached state → is_host (end_of side (stream_at state s)).owner ≡ false
 reached-alone state s Reading h =
     unless_host (stream_at state s).reader.owner
     (λ n e. let serves = (h.hosts.serve Reading n s).serves e in let unused = h.readers n in cc)
@@ -114,7 +114,7 @@ busy_made state s side b = elim (cases_lt s (length state.streams)) [
     idle Writing = refl
     idle Reading = refl
 
-pub waits_on : (state : State) (p : Place) (act : Act) → IsReached state → IsBusy state p → IsInNoSet state p → named_in act ≢ Some p → Waits p act (reaction state act)
+pub waits_on : (state : State) (p : Place) (act : Act) → IsStateReached state → IsBusy state p → IsInNoSet state p → named_in act ≢ Some p → Waits p act (reaction state act)
 waits_on state p act h busy out clear =
     let s = busy.stream in
     let side = busy.side in
@@ -193,7 +193,7 @@ Beginning state p r = StateIsHeld r.state → is_blocked r.reply ≡ true → Be
 abbrev back : State → Side → NamedEnd → ℕ → ℕ → Option ReturnCode → Reaction
 back state on end address count code = written_back state (stream_named (named state end)) (turn_on state on end address count) code
 
-operates-begins : (state : State) (on : Side) (end : NamedEnd) (address count : ℕ) → IsReached state → Operates state on end address count → Beginning state (place end.guest end.handle) (operates state on end address count)
+operates-begins : (state : State) (on : Side) (end : NamedEnd) (address count : ℕ) → IsStateReached state → Operates state on end address count → Beginning state (place end.guest end.handle) (operates state on end address count)
 operates-begins state on end address count h o = by (turn_on state on end address count).code refl
   where
     by : (code : Option ReturnCode) → (turn_on state on end address count).code ≡ code → Beginning state (place end.guest end.handle) (back state on end address count code)
@@ -228,7 +228,7 @@ operating_is : (act : Act) (p : Place) (P : Act → Type 0) → operated_in act 
 operating_is (OnEnd on end (Operate address count)) p P e f = f on end address count cc
 operating_is _ p P e f = cc
 
-pub begins : (state : State) (p : Place) (act : Act) → IsReached state → operated_in act ≡ Some p → is_blocked (reaction state act).reply ≡ true → Begins state p (reaction state act).state
+pub begins : (state : State) (p : Place) (act : Act) → IsStateReached state → operated_in act ≡ Some p → is_blocked (reaction state act).reply ≡ true → Begins state p (reaction state act).state
 unfolding performs refusal
 begins state p act h e =
     operating_is act p (λ a. is_blocked (reaction state a).reply ≡ true → Begins state p (reaction state a).state) e

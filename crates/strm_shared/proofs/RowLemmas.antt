@@ -12,7 +12,7 @@ use Rattle.strm_shared.specs.Histories.{entry}
 use Rattle.strm_shared.specs.declared.rows.Row.{Row}
 use Rattle.strm_shared.specs.declared.rows.ShortReply.{ShortReply}
 use Rattle.strm_shared.specs.declared.rows.ShortReply.TheVariants as answers
-use Rattle.strm_shared.specs.Rows.{whole_reply, whole, IsReplyPlaced, IsPlaced, entries, AllPlaced}
+use Rattle.strm_shared.specs.Rows.{whole_reply, whole, IsReplyPlaced, IsRowPlaced, entries, AllPlaced}
 
 -- MORE CHUNKS
 
@@ -24,7 +24,7 @@ reply_stays : (m n : ℕ) (r : ShortReply) → m ≤ n → IsReplyPlaced m r →
 reply_stays m n (answers.Bytes bytes) le h = omega (arith, le, h)
 reply_stays m n _ le h = tt
 
-whole_more : (cs more : List (List ℕ)) (row : Row) → IsPlaced (length cs) row → whole (cs ++ more) row ≡ whole cs row
+whole_more : (cs more : List (List ℕ)) (row : Row) → IsRowPlaced (length cs) row → whole (cs ++ more) row ≡ whole cs row
 whole_more cs more row h = ap₂ (entry row.seat) (step_more cs more row.step h.0) (reply_more cs more row.reply h.1)
 
 entries_more : (cs more : List (List ℕ)) (rows : List Row) → AllPlaced cs rows → entries (cs ++ more) rows ≡ entries cs rows
@@ -37,13 +37,13 @@ entries_more cs more (row ∷ rows) h =
 
 -- all places are places of chunks, also of a row more
 pub placed_push : (cs more cs' : List (List ℕ)) (rows rows' : List Row) (row : Row) → AllPlaced cs rows → cs' ≡ cs ++ more
-    → rows' ≡ rows ++ row ∷ [] → IsPlaced (length cs') row → AllPlaced cs' rows'
+    → rows' ≡ rows ++ row ∷ [] → IsRowPlaced (length cs') row → AllPlaced cs' rows'
 placed_push cs more cs' rows rows' row h is is_rows here =
     let le : length cs ≤ length cs' = subst (λ l. length cs ≤ length l) (sym is) (longer cs more) in
     let old : AllPlaced cs' rows =
     λ k d l. let p = h k d l in (step_stays (length cs) (length cs') _ le p.0, reply_stays (length cs) (length cs') _ le p.1) in
-    subst (All (IsPlaced (length cs'))) (sym is_rows)
-    (All-append (IsPlaced (length cs')) rows (row ∷ []) old (All-cons (IsPlaced (length cs')) row [] here (All-nil (IsPlaced (length cs')))))
+    subst (All (IsRowPlaced (length cs'))) (sym is_rows)
+    (All-append (IsRowPlaced (length cs')) rows (row ∷ []) old (All-cons (IsRowPlaced (length cs')) row [] here (All-nil (IsRowPlaced (length cs')))))
 
 -- the entries of a row more are those of before, and its own
 pub entries_push : (cs more cs' : List (List ℕ)) (old : List Row) (row : Row) (step : Step) (reply : Reply) → AllPlaced cs old

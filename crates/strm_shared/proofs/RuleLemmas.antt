@@ -16,12 +16,12 @@ use Rattle.strm_shared.specs.declared.view.View.{View}
 use Rattle.strm_shared.specs.Histories.{calls_by}
 use Rattle.strm_shared.specs.Waits.{waits_by}
 use Rattle.strm_shared.specs.Accounts.{Account, account, opened}
-use Rattle.strm_shared.specs.Rules.{total, is, has_ticket, has_number, SeatFits, IsSlotOut, Orderly}
-use Rattle.strm_shared.specs.Plays.{Seated, first_view, looked, queued, holding, passed, own, own_waits, own_ended, looked_seats, numbered, old_half, new_half, joined, spent, RecallsAll, looks, draws, waits, passes, recalls, looks_seats, numbers, IsTurn}
+use Rattle.strm_shared.specs.Rules.{total_by, is, has_ticket, has_number, SeatFits, IsSlotOut, Orderly}
+use Rattle.strm_shared.specs.Plays.{Seated, first_view, looked, queued, holding, turn_passed, own, own_waits, own_ended, looked_seats, seat_numbered, old_half, new_half, seats_joined, seat_spent, RecallsAll, looks, draws, seat_waits, passes, recalls, looks_seats, numbers, IsTurn}
 use Rattle.strm_shared.proofs.HistoryLemmas.{calls_by-other}
 use Rattle.strm_shared.proofs.FrontLemmas.{front_self, front_trans, none_before, differ_with}
 use Rattle.strm_shared.proofs.EndedLemmas.{nothing_over, in_append, own_total, own_over, longer_has, join_recalls}
-use Rattle.strm_shared.proofs.TotalLemmas.{set_at, total-append, total-set, term_le, terms_le, is-le, is-yes, is-no}
+use Rattle.strm_shared.proofs.TotalLemmas.{set_at, total_by-append, total_by-set, term_le, terms_le, is-le, is-yes, is-no}
 
 abbrev TableState : Type 0
 TableState = State (Option Account) View
@@ -30,8 +30,8 @@ abbrev table : List ℕ → List (Home (Option Account)) → List View → Table
 table ws hs vs = record { words = ws; homes = hs; views = vs }
 
 -- the words grow, the history stays
-fits_more : (idle ticket serving seats ticket' seats' : ℕ) (log : List Entry) (waits : List Wait) (v : View) → ticket ≤ ticket' → seats ≤ seats' → SeatFits idle ticket serving seats log waits v → SeatFits idle ticket' serving seats' log waits v
-fits_more idle ticket serving seats ticket' seats' log waits v t n f =
+fits_more : (idle ticket serving seats ticket' seats' : ℕ) (log : List Entry) (seat_waits : List Wait) (v : View) → ticket ≤ ticket' → seats ≤ seats' → SeatFits idle ticket serving seats log seat_waits v → SeatFits idle ticket' serving seats' log seat_waits v
+fits_more idle ticket serving seats ticket' seats' log seat_waits v t n f =
     record { saw = f.saw; made = f.made; unused = f.unused; over = f.over; recalls = f.recalls; at_turn = f.at_turn; looked = (omega (arith, f.looked.0), omega (arith, f.looked.1)) }
 
 -- what a step of the seat id owes, after which its view v is w, and the words and homes are these, where the history
@@ -61,15 +61,15 @@ moves limit s o id v w ws hs ticket seats m = let me = m.me in let t = m.drawn i
   few = few;
   count = o.count;
   slot = m.slot;
-  passed = λ x h. let c = total-set (has_ticket x) s.views id v w me in let z = o.passed x h in let b = term_le (has_ticket x) s.views id v me in
+  passed = λ x h. let c = total_by-set (has_ticket x) s.views id v w me in let z = o.passed x h in let b = term_le (has_ticket x) s.views id v me in
       ⊎_elim (λ (q : has_ticket x w ≤ has_ticket x v). omega arith) (λ (q : (o.ticket ≤ x) × (x < ticket) × (has_ticket x w ≤ 1)). absurd (omega (arith, o.order, q.0))) (m.tick x);
-  undrawn = λ x h. let c = total-set (has_ticket x) s.views id v w me in let z = o.undrawn x (omega arith) in let b = term_le (has_ticket x) s.views id v me in
+  undrawn = λ x h. let c = total_by-set (has_ticket x) s.views id v w me in let z = o.undrawn x (omega arith) in let b = term_le (has_ticket x) s.views id v me in
       ⊎_elim (λ (q : has_ticket x w ≤ has_ticket x v). omega arith) (λ (q : (o.ticket ≤ x) × (x < ticket) × (has_ticket x w ≤ 1)). absurd (omega (arith, q.1))) (m.tick x);
-  tickets = λ x. let c = total-set (has_ticket x) s.views id v w me in let z = o.tickets x in let b = term_le (has_ticket x) s.views id v me in
+  tickets = λ x. let c = total_by-set (has_ticket x) s.views id v w me in let z = o.tickets x in let b = term_le (has_ticket x) s.views id v me in
       ⊎_elim (λ (q : has_ticket x w ≤ has_ticket x v). omega arith) (λ (q : (o.ticket ≤ x) × (x < ticket) × (has_ticket x w ≤ 1)). omega (arith, q.2, o.undrawn x q.0)) (m.tick x);
-  numbers = λ x. let c = total-set (has_number x) s.views id v w me in let z = o.numbers x in let b = term_le (has_number x) s.views id v me in
+  numbers = λ x. let c = total_by-set (has_number x) s.views id v w me in let z = o.numbers x in let b = term_le (has_number x) s.views id v me in
       ⊎_elim (λ (q : has_number x w ≤ has_number x v). omega arith) (λ (q : (o.seats ≤ x) × (x < seats) × (has_number x w ≤ 1)). omega (arith, q.2, o.unnumbered x q.0)) (m.num x);
-  unnumbered = λ x h. let c = total-set (has_number x) s.views id v w me in let z = o.unnumbered x (omega arith) in let b = term_le (has_number x) s.views id v me in
+  unnumbered = λ x h. let c = total_by-set (has_number x) s.views id v w me in let z = o.unnumbered x (omega arith) in let b = term_le (has_number x) s.views id v me in
       ⊎_elim (λ (q : has_number x w ≤ has_number x v). omega arith) (λ (q : (o.seats ≤ x) × (x < seats) × (has_number x w ≤ 1)). absurd (omega (arith, q.1))) (m.num x);
   strangers = λ x h. o.strangers x (omega arith);
   fits = λ j u e. ⊎_elim (λ (q : (j ≡ id) × (w ≡ u)). subst (SeatFits o.idle ticket o.serving seats o.log o.waits) q.1 m.fits)
@@ -165,7 +165,7 @@ draw_keeps limit n id m old new next room rests s o wide me _ = let x : ℕ = ge
     (λ miss. (v, keeps, tt, unmoved limit s o 0 id m me (ap (λ l. set l 0 x) o.words ∙ (ap (λ k. k ∷ o.serving ∷ o.seats ∷ []) found ∙ sym o.words)), ((λ hit. absurd (miss hit)), λ _. refl)))
 
 pub wait_keeps : (limit : Limits) (n id : ℕ) (m : Seated) (t : ℕ) → n ≡ 1 → m.0.ticket ≡ Some t → m.0.holds ≡ false → m.1 ≡ [] → m.0.limits ≡ limit
-    → Allows (Orderly limit) n id m 1 (λ y. y) (waits (step n 1 0 0 none) m)
+    → Allows (Orderly limit) n id m 1 (λ y. y) (seat_waits (step n 1 0 0 none) m)
 wait_keeps limit n id m t one queues free none-held lim s o wide me _ = let x : ℕ = get_or s.words 1 0 in let found : x ≡ o.serving = ap (λ l. get_or l 1 0) o.words in
     let f = o.fits id m.0 me in let v : View = m.0 in
     let same : set s.words 1 x ≡ s.words = ap (λ l. set l 1 x) o.words ∙ (ap (λ k. o.ticket ∷ k ∷ o.seats ∷ []) found ∙ sym o.words) in
@@ -244,7 +244,7 @@ pub number_keeps : (limit : Limits) (n id : ℕ) (m : Seated) (old new : ℕ) �
 number_keeps limit n id m old new next bare s o wide me _ = let x : ℕ = get_or s.words 2 0 in let found : x ≡ o.seats = ap (λ l. get_or l 2 0) o.words in
     let f = o.fits id m.0 me in let v : View = m.0 in
     exchanged x old new (Goes limit s 2 id m (numbers (step n 2 old new none) m))
-    (λ hit. let w : View = numbered v x in
+    (λ hit. let w : View = seat_numbered v x in
     let ws : set s.words 2 new ≡ o.ticket ∷ o.serving ∷ new ∷ [] = ap (λ l. set l 2 new) o.words in (
       w,
       keeps,
@@ -268,7 +268,7 @@ number_keeps limit n id m old new next bare s o wide me _ = let x : ℕ = get_or
 
 pub split_keeps : (limit : Limits) (id : ℕ) (v : View) → Splits (Orderly limit) id v (old_half v) (new_half v)
 split_keeps limit id v s o me = let a : View = old_half v in let b : View = new_half v in let vs : List View = set s.views id a in let f = o.fits id v me in
-    let sum : (g : View → ℕ) → total g (vs ++ b ∷ []) + g v ≡ total g s.views + g a + g b = λ g. omega (arith, total-append g vs (b ∷ []), total-set g s.views id v a me) in
+    let sum : (g : View → ℕ) → total_by g (vs ++ b ∷ []) + g v ≡ total_by g s.views + g a + g b = λ g. omega (arith, total_by-append g vs (b ∷ []), total_by-set g s.views id v a me) in
     record {
       ticket = o.ticket;
       serving = o.serving;
@@ -296,12 +296,12 @@ split_keeps limit id v s o me = let a : View = old_half v in let b : View = new_
           (at_snoc vs b u j e);
     }
 
-pub join_keeps : (limit : Limits) (id : ℕ) (v : View) (other : ℕ) (w : View) → v.holds ≡ false → w.holds ≡ false → Joins (Orderly limit) id v other w (joined v w) spent
-join_keeps limit id v other w rests free s o me apart them = let b : View = joined v w in let vs : List View = set s.views id b in let f = o.fits id v me in
+pub join_keeps : (limit : Limits) (id : ℕ) (v : View) (other : ℕ) (w : View) → v.holds ≡ false → w.holds ≡ false → Joins (Orderly limit) id v other w (seats_joined v w) seat_spent
+join_keeps limit id v other w rests free s o me apart them = let b : View = seats_joined v w in let vs : List View = set s.views id b in let f = o.fits id v me in
     let there : get_elem? s.views other ≡ some w = sym (set_else s.views id other b apart) ∙ them in let g = o.fits other w there in
-    let sum : (g : View → ℕ) → total g (set vs other spent) + g w + g v ≡ total g s.views + g b + g spent = λ g. omega (arith, total-set g s.views id v b me, total-set g vs other w spent them) in
-    let both : (x : ℕ) → has_number x b + has_number x spent ≤ has_number x v + has_number x w = λ x. let f = λ (p : ℕ × List Entry). is x (Some p.0) in
-    omega (arith, total-append f v.ended (w.ended ++ own_ended w.number w.mine), total-append f w.ended (own_ended w.number w.mine), own_total x w.number w.mine) in
+    let sum : (g : View → ℕ) → total_by g (set vs other seat_spent) + g w + g v ≡ total_by g s.views + g b + g seat_spent = λ g. omega (arith, total_by-set g s.views id v b me, total_by-set g vs other w seat_spent them) in
+    let both : (x : ℕ) → has_number x b + has_number x seat_spent ≤ has_number x v + has_number x w = λ x. let f = λ (p : ℕ × List Entry). is x (Some p.0) in
+    omega (arith, total_by-append f v.ended (w.ended ++ own_ended w.number w.mine), total_by-append f w.ended (own_ended w.number w.mine), own_total x w.number w.mine) in
     record {
       ticket = o.ticket;
       serving = o.serving;
@@ -316,7 +316,7 @@ join_keeps limit id v other w rests free s o me apart them = let b : View = join
       slot = ⊎_elim (λ q. inl q)
           (λ (q : IsSlotOut (table s.words s.homes vs)). dite (ℕ_discrete q.1.0 other)
           (λ here. let u : w ≡ q.1.1 = some-injective w q.1.1 (sym them ∙ (ap (λ k. get_elem? vs k) (sym here) ∙ q.1.2)) in absurd (cc (free, ap (λ (z : View). z.holds) u, q.1.3)))
-          (λ else. inr (q.0, (q.1.0, q.1.1, set_else vs other q.1.0 spent else ∙ q.1.2, q.1.3))))
+          (λ else. inr (q.0, (q.1.0, q.1.1, set_else vs other q.1.0 seat_spent else ∙ q.1.2, q.1.3))))
           (same_slot limit s o id v b s.words me refl);
       passed = λ x h. omega (arith, sum (has_ticket x), o.passed x h);
       undrawn = λ x h. omega (arith, sum (has_ticket x), o.undrawn x h);
@@ -325,7 +325,7 @@ join_keeps limit id v other w rests free s o me apart them = let b : View = join
       unnumbered = λ x h. omega (arith, sum (has_number x), o.unnumbered x h, both x);
       strangers = o.strangers;
       fits = λ j u e. ⊎_elim
-          (λ (r : (j ≡ other) × (spent ≡ u)). subst (SeatFits o.idle o.ticket o.serving o.seats o.log o.waits) r.1 (record { saw = (o.log, refl); made = λ n is. absurd cc; unused = λ n is. absurd cc; over = nothing_over o.log; recalls = record { own = λ n is. absurd cc; over = nothing_over []; front = ([], refl) }; at_turn = λ h. absurd cc; looked = (omega arith, omega arith) }))
+          (λ (r : (j ≡ other) × (seat_spent ≡ u)). subst (SeatFits o.idle o.ticket o.serving o.seats o.log o.waits) r.1 (record { saw = (o.log, refl); made = λ n is. absurd cc; unused = λ n is. absurd cc; over = nothing_over o.log; recalls = record { own = λ n is. absurd cc; over = nothing_over []; front = ([], refl) }; at_turn = λ h. absurd cc; looked = (omega arith, omega arith) }))
           (λ (r : (j ≢ other) × (get_elem? vs j ≡ some u)). ⊎_elim
           (λ (q : (j ≡ id) × (b ≡ u)). subst (SeatFits o.idle o.ticket o.serving o.seats o.log o.waits) q.1 (record {
             saw = longer_has (λ l. IsPrefix l o.log) v.seen w.seen f.saw g.saw;
@@ -341,7 +341,7 @@ join_keeps limit id v other w rests free s o me apart them = let b : View = join
           }))
           (λ (q : (j ≢ id) × (get_elem? s.views j ≡ some u)). o.fits j u q.1)
           (at_set s.views id j b u r.1))
-          (at_set vs other j spent u e);
+          (at_set vs other j seat_spent u e);
     }
 
 -- the history after a turn: one entry of the seat, or none
@@ -380,7 +380,7 @@ passes_at limit n id v a more one turned s o wide me _ =
     let x : ℕ = get_or s.words 1 0 in let found : x ≡ o.serving = ap (λ l. get_or l 1 0) o.words in
     let f = o.fits id v me in let turn = f.at_turn holds in let drawn = turn_drawn limit s o id v me turn.0 in let few = o.few in
     let next : (x + 1) % 18446744073709551616 ≡ o.serving + 1 = omega arith in let y : ℕ = (x + 1) % 18446744073709551616 in
-    let log : a.log ≡ o.log ++ more = grew ∙ ap (λ l. l ++ more) turn.1 in let w : View = passed v a in
+    let log : a.log ≡ o.log ++ more = grew ∙ ap (λ l. l ++ more) turn.1 in let w : View = turn_passed v a in
     let idle = turn.2 in
     let kept : (k : ℕ) → v.number ≢ Some k → waits_by k a.waits ≡ waits_by k o.waits = λ k ne. apart k ne ∙ ap (waits_by k) turn.3 in
     let other : (j : ℕ) (u : View) → get_elem? s.views j ≡ some u → j ≢ id → (k : ℕ) → 0 < has_number k u → (calls_by k (o.log ++ more) ≡ calls_by k o.log) × (waits_by k a.waits ≡ waits_by k o.waits) = λ j u at else k has.
@@ -406,12 +406,12 @@ passes_at limit n id v a more one turned s o wide me _ =
         few = few;
         count = omega (arith, o.count, length-append o.log more);
         slot = inl (set_here s.homes 0 (some (Some a)) (omega arith) ∙ ap (λ k. some (some (Some k))) (λ i. account ((lim ∙ of_limits) i) (log i) a.idle a.waits));
-        passed = λ k h. let c = total-set (has_ticket k) s.views id v w me in let b = term_le (has_ticket k) s.views id v me in
+        passed = λ k h. let c = total_by-set (has_ticket k) s.views id v w me in let b = term_le (has_ticket k) s.views id v me in
             dite (ℕ_discrete k o.serving) (λ e. omega (arith, o.tickets k, is-yes k v.ticket (turn.0 ∙ ap Some (sym e)))) (λ ne. omega (arith, o.passed k (omega arith)));
-        undrawn = λ k h. omega (arith, total-set (has_ticket k) s.views id v w me, o.undrawn k h);
-        tickets = λ k. omega (arith, total-set (has_ticket k) s.views id v w me, o.tickets k);
-        numbers = λ k. omega (arith, total-set (has_number k) s.views id v w me, o.numbers k);
-        unnumbered = λ k h. omega (arith, total-set (has_number k) s.views id v w me, o.unnumbered k h);
+        undrawn = λ k h. omega (arith, total_by-set (has_ticket k) s.views id v w me, o.undrawn k h);
+        tickets = λ k. omega (arith, total_by-set (has_ticket k) s.views id v w me, o.tickets k);
+        numbers = λ k. omega (arith, total_by-set (has_number k) s.views id v w me, o.numbers k);
+        unnumbered = λ k h. omega (arith, total_by-set (has_number k) s.views id v w me, o.unnumbered k h);
         strangers = λ k h. let ne : v.number ≢ Some k = λ e. omega (arith, o.unnumbered k h, term_le (has_number k) s.views id v me, is-yes k v.number e) in let z = o.strangers k h in (others k v o.log more how ne ∙ z.0, kept k ne ∙ z.1);
         fits = λ j u e. ⊎_elim
             (λ (q : (j ≡ id) × (w ≡ u)). subst (SeatFits a.idle o.ticket (o.serving + 1) o.seats (o.log ++ more) a.waits) q.1 (record {
@@ -434,7 +434,7 @@ passes_at limit n id v a more one turned s o wide me _ =
             })
             (at_set s.views id j w u e);
       },
-      λ b e. let same = same_held a b e in (ap (λ z. (passed v z, [])) same, kept_recalls),
+      λ b e. let same = same_held a b e in (ap (λ z. (turn_passed v z, [])) same, kept_recalls),
     )
 
 pub pass_keeps : (limit : Limits) (n id : ℕ) (m : Seated) (a : Account) → n ≡ 1 → m.0.limits ≡ limit → m.0.holds ≡ true → m.1 ≡ (0, Some a) ∷ [] → IsTurn m.0 a

@@ -5,7 +5,7 @@ use Rattle.std.specs.Prelude.{◌==◌}
 use Rattle.std.proofs.lemmas.Bool.{cases_eq, cond_both}
 use Rattle.std.proofs.lemmas.List.{get_or_append_left}
 use Rattle.strm_codes.specs.declared.codes.ReturnCode.{ReturnCode}
-use Rattle.strm_waitable_sets.specs.Sets.{Sets, is_member, left, joined}
+use Rattle.strm_waitable_sets.specs.Sets.{Sets, is_member, handle_left, handle_joined}
 use Rattle.strm_waitable_sets.proofs.SetLemmas.{is_member-left_same, is_member-left_other, is_member-joined_other}
 use Rattle.strm_handles.specs.Handles.{Handles}
 use Rattle.strm_machine.specs.State.{State, Guest, guest_in, sets_in, no_guest, no_stream, stream_at, is_gone, is_loose, with_handles}
@@ -168,13 +168,13 @@ opposite_is Reading Reading ne = absurd (ne refl)
 abbrev pub IsNone : Sets → ℕ → Type 0
 IsNone sets handle = (number : ℕ) → is_member sets number handle ≡ false
 
-pub none-left : (sets : Sets) (other handle : ℕ) → IsNone sets handle → IsNone (left sets other) handle
+pub none-left : (sets : Sets) (other handle : ℕ) → IsNone sets handle → IsNone (handle_left sets other) handle
 none-left sets other handle h number = elim (cases_eq handle other) [
-  | inl e ↦ ap (is_member (left sets other) number) e ∙ is_member-left_same sets other number
+  | inl e ↦ ap (is_member (handle_left sets other) number) e ∙ is_member-left_same sets other number
   | inr ne ↦ is_member-left_other sets other number handle ne ∙ h number
 ]
 
-pub none-joined : (sets : Sets) (other home handle : ℕ) → handle ≢ other → IsNone sets handle → IsNone (joined sets other home) handle
+pub none-joined : (sets : Sets) (other home handle : ℕ) → handle ≢ other → IsNone sets handle → IsNone (handle_joined sets other home) handle
 none-joined sets other home handle ne h number = is_member-joined_other sets other home number handle ne ∙ h number
 
 -- the sets of a guest, where those of another or the same become others
@@ -247,7 +247,7 @@ module _ (state : State) (p : Place) (s : ℕ) (side : Side) (held : StateIsHeld
   out_without : (g handle : ℕ) → IsInNoSet (without_handle state g handle) p
   out_without g handle =
       let guest = guest_in state.guests g in
-      out-set state.guests g p.guest p.handle (record guest { handles = removed guest.handles handle; sets = left guest.sets handle })
+      out-set state.guests g p.guest p.handle (record guest { handles = removed guest.handles handle; sets = handle_left guest.sets handle })
       (λ e. none-left guest.sets handle p.handle (subst (λ i. IsNone (sets_in state.guests i) p.handle) e w.out)) w.out
 
   out_given : (guests : List Guest) (n : ℕ) (handles : Handles) → IsNone (sets_in guests p.guest) p.handle → IsNone (sets_in (with_handles guests n handles) p.guest) p.handle

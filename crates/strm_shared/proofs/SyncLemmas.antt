@@ -3,7 +3,7 @@ use Rattle.std.proofs.Common.{◌≡◌, ◌≢◌, ℕ, List, [], ◌∷◌, �
 use mathlib.Core.List.{IsPrefix}
 use Rattle.strm_machine.specs.declared.replies.Reply.{Reply}
 use Rattle.strm_machine.specs.declared.replies.Reply.TheVariants as replies
-use Rattle.strm_shared.specs.Waits.{Answers}
+use Rattle.strm_shared.specs.Waits.{AnswersWait}
 use Rattle.strm_shared.specs.declared.entry.Entry.{Entry}
 use Rattle.strm_shared.specs.declared.entry.Place.{Place}
 use Rattle.strm_shared.specs.declared.entry.Wait.{Wait}
@@ -12,7 +12,7 @@ use Rattle.strm_shared.specs.declared.errors.SharedError.TheVariants.{HostStep, 
 use Rattle.strm_codes.specs.declared.codes.ReturnCode.{ReturnCode}
 use Rattle.strm_codes.specs.declared.codes.ReturnCode.TheVariants as codes
 use Rattle.strm_shared.specs.Places.{is_blocked}
-use Rattle.strm_shared.specs.Waits.{wait, waits_by, without, begun, waits_for, Delivers}
+use Rattle.strm_shared.specs.Waits.{wait, waits_by, without, waits_begun, waits_for, DeliversReport}
 use Rattle.strm_shared.specs.Tokens.{Token, Idles, Delivered}
 use Rattle.strm_shared.specs.Causes.{GivesUp}
 use Rattle.strm_shared.specs.Tokens.{Later}
@@ -33,7 +33,7 @@ append_none : (xs : List Place) → xs ++ [] ≡ xs
 append_none [] = refl
 append_none (x ∷ xs) = ap (λ l. x ∷ l) (append_none xs)
 
-pub begun_others : (k n : ℕ) (h : Place) (r : Reply) (ws : List Wait) → n ≢ k → waits_by k (begun r ws (wait n h)) ≡ waits_by k ws
+pub begun_others : (k n : ℕ) (h : Place) (r : Reply) (ws : List Wait) → n ≢ k → waits_by k (waits_begun r ws (wait n h)) ≡ waits_by k ws
 begun_others k n h r ws ne = begun_by (λ l. waits_by k l ≡ waits_by k ws) (is_blocked r) ws (wait n h)
     (waits_by-append k ws (wait n h ∷ []) ∙ (ap (λ b. waits_by k ws ++ cond b (h ∷ []) []) (ne_eqb n k ne) ∙ append_none (waits_by k ws))) refl
 
@@ -41,7 +41,7 @@ own_by : (b : Bool) (n : ℕ) (h : Place) (ws : List Wait) → waits_by n ws ≡
 own_by true n h ws e = waits_by-append n ws (wait n h ∷ []) ∙ (ap (λ b. waits_by n ws ++ cond b (h ∷ []) []) (eq-eqb n n refl) ∙ ap (λ l. l ++ h ∷ []) e)
 own_by false n h ws e = e
 
-pub begun_own : (n : ℕ) (h : Place) (r : Reply) (ws : List Wait) → waits_by n ws ≡ [] → waits_by n (begun r ws (wait n h)) ≡ waits_for r h
+pub begun_own : (n : ℕ) (h : Place) (r : Reply) (ws : List Wait) → waits_by n ws ≡ [] → waits_by n (waits_begun r ws (wait n h)) ≡ waits_for r h
 begun_own n h r ws e = own_by (is_blocked r) n h ws e
 
 -- b says that the first wait is n's, and c that it is k's
@@ -94,7 +94,7 @@ blocked_is _ e = cc
 same_event : (c d : ReturnCode) → replies.Event (Some c) ≡ replies.Event (Some d) → c ≡ d
 same_event c d e = cc
 
-pub unblocked : (r answer : Reply) → Delivers r → Answers r answer → is_blocked answer ≡ false
+pub unblocked : (r answer : Reply) → DeliversReport r → AnswersWait r answer → is_blocked answer ≡ false
 unblocked r answer d is =
     ⊎_elim (λ (p : (r ≡ replies.StoreTrapped) × (answer ≡ replies.StoreTrapped)). ap is_blocked p.1)
     (λ (p : (c : ReturnCode) × (r ≡ replies.Event (Some c)) × (answer ≡ replies.Code c)).

@@ -16,16 +16,16 @@ use Rattle.strm_shared.specs.declared.entry.Place.{Place}
 use Rattle.strm_machine.specs.declared.acts.Act.{Act}
 use Rattle.strm_machine.specs.declared.acts.Act.TheVariants.{OnEnd}
 use Rattle.strm_machine.specs.declared.acts.EndAct.TheVariants.{Operate, Cancel, Drop}
-use Rattle.strm_shared.specs.Places.{place, named_in, operated_in, named, operated, told_in, IsBusy, IsInNoSet}
-use Rattle.strm_shared.specs.Reaching.{IsReached}
-use Rattle.strm_shared.specs.Histories.{state_of, after}
+use Rattle.strm_shared.specs.Places.{place, named_in, operated_in, place_named, operated, told_in, IsBusy, IsInNoSet}
+use Rattle.strm_shared.specs.Reaching.{IsStateReached}
+use Rattle.strm_shared.specs.Histories.{state_after, after}
 use Rattle.strm_shared.proofs.ReachedLemmas.{reached-empty, reached-after, Waits, waits_on, Begins, begins}
 use Rattle.strm_machine.specs.declared.limits.Limits.{Limits}
 use Rattle.strm_shared.specs.declared.entry.Entry.{Entry}
 use Rattle.strm_shared.specs.declared.entry.Wait.{Wait}
 use Rattle.strm_shared.specs.Histories.{entry}
 use Rattle.strm_shared.specs.Places.{is_blocked}
-use Rattle.strm_shared.specs.Waits.{is_at, wait, Each, waits_by, is_others, without, Apart, reads, awaits_next, awaits, awaited, reports, begun, IsClear, IsGood, AreWaits, IsKept}
+use Rattle.strm_shared.specs.Waits.{is_at, wait, Each, waits_by, is_others, without, Apart, operates_on, awaits_next, awaits, awaited, reports, waits_begun, IsClear, IsGood, AreWaits, IsSlotKept}
 use Rattle.strm_shared.proofs.HistoryLemmas.{grows}
 
 pub each_map : (P Q : Wait → Type 0) (ws : List Wait) → ((w : Wait) → P w → Q w) → Each P ws → Each Q ws
@@ -130,7 +130,7 @@ is_at-itself : (p : Place) (o : Option Place) → o ≡ Some p → is_at p o ≡
 is_at-itself p o e = ap (is_at p) e ∙ and_from (p.guest == p.guest) (p.handle == p.handle) (eq-eqb p.guest p.guest refl) (eq-eqb p.handle p.handle refl)
 
 goes_on : (w : Wait) (log : List Entry) (e : Entry) → awaited w log ≡ true → reports w.place e.step e.reply ≡ false → awaited w (log ++ e ∷ []) ≡ true
-goes_on w log e is quiet = let t : Bool = (e.seat == w.seat) && (reads w.place e.step && is_blocked e.reply) in
+goes_on w log e is quiet = let t : Bool = (e.seat == w.seat) && (operates_on w.place e.step && is_blocked e.reply) in
     awaits-snoc w.seat w.place false log e ∙ (ap (λ b. cond t true (cond b false (awaited w log))) quiet ∙ (ap (λ b. cond t true b) is ∙ cond_same t))
 
 cond_true : (b x : Bool) → b ≡ true → cond b true x ≡ true
@@ -139,20 +139,20 @@ cond_true b x e = ap (λ c. cond c true x) e
 starts : (n : ℕ) (p : Place) (log : List Entry) (st : Step) (r : Reply) → operated st ≡ Some p → is_blocked r ≡ true → awaited (wait n p) (log ++ entry n st r ∷ []) ≡ true
 starts n p log st r reads_it is = let e : Entry = entry n st r in
     awaits-snoc n p false log e
-    ∙ cond_true ((n == n) && (reads p st && is_blocked r)) (cond (reports p st r) false (awaits n p false log))
-    (and_from (n == n) (reads p st && is_blocked r) (eq-eqb n n refl) (and_from (reads p st) (is_blocked r) (is_at-itself p (operated st) reads_it) is))
+    ∙ cond_true ((n == n) && (operates_on p st && is_blocked r)) (cond (reports p st r) false (awaits n p false log))
+    (and_from (n == n) (operates_on p st && is_blocked r) (eq-eqb n n refl) (and_from (operates_on p st) (is_blocked r) (is_at-itself p (operated st) reads_it) is))
 
 -- every state of a history is reached
-reached_from : (s : State) (log : List Entry) → IsReached s → IsReached (after s log)
+reached_from : (s : State) (log : List Entry) → IsStateReached s → IsStateReached (after s log)
 reached_from s [] h = h
 reached_from s (e ∷ es) h = reached_from (react s e.step).state es (reached-after s (act_of e.step) h)
 
-pub reached_kept : (limit : Limits) (store : State) (log : List Entry) → store ≡ state_of limit log → IsReached store
-reached_kept limit store log is = subst IsReached (sym is) (reached_from (empty 0 limit) log (reached-empty 0 limit))
+pub reached_kept : (limit : Limits) (store : State) (log : List Entry) → store ≡ state_after limit log → IsStateReached store
+reached_kept limit store log is = subst IsStateReached (sym is) (reached_from (empty 0 limit) log (reached-empty 0 limit))
 
 -- the waits that stand go on, after an entry that names none of them
-stand : (store store' : State) (log : List Entry) (ws : List Wait) (e : Entry) → IsReached store → react store e.step ≡ goes e.reply store' → IsClear e.step ws → Each (IsGood store log) ws → Each (IsGood store' (log ++ e ∷ [])) ws
-stand store store' log ws e reached made clear good = each_zip (λ w. named e.step ≢ Some w.place) (IsGood store log) (IsGood store' (log ++ e ∷ [])) ws
+stand : (store store' : State) (log : List Entry) (ws : List Wait) (e : Entry) → IsStateReached store → react store e.step ≡ goes e.reply store' → IsClear e.step ws → Each (IsGood store log) ws → Each (IsGood store' (log ++ e ∷ [])) ws
+stand store store' log ws e reached made clear good = each_zip (λ w. place_named e.step ≢ Some w.place) (IsGood store log) (IsGood store' (log ++ e ∷ [])) ws
     (λ w n g. let p : Waits w.place (act_of e.step) (goes e.reply store') = subst (Waits w.place (act_of e.step)) made (waits_on store w.place (act_of e.step) reached g.1 g.2 n) in
     (goes_on w log e g.0 (is_at-not w.place (told_in (act_of e.step) e.reply) p.untold), p.busy, p.out)) clear good
 
@@ -162,8 +162,8 @@ pub record Made (store store' : State) (log items log' : List Entry) (e : Entry)
   pub same : items ≡ log
   pub more : log' ≡ items ++ e ∷ []
 
-pub kept_enter : (limit : Limits) (store store' : State) (log items log' : List Entry) (ws : List Wait) (cap cap' : ℕ) (e : Entry) → IsKept limit store log ws cap → Made store store' log items log' e → IsClear e.step ws
-    → length items + (length ws + 1) ≤ cap' → IsKept limit store' log' ws cap'
+pub kept_enter : (l : Limits) (store store' : State) (log items log' : List Entry) (ws : List Wait) (cap cap' : ℕ) (e : Entry) → IsSlotKept l store log ws cap → Made store store' log items log' e → IsClear e.step ws
+    → length items + (length ws + 1) ≤ cap' → IsSlotKept l store' log' ws cap'
 kept_enter limit store store' log items log' ws cap cap' e k m clear enough =
     let g = grows limit store store' log items log' e k.legal k.store_is m.made m.same m.more in
     let all : log ++ e ∷ [] ≡ log' = ap (λ l. l ++ e ∷ []) (sym m.same) ∙ sym m.more in record {
@@ -184,13 +184,13 @@ told n h r = entry n (steps.Event h.guest h.handle) r
 some_place : (p q : Place) → Some p ≡ Some q → q ≡ p
 some_place p q e = cc
 
-pub kept_deliver : (limit : Limits) (store store' : State) (log log' : List Entry) (ws ws' : List Wait) (cap n : ℕ) (h : Place) (r : Reply) → IsKept limit store log ws cap → Made store store' log log log' (told n h r)
-    → waits_by n ws ≡ h ∷ [] → ws' ≡ without n ws → IsKept limit store' log' ws' cap
+pub kept_deliver : (l : Limits) (store store' : State) (log log' : List Entry) (ws ws' : List Wait) (cap n : ℕ) (h : Place) (r : Reply) → IsSlotKept l store log ws cap → Made store store' log log log' (told n h r)
+    → waits_by n ws ≡ h ∷ [] → ws' ≡ without n ws → IsSlotKept l store' log' ws' cap
 kept_deliver limit store store' log log' ws ws' cap n h r k m own less =
     let e : Entry = told n h r in
     let g = grows limit store store' log log log' e k.legal k.store_is m.made refl m.more in
-    let clear : Each (λ w. named e.step ≢ Some w.place) (without n ws) =
-    each_map (λ u. u.place ≢ h) (λ w. named e.step ≢ Some w.place) (without n ws) (λ w q s. q (some_place (place h.guest h.handle) w.place s)) (others_apart n h ws k.apart own) in
+    let clear : Each (λ w. place_named e.step ≢ Some w.place) (without n ws) =
+    each_map (λ u. u.place ≢ h) (λ w. place_named e.step ≢ Some w.place) (without n ws) (λ w q s. q (some_place (place h.guest h.handle) w.place s)) (others_apart n h ws k.apart own) in
     let others = stand store store' log (without n ws) e (reached_kept limit store log k.store_is) m.made clear (each_filter (IsGood store log) (is_others n) ws k.waiting) in record {
       legal = g.0;
       store_is = g.1;
@@ -200,7 +200,7 @@ kept_deliver limit store store' log log' ws ws' cap n h r k m own less =
     }
 
 -- what a read or write names
-unnamed : (st : Step) (p : Place) → operated st ≡ Some p → (q : Place) → named st ≢ Some q
+unnamed : (st : Step) (p : Place) → operated st ≡ Some p → (q : Place) → place_named st ≢ Some q
 unnamed st p = by (act_of st)
   where
     by : (a : Act) → operated_in a ≡ Some p → (q : Place) → named_in a ≢ Some q
@@ -210,7 +210,7 @@ unnamed st p = by (act_of st)
     by _ e q f = cc
 
 pub clear_operated : (st : Step) (p : Place) (ws : List Wait) → operated st ≡ Some p → IsClear st ws
-clear_operated st p ws e = each_all (λ w. named st ≢ Some w.place) ws (λ w. unnamed st p e w.place)
+clear_operated st p ws e = each_all (λ w. place_named st ≢ Some w.place) ws (λ w. unnamed st p e w.place)
 
 pub out_free : (s : State) (p : Place) → is_in_set s p.guest p.handle ≡ false → IsInNoSet s p
 out_free s p e number = by (set_of (sets_in s.guests p.guest) p.handle) e
@@ -227,8 +227,8 @@ pub record MayBegin (store : State) (items : List Entry) (p : Place) (st : Step)
 
 module _ (limit : Limits) (store store' : State) (log items log' : List Entry) (n : ℕ) (p : Place) (st : Step) (r : Reply) where
   -- it is answered Blocked
-  kept_begin : (ws ws' : List Wait) (cap cap' : ℕ) → IsKept limit store log ws cap → Made store store' log items log' (entry n st r) → MayBegin store items p st ws cap' → is_blocked r ≡ true → ws' ≡ ws ++ wait n p ∷ []
-      → IsKept limit store' log' ws' cap'
+  kept_begin : (ws ws' : List Wait) (cap cap' : ℕ) → IsSlotKept limit store log ws cap → Made store store' log items log' (entry n st r) → MayBegin store items p st ws cap' → is_blocked r ≡ true → ws' ≡ ws ++ wait n p ∷ []
+      → IsSlotKept limit store' log' ws' cap'
   kept_begin ws ws' cap cap' k m b blocked longer =
       let e : Entry = entry n st r in
       let g = grows limit store store' log items log' e k.legal k.store_is m.made m.same m.more in
@@ -246,28 +246,28 @@ module _ (limit : Limits) (store store' : State) (log items log' : List Entry) (
       }
 
   -- whether it is answered Blocked or not
-  pub kept_begun : (ws ws' : List Wait) (cap cap' : ℕ) → IsKept limit store log ws cap → Made store store' log items log' (entry n st r) → MayBegin store items p st ws cap' → ws' ≡ begun r ws (wait n p)
-      → IsKept limit store' log' ws' cap'
+  pub kept_begun : (ws ws' : List Wait) (cap cap' : ℕ) → IsSlotKept limit store log ws cap → Made store store' log items log' (entry n st r) → MayBegin store items p st ws cap' → ws' ≡ waits_begun r ws (wait n p)
+      → IsSlotKept limit store' log' ws' cap'
   kept_begun ws ws' cap cap' k m b after = by (is_blocked r) refl
     where
-      by : (t : Bool) → is_blocked r ≡ t → IsKept limit store' log' ws' cap'
+      by : (t : Bool) → is_blocked r ≡ t → IsSlotKept limit store' log' ws' cap'
       by true e = kept_begin ws ws' cap cap' k m b e (after ∙ ap (λ t. cond t (ws ++ wait n p ∷ []) ws) e)
       by false e =
-          subst (λ l. IsKept limit store' log' l cap') (sym (after ∙ ap (λ t. cond t (ws ++ wait n p ∷ []) ws) e))
+          subst (λ l. IsSlotKept limit store' log' l cap') (sym (after ∙ ap (λ t. cond t (ws ++ wait n p ∷ []) ws) e))
           (kept_enter limit store store' log items log' ws cap cap' (entry n st r) k m (clear_operated st p ws b.operates) (omega (arith, b.enough)))
 
 -- more room
-pub kept_room : (limit : Limits) (store : State) (log items : List Entry) (ws : List Wait) (cap cap' : ℕ) → items ≡ log → cap ≤ cap' → IsKept limit store log ws cap → IsKept limit store items ws cap'
+pub kept_room : (limit : Limits) (store : State) (log items : List Entry) (ws : List Wait) (cap cap' : ℕ) → items ≡ log → cap ≤ cap' → IsSlotKept limit store log ws cap → IsSlotKept limit store items ws cap'
 kept_room limit store log items ws cap cap' same more k =
-    subst (λ l. IsKept limit store l ws cap') (sym same)
+    subst (λ l. IsSlotKept limit store l ws cap') (sym same)
     (record { legal = k.legal; store_is = k.store_is; waiting = k.waiting; apart = k.apart; enough = omega (arith, k.enough, more) })
 
 -- a handle for which a seat waits is busy
-pub busy_kept : (limit : Limits) (store : State) (log : List Entry) (ws : List Wait) (cap n : ℕ) (p : Place) → IsKept limit store log ws cap → waits_by n ws ≡ p ∷ [] → IsBusy store p
+pub busy_kept : (limit : Limits) (store : State) (log : List Entry) (ws : List Wait) (cap n : ℕ) (p : Place) → IsSlotKept limit store log ws cap → waits_by n ws ≡ p ∷ [] → IsBusy store p
 busy_kept limit store log ws cap n p k own =
     let f = found (λ w. IsBusy store w.place) n p ws (each_map (IsGood store log) (λ w. IsBusy store w.place) ws (λ w g. g.1) k.waiting) own in
     subst (IsBusy store) f.2 f.1
 
 -- what is kept of the waits, by the history alone
-pub kept_waits : (limit : Limits) (store : State) (log : List Entry) (ws : List Wait) (cap : ℕ) → IsKept limit store log ws cap → AreWaits limit log ws
+pub kept_waits : (limit : Limits) (store : State) (log : List Entry) (ws : List Wait) (cap : ℕ) → IsSlotKept limit store log ws cap → AreWaits limit log ws
 kept_waits limit store log ws cap k = record { good = subst (λ s. Each (IsGood s log) ws) k.store_is k.waiting; apart = k.apart }

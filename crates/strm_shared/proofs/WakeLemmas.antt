@@ -31,7 +31,7 @@ use Rattle.strm_machine.proofs.NamedEndLemmas.{on_end-found}
 use Rattle.strm_machine.proofs.ReactionLemmas.{reaction-by}
 use Rattle.strm_machine.proofs.RefusalLemmas.{named_ok, move_fits}
 use Rattle.strm_shared.specs.Places.{is_host_act}
-use Rattle.strm_shared.specs.Reaching.{IsReached}
+use Rattle.strm_shared.specs.Reaching.{IsStateReached}
 use Rattle.strm_shared.specs.Wakes.{ends_waits_in, ends_waits, IsEndKept, IsQuiet, WakesNone}
 use Rattle.strm_shared.proofs.StayLemmas.{set_either}
 
@@ -51,7 +51,7 @@ owner_kept Reading Writing stream owner there here = record {
 }
 owner_kept Reading Reading stream owner there here = record { operation = refl; report = refl }
 
-module _ (state : State) (reached : IsReached state) where
+module _ (state : State) (reached : IsStateReached state) where
   -- the streams are as they were
   quiet_same : (new : State) → new.streams ≡ state.streams → new.trapped ≡ state.trapped → IsQuiet state new
   quiet_same new same trapped = record {

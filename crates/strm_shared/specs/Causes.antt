@@ -14,11 +14,11 @@ use Rattle.strm_shared.specs.declared.errors.SharedError.TheVariants.{HostStep, 
 use Rattle.strm_shared.specs.declared.store.SharedStore.{SharedStore}
 use Rattle.strm_shared.specs.declared.store.Closed.{Closed}
 use Rattle.strm_shared.specs.declared.view.View.{View}
-use Rattle.strm_shared.specs.Histories.{entry, IsLegal, state_of, calls_by, AreCallsIn}
-use Rattle.strm_shared.specs.Places.{named, operated, is_host_step, is_move, is_blocked, is_refused_busy}
+use Rattle.strm_shared.specs.Histories.{entry, IsLegal, state_after, calls_by, AreCallsIn}
+use Rattle.strm_shared.specs.Places.{place_named, operated, is_host_step, is_move, is_blocked, is_refused_busy}
 use Rattle.strm_shared.specs.Plays.{longer}
-use Rattle.strm_shared.specs.Waits.{wait, Has, IsClear, Answers}
-use Rattle.strm_shared.specs.Tokens.{Token, last, IsOneHistory, Rises, Stays, Idles, Later, Called, Begun, Delivered}
+use Rattle.strm_shared.specs.Waits.{wait, Has, IsClear, AnswersWait}
+use Rattle.strm_shared.specs.Tokens.{Token, last_number, IsOneHistory, TicketRises, HistoryStays, Idles, Later, Called, Begun, Delivered}
 
 -- the seat is one of this store's
 abbrev pub IsOf : SharedStore → Token → Type 0
@@ -38,7 +38,7 @@ IsHostStep step result = (is_host_step step ≡ true) ↔ (result ≡ Err HostSt
 -- carries
 abbrev pub IsWorn : Step → Token → Result Reply SharedError → Type 0
 IsWorn step new result =
-    ((is_host_step step ≡ false) × (new.top_ticket ≡ last)) ↔ (result ≡ Err (Worn last))
+    ((is_host_step step ≡ false) × (new.top_ticket ≡ last_number)) ↔ (result ≡ Err (Worn last_number))
 
 -- CALL
 
@@ -49,8 +49,8 @@ Failed old step HostStep new = (is_host_step step ≡ true) × (new ≡ old)
 Failed old step InSet new = ⊥
 Failed old step (Waiting seat) new =
     Idles old new × (seat ≢ new.number)
-    × ((there : Place) × (named step ≡ Some there) × Has (wait seat there) new.found)
-Failed old step (Worn ticket) new = (ticket ≡ last) × Stays old new
+    × ((there : Place) × (place_named step ≡ Some there) × Has (wait seat there) new.found)
+Failed old step (Worn ticket) new = (ticket ≡ last_number) × HistoryStays old new
 Failed old step (NoSeat seats) new = ⊥
 Failed old step OutOfMemory new = Idles old new × IsClear step new.found
 
@@ -61,18 +61,18 @@ Failed old step OutOfMemory new = Idles old new × IsClear step new.found
 abbrev pub NotBegun : Token → Place → SharedError → Token → Type 0
 NotBegun old there HostStep new = ⊥
 NotBegun old there InSet new =
-    Idles old new × (is_in_set (state_of new.limits new.seen) there.guest there.handle ≡ true)
+    Idles old new × (is_in_set (state_after new.limits new.seen) there.guest there.handle ≡ true)
 NotBegun old there (Waiting seat) new = ⊥
-NotBegun old there (Worn ticket) new = (ticket ≡ last) × Stays old new
+NotBegun old there (Worn ticket) new = (ticket ≡ last_number) × HistoryStays old new
 NotBegun old there (NoSeat seats) new = ⊥
 NotBegun old there OutOfMemory new =
-    Idles old new × (is_in_set (state_of new.limits new.seen) there.guest there.handle ≡ false)
+    Idles old new × (is_in_set (state_after new.limits new.seen) there.guest there.handle ≡ false)
 
 -- no ticket was left, after some idle turns; the wait stays
 abbrev pub GivesUp : Token → SharedError → Token → Type 0
 GivesUp old (Worn ticket) new =
-    (ticket ≡ last) × (new.top_ticket ≡ last) × IsPrefix old.seen new.seen × (new.mine ≡ old.mine)
-    × (new.waiting ≡ old.waiting) × (new.ended ≡ old.ended) × Rises old new × IsOneHistory new
+    (ticket ≡ last_number) × (new.top_ticket ≡ last_number) × IsPrefix old.seen new.seen × (new.mine ≡ old.mine)
+    × (new.waiting ≡ old.waiting) × (new.ended ≡ old.ended) × TicketRises old new × IsOneHistory new
 GivesUp old HostStep new = ⊥
 GivesUp old InSet new = ⊥
 GivesUp old (Waiting seat) new = ⊥
@@ -85,7 +85,7 @@ Waited old step there answer new =
     (middle : Token) × (reply : Reply)
     × Begun old there (entry old.number step (replies.Code codes.Blocked)) middle
     × Delivered middle (entry old.number (steps.Event there.guest there.handle) reply) new
-    × Answers reply answer
+    × AnswersWait reply answer
 
 -- a read or write is never answered Blocked: its reply is another, or it waited
 abbrev pub Synced : Token → Step → Place → Reply → Token → Type 0
@@ -106,8 +106,8 @@ CallsBy None old step answer new = Called old (entry old.number step answer) new
 CallsBy (Some there) old step answer new = Synced old step there answer new
 
 -- the same, of a step
-abbrev pub Calls : Token → Step → Reply → Token → Type 0
-Calls old step answer new = CallsBy (operated step) old step answer new
+abbrev pub CallsStep : Token → Step → Reply → Token → Type 0
+CallsStep old step answer new = CallsBy (operated step) old step answer new
 
 -- an error of `sync`, by the handle that the step reads or writes
 abbrev pub FailsBy : Option Place → Token → Step → SharedError → Token → Type 0
@@ -115,8 +115,8 @@ FailsBy None old step error new = Failed old step error new
 FailsBy (Some there) old step error new = NotSynced old step there error new
 
 -- the same, of a step
-abbrev pub Fails : Token → Step → SharedError → Token → Type 0
-Fails old step error new = FailsBy (operated step) old step error new
+abbrev pub FailsStep : Token → Step → SharedError → Token → Type 0
+FailsStep old step error new = FailsBy (operated step) old step error new
 
 -- SYNC_MOVE
 
@@ -165,6 +165,6 @@ Joined old from new =
 -- the seats that ended in it, and the store that the machine comes to by it; and a ticket was left
 abbrev pub Ends : Token → Closed → Type 0
 Ends seat closed =
-    IsLegal seat.limits closed.history.items × (closed.store ≡ state_of seat.limits closed.history.items)
+    IsLegal seat.limits closed.history.items × (closed.store ≡ state_after seat.limits closed.history.items)
     × IsPrefix seat.seen closed.history.items × (calls_by seat.number closed.history.items ≡ seat.mine)
-    × AreCallsIn seat.ended closed.history.items × (seat.top_ticket < last)
+    × AreCallsIn seat.ended closed.history.items × (seat.top_ticket < last_number)

@@ -31,8 +31,8 @@ Replies state (first ∷ more) =
     ((react state first.step).reply ≡ first.reply) × Replies (react state first.step).state more
 
 -- the state after a history; the tag of a store that threads share is 0
-abbrev pub state_of : Limits → List Entry → State
-state_of limits log = after (empty 0 limits) log
+abbrev pub state_after : Limits → List Entry → State
+state_after limits log = after (empty 0 limits) log
 
 -- a legal history
 abbrev pub IsLegal : Limits → List Entry → Type 0

@@ -36,8 +36,8 @@ named_in (OnSet guest set (Join handle)) = Some (place guest handle)
 named_in _ = None
 
 -- the same, of a step
-abbrev pub named : Step → Option Place
-named step = named_in (act_of step)
+abbrev pub place_named : Step → Option Place
+place_named step = named_in (act_of step)
 
 -- the handle whose end is read or written
 abbrev pub operated_in : Act → Option Place

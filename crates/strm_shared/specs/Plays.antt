@@ -18,8 +18,8 @@ abbrev pub Seated : Type 0
 Seated = Me (Option Account) View
 
 -- what a step tells: of the step, the seat before, the number found, and the seat after
-abbrev pub Play : Type 1
-Play = Step (Option Account) → Seated → ℕ → Seated → Type 0
+abbrev pub SeatPlay : Type 1
+SeatPlay = Step (Option Account) → Seated → ℕ → Seated → Type 0
 
 -- the view of the first seat of a store
 abbrev pub first_view : Limits → View
@@ -46,12 +46,12 @@ own (Some number) log = calls_by number log
 
 -- the handles for which the seat's number waits
 abbrev pub own_waits : Option ℕ → List Wait → List Place
-own_waits None waits = []
-own_waits (Some number) waits = waits_by number waits
+own_waits None seat_waits = []
+own_waits (Some number) seat_waits = waits_by number seat_waits
 
 -- it passed the turn, and left this value in the slot
-abbrev pub passed : View → Account → View
-passed view left = record view { ticket = None; holds = false; seen = left.log; mine = own view.number left.log; left = left.waits; waiting = own_waits view.number left.waits; turns = view.turns + 1 }
+abbrev pub turn_passed : View → Account → View
+turn_passed view left = record view { ticket = None; holds = false; seen = left.log; mine = own view.number left.log; left = left.waits; waiting = own_waits view.number left.waits; turns = view.turns + 1 }
 
 -- what a seat learns of the value when its turn comes
 pub record Enters (view : View) (found : Account) : Type 0 where
@@ -73,32 +73,32 @@ abbrev pub RecallsAll : View → Type 0
 RecallsAll view = Recalls view.number view.seen view.mine view.behind view.ended
 
 -- the seat and those that ended in it have different numbers
-abbrev pub IsApart : View → Type 0
-IsApart view = (n : ℕ) → view.number ≡ Some n → Differ (n ∷ numbers_of view.ended)
+abbrev pub IsSeatApart : View → Type 0
+IsSeatApart view = (n : ℕ) → view.number ≡ Some n → Differ (n ∷ numbers_of view.ended)
 
 -- a look that changes nothing: it tells that what the seat has seen is one history
-abbrev pub recalls : Play
-recalls step me found new = (new ≡ me) × RecallsAll me.0 × IsApart me.0
+abbrev pub recalls : SeatPlay
+recalls step me found new = (new ≡ me) × RecallsAll me.0 × IsSeatApart me.0
 
 -- a look at the ticket word: no number that it ever had is greater
-abbrev pub looks : Play
+abbrev pub looks : SeatPlay
 looks step me found new = (new ≡ (looked me.0 found, me.1)) × (me.0.top_ticket ≤ found)
 
 -- a draw: it has the ticket, where no other draw came between
-abbrev pub draws : Play
+abbrev pub draws : SeatPlay
 draws step me found new =
     (found ≡ step.first → new ≡ (queued me.0 found, me.1)) × (found ≢ step.first → new ≡ me)
 
 -- a look at whose turn it is: where it is the seat's, it takes the slot's value
-abbrev pub waits : Play
-waits step me found new =
+abbrev pub seat_waits : SeatPlay
+seat_waits step me found new =
     (me.0.ticket ≡ Some found → (value : Account) × (new ≡ (holding me.0 value, (0, Some value) ∷ [])) × Enters me.0 value)
     × (me.0.ticket ≢ Some found → new ≡ me)
 
 -- the turn is passed, once the value lies in the slot again
-abbrev pub passes : Play
+abbrev pub passes : SeatPlay
 passes step me found new =
-    (value : Account) → me.1 ≡ (0, Some value) ∷ [] → (new ≡ (passed me.0 value, [])) × RecallsAll new.0
+    (value : Account) → me.1 ≡ (0, Some value) ∷ [] → (new ≡ (turn_passed me.0 value, [])) × RecallsAll new.0
 
 -- what a turn may do: one entry of the seat, or an idle turn; and the waits of others stay
 abbrev pub IsTurn : View → Account → Type 0
@@ -115,17 +115,17 @@ abbrev pub looked_seats : View → ℕ → View
 looked_seats view number = record view { top_seats = number }
 
 -- it has drawn a number for a new seat, and the word of seats is past that
-abbrev pub numbered : View → ℕ → View
-numbered view number = record view { fresh = Some number; top_seats = number + 1 }
+abbrev pub seat_numbered : View → ℕ → View
+seat_numbered view number = record view { fresh = Some number; top_seats = number + 1 }
 
 -- a look at the word of seats
-abbrev pub looks_seats : Play
+abbrev pub looks_seats : SeatPlay
 looks_seats step me found new = (new ≡ (looked_seats me.0 found, me.1)) × (me.0.top_seats ≤ found)
 
 -- a draw of a number: no call that the seat has seen is of it
-abbrev pub numbers : Play
+abbrev pub numbers : SeatPlay
 numbers step me found new =
-    (found ≡ step.first → (new ≡ (numbered me.0 found, me.1)) × (calls_by found me.0.seen ≡ []))
+    (found ≡ step.first → (new ≡ (seat_numbered me.0 found, me.1)) × (calls_by found me.0.seen ≡ []))
     × (found ≢ step.first → new ≡ me)
 
 -- the seat that was split: the drawn number is the new one's
@@ -150,9 +150,9 @@ own_ended None calls = []
 own_ended (Some number) calls = (number, calls) ∷ []
 
 -- the seat that another ended in: it has seen the longer history, and keeps the other's calls
-abbrev pub joined : View → View → View
-joined view other = record view { ended = view.ended ++ (other.ended ++ own_ended other.number other.mine); seen = longer view.seen other.seen; behind = shorter view.seen other.seen; top_ticket = max view.top_ticket other.top_ticket; top_seats = max view.top_seats other.top_seats }
+abbrev pub seats_joined : View → View → View
+seats_joined view other = record view { ended = view.ended ++ (other.ended ++ own_ended other.number other.mine); seen = longer view.seen other.seen; behind = shorter view.seen other.seen; top_ticket = max view.top_ticket other.top_ticket; top_seats = max view.top_seats other.top_seats }
 
 -- what is left of the seat that ended
-abbrev pub spent : View
-spent = record { limits = record { handles = 0; places = 0 }; number = None; fresh = None; ticket = None; holds = false; seen = []; mine = []; ended = []; behind = []; idle = 0; found = []; left = []; waiting = []; turns = 0; top_ticket = 0; top_seats = 0 }
+abbrev pub seat_spent : View
+seat_spent = record { limits = record { handles = 0; places = 0 }; number = None; fresh = None; ticket = None; holds = false; seen = []; mine = []; ended = []; behind = []; idle = 0; found = []; left = []; waiting = []; turns = 0; top_ticket = 0; top_seats = 0 }

@@ -7,7 +7,7 @@ use Rattle.strm_machine.specs.declared.streams.Duty.TheVariants.{Unused}
 use Rattle.strm_machine.proofs.HeldLemmas.{StateIsHeld}
 
 -- it is sound, handles and ends agree, and no host end has one
-pub record IsReached (state : State) : Type 0 where
+pub record IsStateReached (state : State) : Type 0 where
   pub sound : IsSound state
   pub held : StateIsHeld state
   pub hosts : HostsHold state

@@ -32,8 +32,8 @@ IsReplyPlaced count (answers.Bytes bytes) = bytes < count
 IsReplyPlaced count _ = Unit {0}
 
 -- and of a row
-abbrev pub IsPlaced : ℕ → Row → Type 0
-IsPlaced count row = IsStepPlaced count row.step × IsReplyPlaced count row.reply
+abbrev pub IsRowPlaced : ℕ → Row → Type 0
+IsRowPlaced count row = IsStepPlaced count row.step × IsReplyPlaced count row.reply
 
 -- the chunk of a reply, if it has one
 abbrev pub chunks_of_reply : Reply → List (List ℕ)
@@ -45,9 +45,9 @@ abbrev pub entries : List (List ℕ) → List Row → List Entry
 entries chunks rows = map (whole chunks) rows
 
 -- for how many entries there is room: an entry has at most two chunks
-abbrev pub room_in : Grown Row → Grown (List ℕ) → ℕ
-room_in rows chunks = min rows.room (length rows.items + (chunks.room - length chunks.items) / 2)
+abbrev pub room_in_rows : Grown Row → Grown (List ℕ) → ℕ
+room_in_rows rows chunks = min rows.room (length rows.items + (chunks.room - length chunks.items) / 2)
 
 -- all places are places of chunks
 abbrev pub AllPlaced : List (List ℕ) → List Row → Type 0
-AllPlaced chunks rows = All (IsPlaced (length chunks)) rows
+AllPlaced chunks rows = All (IsRowPlaced (length chunks)) rows

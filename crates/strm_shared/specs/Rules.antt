@@ -17,9 +17,9 @@ use Rattle.strm_shared.specs.Waits.{waits_by}
 use Rattle.strm_shared.specs.Accounts.{Account, account}
 
 -- the numbers of all items together
-abbrev pub total : {A : Type 0} → (A → ℕ) → List A → ℕ
-total f [] = 0
-total f (first ∷ more) = f first + total f more
+abbrev pub total_by : {A : Type 0} → (A → ℕ) → List A → ℕ
+total_by f [] = 0
+total_by f (first ∷ more) = f first + total_by f more
 
 -- 1 where the option has this number, else 0
 abbrev pub is : ℕ → Option ℕ → ℕ
@@ -34,7 +34,7 @@ has_ticket ticket view = is ticket view.ticket
 abbrev pub has_number : ℕ → View → ℕ
 has_number number view =
     is number view.number + is number view.fresh
-    + total (λ (ended : ℕ × List Entry). is number (Some ended.0)) view.ended
+    + total_by (λ (ended : ℕ × List Entry). is number (Some ended.0)) view.ended
 
 -- what the rule says of one seat
 pub record SeatFits (idle ticket serving seats : ℕ) (log : List Entry) (waits : List Wait) (view : View) : Type 0 where
@@ -65,10 +65,10 @@ pub record Orderly (limits : Limits) (table : State (Option Account) View) : Typ
   pub few : ticket < 18446744073709551616
   pub count : serving ≡ length log + idle
   pub slot : (get_elem? table.homes 0 ≡ some (some (Some (account limits log idle waits)))) ⊎ IsSlotOut table
-  pub passed : (x : ℕ) → x < serving → total (has_ticket x) table.views ≡ 0
-  pub undrawn : (x : ℕ) → ticket ≤ x → total (has_ticket x) table.views ≡ 0
-  pub tickets : (x : ℕ) → total (has_ticket x) table.views ≤ 1
-  pub numbers : (x : ℕ) → total (has_number x) table.views ≤ 1
-  pub unnumbered : (x : ℕ) → seats ≤ x → total (has_number x) table.views ≡ 0
+  pub passed : (x : ℕ) → x < serving → total_by (has_ticket x) table.views ≡ 0
+  pub undrawn : (x : ℕ) → ticket ≤ x → total_by (has_ticket x) table.views ≡ 0
+  pub tickets : (x : ℕ) → total_by (has_ticket x) table.views ≤ 1
+  pub numbers : (x : ℕ) → total_by (has_number x) table.views ≤ 1
+  pub unnumbered : (x : ℕ) → seats ≤ x → total_by (has_number x) table.views ≡ 0
   pub strangers : (x : ℕ) → seats ≤ x → (calls_by x log ≡ []) × (waits_by x waits ≡ [])
   pub fits : (j : ℕ) (view : View) → get_elem? table.views j ≡ some view → SeatFits idle ticket serving seats log waits view

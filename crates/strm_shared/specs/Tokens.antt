@@ -8,9 +8,9 @@ use Rattle.strm_shared.specs.declared.entry.Entry.{Entry}
 use Rattle.strm_shared.specs.declared.entry.Place.{Place}
 use Rattle.strm_shared.specs.declared.entry.Wait.{Wait}
 use Rattle.strm_shared.specs.declared.view.View.{View}
-use Rattle.strm_shared.specs.Histories.{IsLegal, state_of, calls_by, numbers_of, AreCallsIn, Differ}
-use Rattle.strm_shared.specs.Plays.{Seated, RecallsAll, IsApart}
-use Rattle.strm_shared.specs.Waits.{wait, waits_by, without, begun, waits_for, IsClear, AreWaits}
+use Rattle.strm_shared.specs.Histories.{IsLegal, state_after, calls_by, numbers_of, AreCallsIn, Differ}
+use Rattle.strm_shared.specs.Plays.{Seated, RecallsAll, IsSeatApart}
+use Rattle.strm_shared.specs.Waits.{wait, waits_by, without, waits_begun, waits_for, IsClear, AreWaits}
 
 -- a seat: of which table, its number and the store's limits; the history that it has seen, its own entries
 -- there and those of seats that ended in it; the waits that its last turn found and those that it left; the
@@ -36,8 +36,8 @@ token table number view =
     record { table = table; number = number; limits = view.limits; seen = view.seen; mine = view.mine; ended = view.ended; found = view.found; left = view.left; waiting = view.waiting; turns = view.turns; top_ticket = view.top_ticket; top_seats = view.top_seats }
 
 -- 2^64 - 1, which no ticket and no seat's number is
-abbrev pub last : ℕ
-last = 18446744073709551615
+abbrev pub last_number : ℕ
+last_number = 18446744073709551615
 
 -- between its turns a seat has no ticket, and has seen one legal history, with its own calls
 pub record Rests (number : ℕ) (view : View) : Type 0 where
@@ -47,12 +47,12 @@ pub record Rests (number : ℕ) (view : View) : Type 0 where
   pub bare : view.fresh ≡ None
   pub legal : IsLegal view.limits view.seen
   pub recalls : RecallsAll view
-  pub apart : IsApart view
+  pub apart : IsSeatApart view
   pub below : number < view.top_seats
 
 -- between its calls a seat waits for nothing, unless no ticket is left
 abbrev pub Unbound : View → Type 0
-Unbound view = (view.waiting ≡ []) ⊎ (last ≤ view.top_ticket)
+Unbound view = (view.waiting ≡ []) ⊎ (last_number ≤ view.top_ticket)
 
 -- a seat that holds nothing, between two turns of one call
 abbrev pub Pauses : ℕ → Seated → Type 0
@@ -84,8 +84,8 @@ abbrev pub Continues : Token → Token → Type 0
 Continues old new = IsPrefix old.seen new.seen × (new.ended ≡ old.ended) × IsOneHistory new
 
 -- the greatest ticket that was found doesn't fall, and what is known of the word of seats stays
-abbrev pub Rises : Token → Token → Type 0
-Rises old new = (old.top_ticket ≤ new.top_ticket) × (new.top_seats ≡ old.top_seats)
+abbrev pub TicketRises : Token → Token → Type 0
+TicketRises old new = (old.top_ticket ≤ new.top_ticket) × (new.top_seats ≡ old.top_seats)
 
 -- the waits that a turn finds are waits after this history, and the seat's own there are for the handles for
 -- which it waits
@@ -94,7 +94,7 @@ pub record Finds (before : List Entry) (old new : Token) : Type 0 where
   pub own : waits_by new.number new.found ≡ old.waiting
 
 -- one entry was made, the last of the history, after these
-pub record Adds (before : List Entry) (old : Token) (made : Entry) (new : Token) : Type 0 where
+pub record AddsEntry (before : List Entry) (old : Token) (made : Entry) (new : Token) : Type 0 where
   pub grew : IsPrefix old.seen before
   pub ends : new.seen ≡ before ++ made ∷ []
   pub legal : IsLegal new.limits new.seen
@@ -102,8 +102,8 @@ pub record Adds (before : List Entry) (old : Token) (made : Entry) (new : Token)
   pub own : calls_by new.number new.seen ≡ new.mine
   pub over : (new.ended ≡ old.ended) × Over new
   pub finds : Finds before old new
-  pub rises : Rises old new
-  pub top : new.top_ticket < last
+  pub rises : TicketRises old new
+  pub top : new.top_ticket < last_number
 
 -- an idle turn: it made no entry
 pub record Idles (old new : Token) : Type 0 where
@@ -115,15 +115,15 @@ pub record Idles (old new : Token) : Type 0 where
   pub turns : new.turns ≡ old.turns + 1
   pub waits : (new.left ≡ new.found) × (new.waiting ≡ old.waiting)
   pub finds : Finds new.seen old new
-  pub rises : Rises old new
-  pub top : new.top_ticket < last
+  pub rises : TicketRises old new
+  pub top : new.top_ticket < last_number
 
 -- no turn came: no ticket was left. What was seen is one history
-abbrev pub Stays : Token → Token → Type 0
-Stays old new =
+abbrev pub HistoryStays : Token → Token → Type 0
+HistoryStays old new =
     (new.seen ≡ old.seen) × (new.mine ≡ old.mine) × (new.turns ≡ old.turns) × (new.found ≡ old.found)
-    × (new.left ≡ old.left) × (new.waiting ≡ old.waiting) × (new.ended ≡ old.ended) × (new.top_ticket ≡ last)
-    × Rises old new × IsOneHistory new
+    × (new.left ≡ old.left) × (new.waiting ≡ old.waiting) × (new.ended ≡ old.ended) × (new.top_ticket ≡ last_number)
+    × TicketRises old new × IsOneHistory new
 
 -- some idle turns, or none
 pub record Later (old new : Token) : Type 0 where
@@ -132,33 +132,33 @@ pub record Later (old new : Token) : Type 0 where
   pub turns : old.turns ≤ new.turns
   pub ended : new.ended ≡ old.ended
   pub waiting : new.waiting ≡ old.waiting
-  pub rises : Rises old new
+  pub rises : TicketRises old new
 
 -- a turn with one entry, which names no handle for which a seat waits, and leaves the waits
 abbrev pub Called : Token → Entry → Token → Type 0
 Called old made new =
-    ((before : List Entry) × Adds before old made new) × (new.turns ≡ old.turns + 1)
+    ((before : List Entry) × AddsEntry before old made new) × (new.turns ≡ old.turns + 1)
     × (new.left ≡ new.found) × (new.waiting ≡ old.waiting) × IsClear made.step new.found
 
 -- a turn with the read or write of a handle that was in no set; where it is answered Blocked, the seat waits
 -- for the report of that handle, and for no other
 abbrev pub Begun : Token → Place → Entry → Token → Type 0
 Begun old there made new =
-    ((before : List Entry) × Adds before old made new
-    × (is_in_set (state_of new.limits before) there.guest there.handle ≡ false))
-    × (new.turns ≡ old.turns + 1) × (new.left ≡ begun made.reply new.found (wait made.seat there))
+    ((before : List Entry) × AddsEntry before old made new
+    × (is_in_set (state_after new.limits before) there.guest there.handle ≡ false))
+    × (new.turns ≡ old.turns + 1) × (new.left ≡ waits_begun made.reply new.found (wait made.seat there))
     × (new.waiting ≡ waits_for made.reply there)
 
 -- some turns, the last with the event that ends the seat's wait, after which it waits for nothing
 abbrev pub Delivered : Token → Entry → Token → Type 0
 Delivered old made new =
-    ((before : List Entry) × Adds before old made new) × (old.turns < new.turns)
+    ((before : List Entry) × AddsEntry before old made new) × (old.turns < new.turns)
     × (new.left ≡ without made.seat new.found) × (new.waiting ≡ [])
 
 -- a new seat's number, by what the seat that it is split from knows of the word of seats before and after: it
 -- is none that the word had passed before, the word is past it then, and it isn't the last
 abbrev pub IsNextNumber : ℕ → ℕ → ℕ → Type 0
-IsNextNumber before after number = (before ≤ number) × (after ≡ number + 1) × (number < last)
+IsNextNumber before after number = (before ≤ number) × (after ≡ number + 1) × (number < last_number)
 
 -- a new seat has another number and made no call, and has seen as much as the one that it was split from, by
 -- what that one was before and is after

@@ -11,8 +11,8 @@ use Rattle.strm_machine.specs.declared.steps.Step.{Step}
 use Rattle.strm_shared.specs.declared.entry.Entry.{Entry}
 use Rattle.strm_shared.specs.declared.entry.Place.{Place}
 use Rattle.strm_shared.specs.declared.entry.Wait.{Wait}
-use Rattle.strm_shared.specs.Histories.{IsLegal, state_of}
-use Rattle.strm_shared.specs.Places.{named, operated, told_in, is_blocked, IsBusy, IsInNoSet}
+use Rattle.strm_shared.specs.Histories.{IsLegal, state_after}
+use Rattle.strm_shared.specs.Places.{place_named, operated, told_in, is_blocked, IsBusy, IsInNoSet}
 
 -- LISTS OF WAITS
 
@@ -49,8 +49,8 @@ Apart [] = Unit {0}
 Apart (first ∷ more) = Each (λ other. other.place ≢ first.place) more × Apart more
 
 -- the waits after a read or write that was to begin: where it is answered Blocked there is one more
-abbrev pub begun : Reply → List Wait → Wait → List Wait
-begun reply waits one = cond (is_blocked reply) (waits ++ one ∷ []) waits
+abbrev pub waits_begun : Reply → List Wait → Wait → List Wait
+waits_begun reply waits one = cond (is_blocked reply) (waits ++ one ∷ []) waits
 
 -- the handles for which the seat waits then, if it waited for none before
 abbrev pub waits_for : Reply → Place → List Place
@@ -58,7 +58,7 @@ waits_for reply there = cond (is_blocked reply) (there ∷ []) []
 
 -- no seat waits for the handle that the step names
 abbrev pub IsClear : Step → List Wait → Type 0
-IsClear step waits = Each (λ one. named step ≢ Some one.place) waits
+IsClear step waits = Each (λ one. place_named step ≢ Some one.place) waits
 
 -- WAITS AND HISTORIES
 
@@ -68,8 +68,8 @@ is_at there None = false
 is_at there (Some other) = (other.guest == there.guest) && (other.handle == there.handle)
 
 -- the step reads or writes the end of this handle
-abbrev pub reads : Place → Step → Bool
-reads there step = is_at there (operated step)
+abbrev pub operates_on : Place → Step → Bool
+operates_on there step = is_at there (operated step)
 
 -- the reply tells a report of the end of this handle
 abbrev pub reports : Place → Step → Reply → Bool
@@ -78,7 +78,7 @@ reports there step reply = is_at there (told_in (act_of step) reply)
 -- whether a seat's read or write of a handle is answered Blocked and not reported, after one more entry
 abbrev pub awaits_next : ℕ → Place → Bool → Entry → Bool
 awaits_next number there before next =
-    cond ((next.seat == number) && (reads there next.step && is_blocked next.reply)) true
+    cond ((next.seat == number) && (operates_on there next.step && is_blocked next.reply)) true
     (cond (reports there next.step next.reply) false before)
 
 -- the same, after more entries
@@ -97,26 +97,26 @@ IsGood store log one = (awaited one log ≡ true) × IsBusy store one.place × I
 
 -- these are waits after a history: each is good, and no two wait for one handle
 pub record AreWaits (limits : Limits) (log : List Entry) (waits : List Wait) : Type 0 where
-  pub good : Each (IsGood (state_of limits log) log) waits
+  pub good : Each (IsGood (state_after limits log) log) waits
   pub apart : Apart waits
 
 -- what the slot's value keeps: for each wait there is room for one entry more
-pub record IsKept (limits : Limits) (store : State) (log : List Entry) (waits : List Wait) (room : ℕ) : Type 0 where
+pub record IsSlotKept (limits : Limits) (store : State) (log : List Entry) (waits : List Wait) (room : ℕ) : Type 0 where
   pub legal : IsLegal limits log
-  pub store_is : store ≡ state_of limits log
+  pub store_is : store ≡ state_after limits log
   pub waiting : Each (IsGood store log) waits
   pub apart : Apart waits
   pub enough : length log + length waits ≤ room
 
 -- what the event step of a read or write that waited replies: the store is trapped, or a report, which is
 -- not Blocked
-abbrev pub Delivers : Reply → Type 0
-Delivers reply =
+abbrev pub DeliversReport : Reply → Type 0
+DeliversReport reply =
     (reply ≡ replies.StoreTrapped)
     ⊎ ((code : ReturnCode) × (reply ≡ replies.Event (Some code)) × (is_blocked (replies.Code code) ≡ false))
 
 -- what a call that waited answers by that reply
-abbrev pub Answers : Reply → Reply → Type 0
-Answers reply answer =
+abbrev pub AnswersWait : Reply → Reply → Type 0
+AnswersWait reply answer =
     ((reply ≡ replies.StoreTrapped) × (answer ≡ replies.StoreTrapped))
     ⊎ ((code : ReturnCode) × (reply ≡ replies.Event (Some code)) × (answer ≡ replies.Code code))

@@ -16,7 +16,7 @@ use Rattle.strm_machine.specs.declared.steps.Step.{Step}
 use Rattle.strm_machine.specs.declared.streams.Side.{Side}
 use Rattle.strm_machine.specs.declared.streams.Stream.{Stream}
 use Rattle.strm_shared.specs.Places.{is_host_step}
-use Rattle.strm_shared.specs.Reaching.{IsReached}
+use Rattle.strm_shared.specs.Reaching.{IsStateReached}
 
 -- an end is read, written, dropped or cancelled
 abbrev pub ends_waits_of_end : EndAct → Bool
@@ -61,4 +61,4 @@ pub record IsQuiet (old new : State) : Type 0 where
 
 -- the step brings no report and ends no operation, in whichever state: nobody who waits need look
 abbrev pub WakesNone : Step → Type 0
-WakesNone step = is_host_step step ≡ false → (state : State) → IsReached state → IsQuiet state (react state step).state
+WakesNone step = is_host_step step ≡ false → (state : State) → IsStateReached state → IsQuiet state (react state step).state

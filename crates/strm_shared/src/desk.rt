@@ -5,9 +5,9 @@
 ghost use Rattle.std.specs.Prelude.{◌≡◌, ◌-◌, ◌^◌, ◌<◌, [], ◌∷◌, true, false, IfOk, OnErr, Some, MatchOption};
 ghost use Rattle.strm_machine.specs.WaitableSets.{is_in_set};
 ghost use Rattle.strm_machine.specs.declared.steps.Step.TheVariants as steps;
-ghost use Rattle.strm_shared.specs.Places.{named, operated, is_host_step, is_move, is_refused_busy};
-ghost use Rattle.strm_shared.specs.Histories.{entry, state_of, IsLegal};
-ghost use Rattle.strm_shared.specs.Waits.{wait, waits_by, without, begun, IsClear, AreWaits, Has, Delivers};
+ghost use Rattle.strm_shared.specs.Places.{place_named, operated, is_host_step, is_move, is_refused_busy};
+ghost use Rattle.strm_shared.specs.Histories.{entry, state_after, IsLegal};
+ghost use Rattle.strm_shared.specs.Waits.{wait, waits_by, without, waits_begun, IsClear, AreWaits, Has, DeliversReport};
 ghost use Rattle.strm_shared.specs.Accounts.{account, opened, entered, entered_with, idled};
 
 use crate::entry::Place;
@@ -56,7 +56,7 @@ impl Desk {
     // The seat that waits for the handle that the step names.
     pub(crate) fn waiter(&self, step: &Step) -> Option<u64>
         ensures { MatchOption result (IsClear step.now self.now.waits) (λ seat.
-            (there : _) × (named step.now ≡ Some there) × Has (wait seat there) self.now.waits) }
+            (there : _) × (place_named step.now ≡ Some there) × Has (wait seat there) self.now.waits) }
     {
         self.ledger.waiter(step)
     }
@@ -64,7 +64,7 @@ impl Desk {
     // Whether a handle is in a set.
     pub(crate) fn is_member(&self, place: Place) -> bool
         ensures { result
-            ≡ is_in_set (state_of self.now.limits self.now.log) place.guest place.handle }
+            ≡ is_in_set (state_after self.now.limits self.now.log) place.guest place.handle }
     {
         self.ledger.is_member(place)
     }
@@ -96,10 +96,10 @@ impl Desk {
         place: Place,
     ) -> Result<Reply, OutOfMemory>
         requires operates { operated step.now ≡ Some place }
-        requires free { is_in_set (state_of self.old.limits self.old.log) place.guest place.handle
+        requires free { is_in_set (state_after self.old.limits self.old.log) place.guest place.handle
             ≡ false }
         ensures ok { IfOk result (λ reply. self.new ≡ entered_with self.old
-            (entry seat step.now reply) (begun reply self.old.waits (wait seat place))) }
+            (entry seat step.now reply) (waits_begun reply self.old.waits (wait seat place))) }
         ensures legal { IsLegal self.new.limits self.new.log }
         ensures err { OnErr result (self.new ≡ self.old) }
     {
@@ -111,7 +111,7 @@ impl Desk {
     pub(crate) fn deliver(&mut self, seat: u64, place: Place) -> Option<Reply>
         requires waits { waits_by seat self.old.waits ≡ place ∷ [] }
         requires room { self.old.idle < 2 ^ 64 - 1 }
-        ensures turn { MatchOption result (self.new ≡ idled self.old) (λ reply. Delivers reply
+        ensures turn { MatchOption result (self.new ≡ idled self.old) (λ reply. DeliversReport reply
             × (self.new ≡ entered_with self.old
             (entry seat (steps.Event place.guest place.handle) reply)
             (without seat self.old.waits))) }
@@ -151,7 +151,7 @@ impl Desk {
     // The store and the history.
     pub(crate) fn into_parts(self) -> (Store, History)
         ensures legal { IsLegal self.limits self.log }
-        ensures parts { (result.0 ≡ state_of self.limits self.log) × (result.1.items ≡ self.log) }
+        ensures parts { (result.0 ≡ state_after self.limits self.log) × (result.1.items ≡ self.log) }
     {
         Box::into_inner(self.ledger).into_parts()
     }

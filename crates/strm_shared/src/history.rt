@@ -67,11 +67,11 @@ pub struct History {
 
 impl Model for History {
     ghost use Rattle.strm_shared.specs.Histories.{Log};
-    ghost use Rattle.strm_shared.specs.Rows.{entries, room_in, AllPlaced};
+    ghost use Rattle.strm_shared.specs.Rows.{entries, room_in_rows, AllPlaced};
 
     ghost Value = { Log };
 
-    ghost view = { λ h. record { items = entries h.chunks.items h.rows.items; room = room_in h.rows h.chunks } };
+    ghost view = { λ h. record { items = entries h.chunks.items h.rows.items; room = room_in_rows h.rows h.chunks } };
 
     ghost invariant = { λ h. AllPlaced h.chunks.items h.rows.items };
 }

@@ -8,8 +8,8 @@ ghost use Rattle.strm_machine.specs.Reactions.{goes, react};
 ghost use Rattle.strm_machine.specs.WaitableSets.{is_in_set};
 ghost use Rattle.strm_machine.specs.declared.steps.Step.TheVariants as steps;
 ghost use Rattle.strm_shared.specs.Places.{is_host_step, IsBusy};
-ghost use Rattle.strm_shared.specs.Reaching.{IsReached};
-ghost use Rattle.strm_shared.specs.Waits.{Delivers};
+ghost use Rattle.strm_shared.specs.Reaching.{IsStateReached};
+ghost use Rattle.strm_shared.specs.Waits.{DeliversReport};
 
 use crate::entry::Place;
 use std::alloc::Global;
@@ -61,7 +61,7 @@ impl LoneStore {
 
     // Does a step.
     pub(crate) fn apply_alone(&mut self, alloc: Global, step: &Step) -> Result<Reply, OutOfMemory>
-        requires reached { IsReached self.old }
+        requires reached { IsStateReached self.old }
         requires guests { is_host_step step.now ≡ false }
         ensures ok { IfOk result (λ reply. react self.old step.now ≡ goes reply self.new) }
         ensures err { OnErr result (self.new ≡ self.old) }
@@ -72,7 +72,7 @@ impl LoneStore {
     // The reply to the event of a busy end, if that is there: it takes no memory.
     pub(crate) fn take_report(&mut self, place: Place) -> Option<Reply>
         requires busy { IsBusy self.old place }
-        ensures { MatchOption result (self.new ≡ self.old) (λ reply. Delivers reply
+        ensures { MatchOption result (self.new ≡ self.old) (λ reply. DeliversReport reply
             × (react self.old (steps.Event place.guest place.handle) ≡ goes reply self.new)) }
     {
         take_report(&mut self.store, place)
@@ -88,7 +88,7 @@ impl LoneStore {
 
 // A step where no host end is.
 fn apply_alone(alloc: Global, store: &mut Store, step: &Step) -> Result<Reply, OutOfMemory>
-    requires reached { IsReached store.old }
+    requires reached { IsStateReached store.old }
     requires guests { is_host_step step.now ≡ false }
     ensures ok { IfOk result (λ reply. react store.old step.now ≡ goes reply store.new) }
     ensures err { OnErr result (store.new ≡ store.old) }
@@ -111,7 +111,7 @@ fn apply_alone(alloc: Global, store: &mut Store, step: &Step) -> Result<Reply, O
 // The report of a read or write that waits, if it is there; else nothing has changed.
 fn take_report(store: &mut Store, place: Place) -> Option<Reply>
     requires busy { IsBusy store.old place }
-    ensures { MatchOption result (store.new ≡ store.old) (λ reply. Delivers reply
+    ensures { MatchOption result (store.new ≡ store.old) (λ reply. DeliversReport reply
         × (react store.old (steps.Event place.guest place.handle) ≡ goes reply store.new)) }
 {
     match store.take_event(place.guest, place.handle) {

@@ -3,7 +3,7 @@
 //! Meaning: `Rules.antt` and `Plays.antt`. Ours.
 
 ghost use Rattle.strm_shared.specs.Rules.{Orderly};
-ghost use Rattle.strm_shared.specs.Plays.{first_view, looks, draws, waits, passes, recalls, looks_seats, numbers, old_half, new_half, joined, spent};
+ghost use Rattle.strm_shared.specs.Plays.{first_view, looks, draws, seat_waits, passes, recalls, looks_seats, numbers, old_half, new_half, seats_joined, seat_spent};
 
 use crate::desk::Desk;
 use crate::view::View;
@@ -37,7 +37,7 @@ impl Play<Option<Desk>, View> for Draw {
 pub struct Await;
 
 impl Play<Option<Desk>, View> for Await {
-    ghost then = { waits };
+    ghost then = { seat_waits };
 }
 
 /// The turn is passed.
@@ -81,7 +81,7 @@ impl Split<View> for Halves {
 pub struct Both;
 
 impl Join<View> for Both {
-    ghost both = { joined };
+    ghost both = { seats_joined };
 
-    ghost spent = { spent };
+    ghost spent = { seat_spent };
 }

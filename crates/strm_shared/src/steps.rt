@@ -3,7 +3,7 @@
 //! Meaning: `Places.antt` and `Wakes.antt`. Ours.
 
 ghost use Rattle.std.specs.Prelude.{◌≡◌, false};
-ghost use Rattle.strm_shared.specs.Places.{is_blocked, is_refused_busy, is_host_step, is_move, named, operated};
+ghost use Rattle.strm_shared.specs.Places.{is_blocked, is_refused_busy, is_host_step, is_move, place_named, operated};
 ghost use Rattle.strm_shared.specs.Wakes.{ends_waits, WakesNone};
 
 use crate::entry::Place;
@@ -29,7 +29,7 @@ pub(crate) fn is_refused_busy(reply: &Reply) -> bool
 
 // The handle that an event, a cancel or a set-join names.
 pub(crate) fn named(step: &Step) -> Option<Place>
-    ensures { result ≡ named step.now }
+    ensures { result ≡ place_named step.now }
 {
     match Act::of(step) {
         Act::OnEnd {

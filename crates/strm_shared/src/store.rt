@@ -53,7 +53,7 @@ pub struct SharedStore {
 
 impl SharedStore {
     ghost use Rattle.strm_shared.specs.declared.errors.SharedError.TheVariants.{OutOfMemory};
-    ghost use Rattle.strm_shared.specs.Tokens.{token, last, Same, Stays};
+    ghost use Rattle.strm_shared.specs.Tokens.{token, last_number, Same, HistoryStays};
     ghost use Rattle.strm_shared.specs.Causes.{Ends, IsOf};
 
     /// A store without guests, and its first seat, of number 0. No error comes but OutOfMemory.
@@ -88,8 +88,8 @@ impl SharedStore {
     pub fn close<R: Wait>(self, rt: &R, seat: Seat) -> Result<Closed, Unclosed>
         requires { IsOf self seat }
         ensures ok { IfOk result (λ closed. Ends seat closed) }
-        ensures err { IfErr result (λ kept. (kept.store ≡ self) × (kept.ticket ≡ last)
-            × Stays seat kept.seat × Same seat kept.seat) }
+        ensures err { IfErr result (λ kept. (kept.store ≡ self) × (kept.ticket ≡ last_number)
+            × HistoryStays seat kept.seat × Same seat kept.seat) }
     {
         let Seat { number, mut inside } = seat;
         let Some(desk) = self.enter(rt, &mut inside) else {

@@ -3,7 +3,7 @@
 //! Meaning: `Waits.antt`. Ours.
 
 ghost use Rattle.std.specs.Prelude.{◌≡◌, ◌≢◌, ◌<◌, MatchOption, vec_len, vec_capacity};
-ghost use Rattle.strm_shared.specs.Waits.{wait, without, begun, Each, Has};
+ghost use Rattle.strm_shared.specs.Waits.{wait, without, waits_begun, Each, Has};
 
 use crate::entry::{Place, Wait};
 use crate::steps::is_blocked;
@@ -26,7 +26,7 @@ pub(crate) fn seat_at(waits: &Vec<Wait>, place: Place) -> Option<u64>
 // A wait more, where the reply is Blocked.
 pub(crate) fn keep_wait(waits: &mut Vec<Wait>, reply: &Reply, wait: Wait)
     requires { vec_len waits.old < vec_capacity waits.old }
-    ensures { waits.new.items ≡ begun reply.now waits.old.items wait }
+    ensures { waits.new.items ≡ waits_begun reply.now waits.old.items wait }
 {
     if is_blocked(reply) {
         waits.push_reserved(wait);

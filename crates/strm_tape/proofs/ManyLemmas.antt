@@ -9,7 +9,7 @@ use Rattle.strm_buffers.specs.declared.answers.Answer.{Answer}
 use Rattle.strm_buffers.specs.Listing.{TypedItems}
 use Rattle.strm_buffers.specs.Said.{WriterSaid}
 use Rattle.strm_lines.proofs.CutLemmas.{option_map_some}
-use Rattle.strm_tape.specs.Reading.{Found, made, many, room, flag, items_of, answer, typed, writer_record}
+use Rattle.strm_tape.specs.Reading.{Found, read_as, many, read_room, flag, read_item_list, answer, typed_items, read_writer_record}
 
 -- things found before, in front of those that are found next
 abbrev pub in_front : {A : Type 0} → List A → Found (List A) → Found (List A)
@@ -48,8 +48,8 @@ module _ (payload : Payload) (bytes b1 b2 b3 b4 : List ℕ) (r : Option ℕ) (f 
   abbrev said_of : TypedItems → WriterSaid
   said_of u = record { room = r; finish = f; payload = u.payload; items = u.items; answer = a }
 
-  pub record_read : room bytes ≡ Some (r, b1) → flag b1 ≡ Some (f, b2) → made (typed payload) (items_of (scalars_of payload)) b2 ≡ Some (t, b3) → answer b3 ≡ Some (a, b4) → Some (said_of t, b4) ≡ writer_record payload bytes
+  pub record_read : read_room bytes ≡ Some (r, b1) → flag b1 ≡ Some (f, b2) → read_as (typed_items payload) (read_item_list (scalars_of payload)) b2 ≡ Some (t, b3) → answer b3 ≡ Some (a, b4) → Some (said_of t, b4) ≡ read_writer_record payload bytes
   record_read e g h i =
-      option_map_some (λ p. (typed payload p.0, p.1)) (items_of (scalars_of payload) b2) (t, b3) h (λ p j k.
-      subst (λ q. answer q.1 ≡ Some (a, b4) → Some (said_of q.0, b4) ≡ writer_record payload bytes) k
+      option_map_some (λ p. (typed_items payload p.0, p.1)) (read_item_list (scalars_of payload) b2) (t, b3) h (λ p j k.
+      subst (λ q. answer q.1 ≡ Some (a, b4) → Some (said_of q.0, b4) ≡ read_writer_record payload bytes) k
       (λ l. rw (e, g, j, l) refl) i)

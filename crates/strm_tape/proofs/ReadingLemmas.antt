@@ -8,7 +8,7 @@ use Rattle.strm_memory.proofs.ByteLemmas.{length-to_le, le-to_le, to_le-le, le-t
 use Rattle.strm_lines.specs.Grammar.{IsU32, IsBetween}
 use Rattle.strm_lines.proofs.ChoiceLemmas.{chosen, both_true}
 use Rattle.strm_tape.specs.Spelling.{number_bytes, counted_bytes}
-use Rattle.strm_tape.specs.Reading.{Found, followed_by_its, followed_by, nothing, byte, number, within, chunk}
+use Rattle.strm_tape.specs.Reading.{Found, followed_by_its_part, followed_by_part, read_nothing, byte, read_number, within, chunk}
 
 -- what is read is fit and is written so in front of what follows; what is fit is read where it is written
 pub record IsReading {A : Type 0} (read : List ℕ → Found A) (write : A → List ℕ) (IsFit : A → Type 0) : Type 0 where
@@ -32,10 +32,10 @@ rest_fits front rest bytes f e =
 
 module _ {A B : Type 0} {first : List ℕ → Found A} {write : A → List ℕ} {IsFit : A → Type 0}
     {second : A → List ℕ → Found B} {write_behind : A → B → List ℕ} {IsFitBehind : A → B → Type 0} where
-  pub IsReading-followed_by_its : IsReading first write IsFit → ((x : A) → IsReading (second x) (write_behind x) (IsFitBehind x)) → IsReading (followed_by_its first second) (λ v. write v.0 ++ write_behind v.0 v.1) (λ v. IsFit v.0 × IsFitBehind v.0 v.1)
+  pub IsReading-followed_by_its : IsReading first write IsFit → ((x : A) → IsReading (second x) (write_behind x) (IsFitBehind x)) → IsReading (followed_by_its_part first second) (λ v. write v.0 ++ write_behind v.0 v.1) (λ v. IsFit v.0 × IsFitBehind v.0 v.1)
   IsReading-followed_by_its r s = record { sound = both; complete = again }
     where
-      both : (bytes rest : List ℕ) (v : A × B) → IsBytes bytes → followed_by_its first second bytes ≡ Some (v, rest) → ((write v.0 ++ write_behind v.0 v.1) ++ rest ≡ bytes) × (IsFit v.0 × IsFitBehind v.0 v.1)
+      both : (bytes rest : List ℕ) (v : A × B) → IsBytes bytes → followed_by_its_part first second bytes ≡ Some (v, rest) → ((write v.0 ++ write_behind v.0 v.1) ++ rest ≡ bytes) × (IsFit v.0 × IsFitBehind v.0 v.1)
       both bytes rest v f e =
           option_and_then_some _ (first bytes) (v, rest) e (λ p g h.
           option_and_then_some _ (second p.0 p.1) (v, rest) h (λ q i j.
@@ -45,16 +45,16 @@ module _ {A B : Type 0} {first : List ℕ → Found A} {write : A → List ℕ} 
           found (λ u. write u.0 ++ write_behind u.0 u.1) (λ u. IsFit u.0 × IsFitBehind u.0 u.1) bytes ((p.0, q.0), q.1) (v, rest) same
           (append_assoc (write p.0) (write_behind p.0 q.0) q.1 ∙ ap (λ l. write p.0 ++ l) two.0 ∙ one.0, (one.1, two.1))))
 
-      again : (v : A × B) (rest : List ℕ) → IsFit v.0 × IsFitBehind v.0 v.1 → followed_by_its first second ((write v.0 ++ write_behind v.0 v.1) ++ rest) ≡ Some (v, rest)
+      again : (v : A × B) (rest : List ℕ) → IsFit v.0 × IsFitBehind v.0 v.1 → followed_by_its_part first second ((write v.0 ++ write_behind v.0 v.1) ++ rest) ≡ Some (v, rest)
       again v rest f =
           rw (append_assoc (write v.0) (write_behind v.0 v.1) rest, r.complete v.0 (write_behind v.0 v.1 ++ rest) f.0, (s v.0).complete v.1 rest f.1) refl
 
 module _ {A B : Type 0} {first : List ℕ → Found A} {write : A → List ℕ} {IsFit : A → Type 0}
     {second : List ℕ → Found B} {write_behind : B → List ℕ} {IsFitBehind : B → Type 0} where
-  pub IsReading-followed_by : IsReading first write IsFit → IsReading second write_behind IsFitBehind → IsReading (followed_by first second) (λ v. write v.0 ++ write_behind v.1) (λ v. IsFit v.0 × IsFitBehind v.1)
+  pub IsReading-followed_by : IsReading first write IsFit → IsReading second write_behind IsFitBehind → IsReading (followed_by_part first second) (λ v. write v.0 ++ write_behind v.1) (λ v. IsFit v.0 × IsFitBehind v.1)
   IsReading-followed_by r s = IsReading-followed_by_its r (λ x. s)
 
-pub IsReading-nothing : IsReading nothing (λ v. []) (λ v. Unit {0})
+pub IsReading-nothing : IsReading read_nothing (λ v. []) (λ v. Unit {0})
 IsReading-nothing = record {
   sound = λ bytes rest v f e. let same : (tt, bytes) ≡ (v, rest) = same_Some (tt, bytes) (v, rest) e in (sym (ap (λ p. p.1) same), tt);
   complete = λ v rest f. refl;
@@ -71,13 +71,13 @@ IsReading-byte = record { sound = one; complete = λ b rest f. refl }
 
 -- numbers
 
-number_of : (front rest : List ℕ) → length front ≡ 4 → number (front ++ rest) ≡ Some (le front, rest)
-unfolding number
+number_of : (front rest : List ℕ) → length front ≡ 4 → read_number (front ++ rest) ≡ Some (le front, rest)
+unfolding read_number
 number_of front rest h =
     rw (le-leb 4 (length (front ++ rest)) (omega (arith, length-append front rest, h)), take_at front rest 4 h, drop_at front rest 4 h) refl
 
-number_sound : (bytes rest : List ℕ) (x : ℕ) → IsBytes bytes → number bytes ≡ Some (x, rest) → (number_bytes x ++ rest ≡ bytes) × IsU32 x
-unfolding number
+number_sound : (bytes rest : List ℕ) (x : ℕ) → IsBytes bytes → read_number bytes ≡ Some (x, rest) → (number_bytes x ++ rest ≡ bytes) × IsU32 x
+unfolding read_number
 number_sound bytes rest x f e =
     let c : (leb 4 (length bytes) ≡ true) × (Some (le (take 4 bytes), drop 4 bytes) ≡ Some (x, rest)) = chosen (leb 4 (length bytes)) (Some (le (take 4 bytes), drop 4 bytes)) (x, rest) e in
     let same : (le (take 4 bytes), drop 4 bytes) ≡ (x, rest) = same_Some (le (take 4 bytes), drop 4 bytes) (x, rest) c.1 in
@@ -85,7 +85,7 @@ number_sound bytes rest x f e =
     let again : to_le 4 (le (take 4 bytes)) ≡ take 4 bytes = ap (λ w. to_le w (le (take 4 bytes))) (sym size) ∙ to_le-le (take 4 bytes) (IsBytes-take bytes 4 f) in
     found number_bytes IsU32 bytes (le (take 4 bytes), drop 4 bytes) (x, rest) same (ap (λ l. l ++ drop 4 bytes) again ∙ take-append-drop 4 bytes, le-take-lt 4 bytes f)
 
-pub IsReading-number : IsReading number number_bytes IsU32
+pub IsReading-number : IsReading read_number number_bytes IsU32
 IsReading-number = record {
   sound = number_sound;
   complete = λ n rest f. number_of (to_le 4 n) rest (length-to_le 4 n) ∙ ap (λ m. Some (m, rest)) (le-to_le 4 n f);
@@ -94,7 +94,7 @@ IsReading-number = record {
 within_sound : (low high : ℕ) (bytes rest : List ℕ) (x : ℕ) → IsBytes bytes → within low high bytes ≡ Some (x, rest) → (number_bytes x ++ rest ≡ bytes) × IsBetween low high x
 unfolding within
 within_sound low high bytes rest x f e =
-    option_and_then_some _ (number bytes) (x, rest) e (λ p g h.
+    option_and_then_some _ (read_number bytes) (x, rest) e (λ p g h.
     let c : (leb low p.0 && leb p.0 high ≡ true) × (Some p ≡ Some (x, rest)) = chosen (leb low p.0 && leb p.0 high) (Some p) (x, rest) h in
     let b : (leb low p.0 ≡ true) × (leb p.0 high ≡ true) = both_true (leb low p.0) (leb p.0 high) c.0 in
     let same : p ≡ (x, rest) = same_Some p (x, rest) c.1 in
@@ -112,7 +112,7 @@ IsReading-within low high h = record { sound = within_sound low high; complete =
 upto_sound : (high : ℕ) (bytes rest : List ℕ) (x : ℕ) → IsBytes bytes → within 0 high bytes ≡ Some (x, rest) → (number_bytes x ++ rest ≡ bytes) × (IsU32 x × (x ≤ high))
 unfolding within
 upto_sound high bytes rest x f e =
-    option_and_then_some _ (number bytes) (x, rest) e (λ p g h.
+    option_and_then_some _ (read_number bytes) (x, rest) e (λ p g h.
     let c : (leb 0 p.0 && leb p.0 high ≡ true) × (Some p ≡ Some (x, rest)) = chosen (leb 0 p.0 && leb p.0 high) (Some p) (x, rest) h in
     let b : (leb 0 p.0 ≡ true) × (leb p.0 high ≡ true) = both_true (leb 0 p.0) (leb p.0 high) c.0 in
     let same : p ≡ (x, rest) = same_Some p (x, rest) c.1 in

@@ -11,8 +11,8 @@ use Rattle.strm_buffers.specs.declared.answers.Answer.TheVariants.{Pending, Comp
 use Rattle.strm_lines.specs.Grammar.{IsU32}
 use Rattle.strm_lines.proofs.ChoiceLemmas.{chosen}
 use Rattle.strm_lines.proofs.CutLemmas.{option_map_some}
-use Rattle.strm_tape.specs.Spelling.{number_bytes, flag_byte, answer_number, counted, few_counted}
-use Rattle.strm_tape.specs.Reading.{Found, followed_by, made, byte, number, flag, answers, answer, many, listed, few_listed}
+use Rattle.strm_tape.specs.Spelling.{number_bytes, flag_byte, answer_number, spelled_counted, few_counted}
+use Rattle.strm_tape.specs.Reading.{Found, followed_by_part, read_as, byte, read_number, flag, all_answers, answer, many, read_counted, few_listed}
 use Rattle.strm_tape.proofs.ReadingLemmas.{IsReading, IsReading-byte, IsReading-number, IsReading-followed_by, found, rest_fits}
 
 -- yes or no
@@ -41,7 +41,7 @@ IsReading-flag = record { sound = flag_sound; complete = flag_complete }
 
 -- answers
 
-answer_at : (n : ℕ) (a : Answer) → slice_get answers n ≡ Some a → answer_number a ≡ n
+answer_at : (n : ℕ) (a : Answer) → slice_get all_answers n ≡ Some a → answer_number a ≡ n
 answer_at zero a e = sym (ap answer_number (same_Some Pending a e))
 answer_at (suc zero) a e = sym (ap answer_number (same_Some Completed a e))
 answer_at (suc (suc zero)) a e = sym (ap answer_number (same_Some Cancelled a e))
@@ -53,7 +53,7 @@ answer_sound : (bytes rest : List ℕ) (a : Answer) → IsBytes bytes → answer
 unfolding answer
 answer_sound bytes rest a f e =
     option_and_then_some _ (byte bytes) (a, rest) e (λ p g h.
-    option_and_then_some _ (slice_get answers p.0) (a, rest) h (λ t i j.
+    option_and_then_some _ (slice_get all_answers p.0) (a, rest) h (λ t i j.
     let same : (t, p.1) ≡ (a, rest) = same_Some (t, p.1) (a, rest) j in
     let one : (p.0 ∷ p.1 ≡ bytes) × (p.0 < 256) = IsReading-byte.sound bytes p.1 p.0 f g in
     found (λ u. answer_number u ∷ []) (λ u. Unit {0}) bytes (t, p.1) (a, rest) same (ap (λ n. n ∷ p.1) (answer_at p.0 t i) ∙ one.0, tt)))
@@ -95,17 +95,17 @@ module _ {A : Type 0} (read : List ℕ → Found A) (write : A → List ℕ) (Is
       empty [] rest f = refl
       empty (x ∷ xs) rest f = absurd (omega (arith, f.0))
 
-  many_more : (n : ℕ) → IsReading (followed_by read (many read n)) (λ v. write v.0 ++ flat_map write v.1) (λ v. IsFit v.0 × AreFit IsFit n v.1) → IsReading (many read (suc n)) (flat_map write) (AreFit IsFit (suc n))
+  many_more : (n : ℕ) → IsReading (followed_by_part read (many read n)) (λ v. write v.0 ++ flat_map write v.1) (λ v. IsFit v.0 × AreFit IsFit n v.1) → IsReading (many read (suc n)) (flat_map write) (AreFit IsFit (suc n))
   unfolding many
   many_more n both = record {
     sound = λ bytes rest xs f e.
-        option_map_some _ (followed_by read (many read n) bytes) (xs, rest) e (λ p g h.
+        option_map_some _ (followed_by_part read (many read n) bytes) (xs, rest) e (λ p g h.
         let one : ((write p.0.0 ++ flat_map write p.0.1) ++ p.1 ≡ bytes) × (IsFit p.0.0 × AreFit IsFit n p.0.1) = both.sound bytes p.1 p.0 f g in
         found (flat_map write) (AreFit IsFit (suc n)) bytes (p.0.0 ∷ p.0.1, p.1) (xs, rest) h (one.0, (ap suc one.1.1.0, All-cons IsFit p.0.0 p.0.1 one.1.0 one.1.1.1)));
     complete = more;
   }
     where
-      more : (xs : List A) (rest : List ℕ) → AreFit IsFit (suc n) xs → made (λ p. p.0 ∷ p.1) (followed_by read (many read n)) (flat_map write xs ++ rest) ≡ Some (xs, rest)
+      more : (xs : List A) (rest : List ℕ) → AreFit IsFit (suc n) xs → read_as (λ p. p.0 ∷ p.1) (followed_by_part read (many read n)) (flat_map write xs ++ rest) ≡ Some (xs, rest)
       more [] rest f = absurd (omega (arith, f.0))
       more (x ∷ xs) rest f = rw (both.complete (x, xs) rest (All-head IsFit x xs f.1, (omega (arith, f.0), All-tail IsFit x xs f.1))) refl
 
@@ -114,21 +114,21 @@ module _ {A : Type 0} {read : List ℕ → Found A} {write : A → List ℕ} {Is
   IsReading-many r zero = many_none read write IsFit
   IsReading-many r (suc n) = many_more read write IsFit n (IsReading-followed_by r (IsReading-many r n))
 
-  listed_sound : IsReading read write IsFit → (bytes rest : List ℕ) (xs : List A) → IsBytes bytes → listed read bytes ≡ Some (xs, rest) → (counted write xs ++ rest ≡ bytes) × AreListed IsFit xs
-  unfolding listed
+  listed_sound : IsReading read write IsFit → (bytes rest : List ℕ) (xs : List A) → IsBytes bytes → read_counted read bytes ≡ Some (xs, rest) → (spelled_counted write xs ++ rest ≡ bytes) × AreListed IsFit xs
+  unfolding read_counted
   listed_sound r bytes rest xs f e =
-      option_and_then_some _ (number bytes) (xs, rest) e (λ p g h.
+      option_and_then_some _ (read_number bytes) (xs, rest) e (λ p g h.
       let one : (number_bytes p.0 ++ p.1 ≡ bytes) × IsU32 p.0 = IsReading-number.sound bytes p.1 p.0 f g in
       let two : (flat_map write xs ++ rest ≡ p.1) × AreFit IsFit p.0 xs = (IsReading-many r p.0).sound p.1 rest xs (rest_fits (number_bytes p.0) p.1 bytes f one.0) h in
       (append_assoc (number_bytes (length xs)) (flat_map write xs) rest ∙ ap (λ l. number_bytes (length xs) ++ l) two.0 ∙ ap (λ n. number_bytes n ++ p.1) two.1.0 ∙ one.0, (subst IsU32 (sym two.1.0) one.1, two.1.1)))
 
-  listed_complete : IsReading read write IsFit → (xs : List A) (rest : List ℕ) → AreListed IsFit xs → listed read (counted write xs ++ rest) ≡ Some (xs, rest)
-  unfolding listed
+  listed_complete : IsReading read write IsFit → (xs : List A) (rest : List ℕ) → AreListed IsFit xs → read_counted read (spelled_counted write xs ++ rest) ≡ Some (xs, rest)
+  unfolding read_counted
   listed_complete r xs rest f =
       rw (append_assoc (number_bytes (length xs)) (flat_map write xs) rest, IsReading-number.complete (length xs) (flat_map write xs ++ rest) f.0)
       ((IsReading-many r (length xs)).complete xs rest (refl, f.1))
 
-  pub IsReading-listed : IsReading read write IsFit → IsReading (listed read) (counted write) (AreListed IsFit)
+  pub IsReading-listed : IsReading read write IsFit → IsReading (read_counted read) (spelled_counted write) (AreListed IsFit)
   IsReading-listed r = record { sound = listed_sound r; complete = listed_complete r }
 
   few_sound : IsReading read write IsFit → (bytes rest : List ℕ) (xs : List A) → IsBytes bytes → few_listed read bytes ≡ Some (xs, rest) → (few_counted write xs ++ rest ≡ bytes) × AreFew IsFit xs

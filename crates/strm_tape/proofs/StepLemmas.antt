@@ -10,8 +10,8 @@ use Rattle.strm_machine.specs.declared.steps.Step.TheVariants.{Guest, New, Betwe
 use Rattle.strm_lines.specs.Grammar.{Argument, Number, Within, Typed, Count, Bytes, Fed, line_of, IsLineBytes, AreFed, HasLine}
 use Rattle.strm_lines.proofs.ArgumentLemmas.{AreArguments, AreArguments-from_all, All-from_arguments}
 use Rattle.strm_lines.proofs.CutLemmas.{option_map_some}
-use Rattle.strm_tape.specs.Spelling.{counted_bytes, arguments_bytes, place_of, step_bytes}
-use Rattle.strm_tape.specs.Reading.{Found, made, followed_by, nothing, byte, number, within, transmit_type, chunk, two, three, named_end, operands, readers, none, step_by, step}
+use Rattle.strm_tape.specs.Spelling.{counted_bytes, arguments_bytes, command_place, step_bytes}
+use Rattle.strm_tape.specs.Reading.{Found, read_as, followed_by_part, read_nothing, byte, read_number, within, transmit_type, chunk, two, three, read_named_end, read_operands, argument_readers, none, step_by, step}
 use Rattle.strm_tape.proofs.ReadingLemmas.{IsReading, IsReading-nothing, IsReading-byte, IsReading-number, IsReading-within, IsReading-chunk, IsReading-followed_by, IsReading-followed_by_its, IsChunk, rest_fits, found}
 use Rattle.strm_tape.proofs.TypeLemmas.{IsReading-type, IsReading-count}
 
@@ -21,7 +21,7 @@ use Rattle.strm_tape.proofs.TypeLemmas.{IsReading-type, IsReading-count}
 record AreRead {V : Type 0} (read : List ℕ → Found V) (arguments : V → List Argument) : Type 0 where
   reading : IsReading read (λ v. arguments_bytes (arguments v)) (λ v. AreArguments (arguments v))
 
-AreRead-number : AreRead number (λ n. Number n ∷ [])
+AreRead-number : AreRead read_number (λ n. Number n ∷ [])
 AreRead-number = record { reading = IsReading-number }
 
 AreRead-two : AreRead two (λ v. Number v.0 ∷ Number v.1 ∷ [])
@@ -30,25 +30,25 @@ AreRead-two = record { reading = IsReading-followed_by IsReading-number IsReadin
 AreRead-three : AreRead three (λ v. Number v.0 ∷ Number v.1.0 ∷ Number v.1.1 ∷ [])
 AreRead-three = record { reading = IsReading-followed_by IsReading-number (IsReading-followed_by IsReading-number IsReading-number) }
 
-AreRead-nothing : AreRead nothing (λ v. [])
+AreRead-nothing : AreRead read_nothing (λ v. [])
 AreRead-nothing = record { reading = IsReading-nothing }
 
-AreRead-number_and_type : AreRead (followed_by number transmit_type) (λ v. Number v.0 ∷ Typed v.1 ∷ [])
+AreRead-number_and_type : AreRead (followed_by_part read_number transmit_type) (λ v. Number v.0 ∷ Typed v.1 ∷ [])
 AreRead-number_and_type = record { reading = IsReading-followed_by IsReading-number IsReading-type }
 
-AreRead-two_and_type : AreRead (followed_by number (followed_by number transmit_type)) (λ v. Number v.0 ∷ Number v.1.0 ∷ Typed v.1.1 ∷ [])
+AreRead-two_and_type : AreRead (followed_by_part read_number (followed_by_part read_number transmit_type)) (λ v. Number v.0 ∷ Number v.1.0 ∷ Typed v.1.1 ∷ [])
 AreRead-two_and_type = record { reading = IsReading-followed_by IsReading-number (IsReading-followed_by IsReading-number IsReading-type) }
 
-AreRead-named_end : AreRead named_end (λ v. Number v.0 ∷ Typed v.1.0 ∷ Number v.1.1 ∷ [])
+AreRead-named_end : AreRead read_named_end (λ v. Number v.0 ∷ Typed v.1.0 ∷ Number v.1.1 ∷ [])
 AreRead-named_end = record { reading = IsReading-followed_by IsReading-number (IsReading-followed_by IsReading-type IsReading-number) }
 
-AreRead-end_and_guest : AreRead (followed_by number (followed_by transmit_type two)) (λ v. Number v.0 ∷ Typed v.1.0 ∷ Number v.1.1.0 ∷ Number v.1.1.1 ∷ [])
+AreRead-end_and_guest : AreRead (followed_by_part read_number (followed_by_part transmit_type two)) (λ v. Number v.0 ∷ Typed v.1.0 ∷ Number v.1.1.0 ∷ Number v.1.1.1 ∷ [])
 AreRead-end_and_guest = record { reading = IsReading-followed_by IsReading-number (IsReading-followed_by IsReading-type (IsReading-followed_by IsReading-number IsReading-number)) }
 
-AreRead-operands : AreRead operands (λ v. Number v.0 ∷ Typed v.1.0 ∷ Number v.1.1.0 ∷ Number v.1.1.1.0 ∷ Count v.1.0 v.1.1.1.1 ∷ [])
+AreRead-operands : AreRead read_operands (λ v. Number v.0 ∷ Typed v.1.0 ∷ Number v.1.1.0 ∷ Number v.1.1.1.0 ∷ Count v.1.0 v.1.1.1.1 ∷ [])
 AreRead-operands = record { reading = IsReading-followed_by IsReading-number (IsReading-followed_by_its IsReading-type (λ ty. IsReading-followed_by IsReading-number (IsReading-followed_by IsReading-number (IsReading-count ty)))) }
 
-AreRead-place_and_len : AreRead (followed_by number (followed_by number (within 1 64))) (λ v. Number v.0 ∷ Number v.1.0 ∷ Within 1 64 v.1.1 ∷ [])
+AreRead-place_and_len : AreRead (followed_by_part read_number (followed_by_part read_number (within 1 64))) (λ v. Number v.0 ∷ Number v.1.0 ∷ Within 1 64 v.1.1 ∷ [])
 AreRead-place_and_len = record { reading = IsReading-followed_by IsReading-number (IsReading-followed_by IsReading-number (IsReading-within 1 64 (omega arith))) }
 
 -- BYTES
@@ -80,37 +80,37 @@ IsReading-fed = record {
   complete = λ xs rest f. (IsReading-chunk 0).complete xs rest (record { some = omega arith; most = f.most; each = IsBytes-each xs f.each });
 }
 
-AreRead-number_and_fed : AreRead (followed_by number (chunk 0)) (λ v. Number v.0 ∷ Fed v.1 ∷ [])
+AreRead-number_and_fed : AreRead (followed_by_part read_number (chunk 0)) (λ v. Number v.0 ∷ Fed v.1 ∷ [])
 AreRead-number_and_fed = record { reading = IsReading-followed_by IsReading-number IsReading-fed }
 
-AreRead-place_and_bytes : AreRead (followed_by number (followed_by number (chunk 1))) (λ v. Number v.0 ∷ Number v.1.0 ∷ Bytes v.1.1 ∷ [])
+AreRead-place_and_bytes : AreRead (followed_by_part read_number (followed_by_part read_number (chunk 1))) (λ v. Number v.0 ∷ Number v.1.0 ∷ Bytes v.1.1 ∷ [])
 AreRead-place_and_bytes = record { reading = IsReading-followed_by IsReading-number (IsReading-followed_by IsReading-number IsReading-bytes) }
 
 -- STEPS
 
 -- each step that is read so has the arguments that were read, and the command of this place
 record IsRow (n : ℕ) (read : List ℕ → Found Step) : Type 0 where
-  sound : (bytes rest : List ℕ) (s : Step) → IsBytes bytes → read bytes ≡ Some (s, rest) → (arguments_bytes (line_of s).arguments ++ rest ≡ bytes) × (HasLine s × (place_of s ≡ n))
+  sound : (bytes rest : List ℕ) (s : Step) → IsBytes bytes → read bytes ≡ Some (s, rest) → (arguments_bytes (line_of s).arguments ++ rest ≡ bytes) × (HasLine s × (command_place s ≡ n))
 
 module _ {V : Type 0} {read : List ℕ → Found V} {arguments : V → List Argument} where
-  row : (n : ℕ) (make : V → Step) → AreRead read arguments → ((v : V) → arguments v ≡ (line_of (make v)).arguments) → ((v : V) → place_of (make v) ≡ n) → IsRow n (made make read)
+  row : (n : ℕ) (make : V → Step) → AreRead read arguments → ((v : V) → arguments v ≡ (line_of (make v)).arguments) → ((v : V) → command_place (make v) ≡ n) → IsRow n (read_as make read)
   row n make r same place = record {
     sound = λ bytes rest s f e.
         option_map_some (λ p. (make p.0, p.1)) (read bytes) (s, rest) e (λ p g h.
         let one = r.reading.sound bytes p.1 p.0 f g in
         let fit : HasLine (make p.0) = All-from_arguments (line_of (make p.0)).arguments (subst AreArguments (same p.0) one.1) in
         let there : arguments_bytes (line_of (make p.0)).arguments ++ p.1 ≡ bytes = ap (λ l. arguments_bytes l ++ p.1) (sym (same p.0)) ∙ one.0 in
-        found (λ t. arguments_bytes (line_of t).arguments) (λ t. HasLine t × (place_of t ≡ n)) bytes (make p.0, p.1) (s, rest) h (there, (fit, place p.0)));
+        found (λ t. arguments_bytes (line_of t).arguments) (λ t. HasLine t × (command_place t ≡ n)) bytes (make p.0, p.1) (s, rest) h (there, (fit, place p.0)));
   }
 
-  again : (make : V → Step) → AreRead read arguments → (v : V) (rest : List ℕ) → AreArguments (arguments v) → made make read (arguments_bytes (arguments v) ++ rest) ≡ Some (make v, rest)
+  again : (make : V → Step) → AreRead read arguments → (v : V) (rest : List ℕ) → AreArguments (arguments v) → read_as make read (arguments_bytes (arguments v) ++ rest) ≡ Some (make v, rest)
   again make r v rest f = rw (r.reading.complete v rest f) refl
 
 abbrev AreRows : ℕ → List (List ℕ → Found Step) → Type 0
 AreRows n [] = Unit {0}
 AreRows n (r ∷ rs) = IsRow n r × AreRows (n + 1) rs
 
-rows : AreRows 1 readers
+rows : AreRows 1 argument_readers
 rows = (
   row 1 _ AreRead-number (λ v. refl) (λ v. refl),
   (
@@ -202,12 +202,12 @@ row_at n [] a k = record { sound = λ bytes rest s f e. absurd (none-some (s, re
 row_at n (r ∷ rs) a zero = let same : n ≡ n + 0 = omega arith in subst (λ m. IsRow m r) same a.0
 row_at n (r ∷ rs) a (suc k) = let same : n + 1 + k ≡ n + suc k = omega arith in subst (λ m. IsRow m (slice_index_or rs k none)) same (row_at (n + 1) rs a.1 k)
 
-step_by_sound : (place : ℕ) (bytes rest : List ℕ) (s : Step) → IsBytes bytes → step_by place bytes ≡ Some (s, rest) → (arguments_bytes (line_of s).arguments ++ rest ≡ bytes) × (HasLine s × (place_of s ≡ place))
+step_by_sound : (place : ℕ) (bytes rest : List ℕ) (s : Step) → IsBytes bytes → step_by place bytes ≡ Some (s, rest) → (arguments_bytes (line_of s).arguments ++ rest ≡ bytes) × (HasLine s × (command_place s ≡ place))
 unfolding step_by
 step_by_sound zero bytes rest s f e = absurd (none-some (s, rest) e)
 step_by_sound (suc k) bytes rest s f e =
     let same : 1 + k ≡ suc k = omega arith in
-    (subst (λ m. IsRow m (slice_index_or readers k none)) same (row_at 1 readers rows k)).sound bytes rest s f e
+    (subst (λ m. IsRow m (slice_index_or argument_readers k none)) same (row_at 1 argument_readers rows k)).sound bytes rest s f e
 
 -- what is read is spelled so
 pub step_sound : (bytes rest : List ℕ) (s : Step) → IsBytes bytes → step bytes ≡ Some (s, rest) → (step_bytes s ++ rest ≡ bytes) × HasLine s
@@ -215,7 +215,7 @@ unfolding step
 step_sound bytes rest s f e =
     option_and_then_some _ (byte bytes) (s, rest) e (λ p g h.
     let one : (p.0 ∷ p.1 ≡ bytes) × (p.0 < 256) = IsReading-byte.sound bytes p.1 p.0 f g in
-    let two : (arguments_bytes (line_of s).arguments ++ rest ≡ p.1) × (HasLine s × (place_of s ≡ p.0)) = step_by_sound p.0 p.1 rest s (rest_fits (p.0 ∷ []) p.1 bytes f one.0) h in
+    let two : (arguments_bytes (line_of s).arguments ++ rest ≡ p.1) × (HasLine s × (command_place s ≡ p.0)) = step_by_sound p.0 p.1 rest s (rest_fits (p.0 ∷ []) p.1 bytes f one.0) h in
     (ap (λ n. n ∷ arguments_bytes (line_of s).arguments ++ rest) two.1.1 ∙ ap (λ l. p.0 ∷ l) two.0 ∙ one.0, two.1.0))
 
 -- and what is spelled is read
@@ -255,7 +255,7 @@ step_complete (Dump guest address len) rest h = again _ AreRead-place_and_len (g
 pub no_place : (place : ℕ) (bytes : List ℕ) → (1 ≤ place → 29 < place) → step_by place bytes ≡ None
 unfolding step_by
 no_place zero bytes h = refl
-no_place (suc n) bytes h = ap (λ read. read bytes) (past_end readers none n (omega (arith, h (omega arith))))
+no_place (suc n) bytes h = ap (λ read. read bytes) (past_end argument_readers none n (omega (arith, h (omega arith))))
   where
     past_end : (xs : List (List ℕ → Found Step)) (d : List ℕ → Found Step) (i : ℕ) → length xs ≤ i → slice_index_or xs i d ≡ d
     past_end xs d i g = get_or_past xs i d g

@@ -22,8 +22,8 @@ use Rattle.strm_machine.specs.declared.steps.Step.{Step}
 use Rattle.strm_lines.specs.Grammar.{IsU32, HasLine}
 use Rattle.strm_lines.proofs.ChoiceLemmas.{chosen}
 use Rattle.strm_lines.proofs.CutLemmas.{option_map_some}
-use Rattle.strm_tape.specs.Spelling.{number_bytes, room_bytes, region_bytes, items_bytes, flag_byte, answer_number, step_bytes, writer_record_bytes, reader_record_bytes, WriterTape, ReaderTape, TapeOf, writer_bytes, reader_bytes, head_bytes, tape_spelling, IsRoom, IsWriterRecord, IsReaderRecord, IsWriterTape, IsReaderTape, IsTape}
-use Rattle.strm_tape.specs.Reading.{Found, made, followed_by, number, room_of, room, items_as_written, region, items_of, flag, answer, writer_record, reader_record, writer, reader, head, step, tape, transmit_type, many, listed, few_listed}
+use Rattle.strm_tape.specs.Spelling.{number_bytes, room_bytes, region_bytes, items_bytes, flag_byte, answer_number, step_bytes, writer_record_bytes, reader_record_bytes, WriterTape, ReaderTape, TapeOf, writer_bytes, reader_bytes, head_bytes, tape_spelling, IsSpelledRoom, IsWriterRecord, IsReaderRecord, IsWriterTape, IsReaderTape, IsTape}
+use Rattle.strm_tape.specs.Reading.{Found, read_as, followed_by_part, read_number, room_of_number, read_room, items_as_written, region, read_item_list, flag, answer, read_writer_record, read_reader_record, writer, reader, head, step, tape, transmit_type, many, read_counted, few_listed}
 use Rattle.strm_tape.proofs.ReadingLemmas.{IsReading, IsReading-number, IsReading-upto, IsReading-followed_by, IsReading-followed_by_its, found, rest_fits}
 use Rattle.strm_tape.proofs.TypeLemmas.{IsReading-type, made_sound}
 use Rattle.strm_tape.proofs.StepLemmas.{step_sound, step_complete}
@@ -78,58 +78,58 @@ IsReading-region ss n = record { sound = region_sound ss n; complete = region_co
 abbrev AreRecorded : List Scalar → List Item → Type 0
 AreRecorded ss xs = (length xs < 4294967295) × AreItems ss xs
 
-items_sound : (ss : List Scalar) (bytes rest : List ℕ) (xs : List Item) → IsBytes bytes → items_of ss bytes ≡ Some (xs, rest) → (items_bytes ss xs ++ rest ≡ bytes) × AreRecorded ss xs
-unfolding items_of
+items_sound : (ss : List Scalar) (bytes rest : List ℕ) (xs : List Item) → IsBytes bytes → read_item_list ss bytes ≡ Some (xs, rest) → (items_bytes ss xs ++ rest ≡ bytes) × AreRecorded ss xs
+unfolding read_item_list
 items_sound ss bytes rest xs f e =
-    option_and_then_some _ (number bytes) (xs, rest) e (λ p g h.
+    option_and_then_some _ (read_number bytes) (xs, rest) e (λ p g h.
     let c = chosen (ltb p.0 4294967295) (region ss p.0 p.1) (xs, rest) h in
     let one : (number_bytes p.0 ++ p.1 ≡ bytes) × IsU32 p.0 = IsReading-number.sound bytes p.1 p.0 f g in
     let two : (region_bytes ss xs ++ rest ≡ p.1) × AreSo ss p.0 xs = region_sound ss p.0 p.1 rest xs (rest_fits (number_bytes p.0) p.1 bytes f one.0) c.1 in
     (append_assoc (number_bytes (length xs)) (region_bytes ss xs) rest ∙ ap (λ l. number_bytes (length xs) ++ l) two.0 ∙ ap (λ n. number_bytes n ++ p.1) two.1.0 ∙ one.0, (omega (arith, two.1.0, ltb-true p.0 4294967295 c.0), two.1.1)))
 
-items_complete : (ss : List Scalar) (xs : List Item) (rest : List ℕ) → AreRecorded ss xs → items_of ss (items_bytes ss xs ++ rest) ≡ Some (xs, rest)
-unfolding items_of
+items_complete : (ss : List Scalar) (xs : List Item) (rest : List ℕ) → AreRecorded ss xs → read_item_list ss (items_bytes ss xs ++ rest) ≡ Some (xs, rest)
+unfolding read_item_list
 items_complete ss xs rest f =
     rw (append_assoc (number_bytes (length xs)) (region_bytes ss xs) rest, IsReading-number.complete (length xs) (region_bytes ss xs ++ rest) (omega (arith, f.0)), lt-ltb (length xs) 4294967295 f.0)
     (region_complete ss (length xs) xs rest (refl, f.1))
 
-pub IsReading-items : (ss : List Scalar) → IsReading (items_of ss) (items_bytes ss) (AreRecorded ss)
+pub IsReading-items : (ss : List Scalar) → IsReading (read_item_list ss) (items_bytes ss) (AreRecorded ss)
 IsReading-items ss = record { sound = items_sound ss; complete = items_complete ss }
 
 -- rooms
 
 -- the room that a number is
 RoomIs : ℕ → Option ℕ → Type 0
-RoomIs n r = (room_bytes r ≡ number_bytes n) × IsRoom r
+RoomIs n r = (room_bytes r ≡ number_bytes n) × IsSpelledRoom r
 
-room_found : (n : ℕ) (r : Option ℕ) → room_of n ≡ Some r → RoomIs n r
+room_found : (n : ℕ) (r : Option ℕ) → room_of_number n ≡ Some r → RoomIs n r
 unfolding RoomIs
 room_found n r e = by_none (eqb n 4294967295) refl e
   where
     by_some : (b : Bool) → ltb n 268435456 ≡ b → cond b (Some (Some n)) None ≡ Some r → RoomIs n r
-    by_some true t q = subst (λ s. (room_bytes s ≡ number_bytes n) × IsRoom s) (same_Some (Some n) r q) (refl, ltb-true n 268435456 t)
+    by_some true t q = subst (λ s. (room_bytes s ≡ number_bytes n) × IsSpelledRoom s) (same_Some (Some n) r q) (refl, ltb-true n 268435456 t)
     by_some false t q = absurd (none-some r q)
 
     by_none : (b : Bool) → eqb n 4294967295 ≡ b → cond b (Some None) (cond (ltb n 268435456) (Some (Some n)) None) ≡ Some r → RoomIs n r
-    by_none true t q = subst (λ s. (room_bytes s ≡ number_bytes n) × IsRoom s) (same_Some None r q) (ap number_bytes (sym (eqb-true n 4294967295 t)), tt)
+    by_none true t q = subst (λ s. (room_bytes s ≡ number_bytes n) × IsSpelledRoom s) (same_Some None r q) (ap number_bytes (sym (eqb-true n 4294967295 t)), tt)
     by_none false t q = by_some (ltb n 268435456) refl q
 
-room_sound : (bytes rest : List ℕ) (r : Option ℕ) → IsBytes bytes → room bytes ≡ Some (r, rest) → (room_bytes r ++ rest ≡ bytes) × IsRoom r
-unfolding room RoomIs
+room_sound : (bytes rest : List ℕ) (r : Option ℕ) → IsBytes bytes → read_room bytes ≡ Some (r, rest) → (room_bytes r ++ rest ≡ bytes) × IsSpelledRoom r
+unfolding read_room RoomIs
 room_sound bytes rest r f e =
-    option_and_then_some _ (number bytes) (r, rest) e (λ p g h.
-    option_and_then_some _ (room_of p.0) (r, rest) h (λ s i j.
+    option_and_then_some _ (read_number bytes) (r, rest) e (λ p g h.
+    option_and_then_some _ (room_of_number p.0) (r, rest) h (λ s i j.
     let one : (number_bytes p.0 ++ p.1 ≡ bytes) × IsU32 p.0 = IsReading-number.sound bytes p.1 p.0 f g in
-    let is : (room_bytes s ≡ number_bytes p.0) × IsRoom s = room_found p.0 s i in
-    found room_bytes IsRoom bytes (s, p.1) (r, rest) (same_Some (s, p.1) (r, rest) j) (ap (λ l. l ++ p.1) is.0 ∙ one.0, is.1)))
+    let is : (room_bytes s ≡ number_bytes p.0) × IsSpelledRoom s = room_found p.0 s i in
+    found room_bytes IsSpelledRoom bytes (s, p.1) (r, rest) (same_Some (s, p.1) (r, rest) j) (ap (λ l. l ++ p.1) is.0 ∙ one.0, is.1)))
 
-room_complete : (r : Option ℕ) (rest : List ℕ) → IsRoom r → room (room_bytes r ++ rest) ≡ Some (r, rest)
-unfolding room
+room_complete : (r : Option ℕ) (rest : List ℕ) → IsSpelledRoom r → read_room (room_bytes r ++ rest) ≡ Some (r, rest)
+unfolding read_room
 room_complete None rest f = rw (IsReading-number.complete 4294967295 rest (omega arith)) refl
 room_complete (Some n) rest f =
     rw (IsReading-number.complete n rest (omega (arith, f)), ne_eqb n 4294967295 (λ e. omega (arith, e, f)), lt-ltb n 268435456 f) refl
 
-pub IsReading-room : IsReading room room_bytes IsRoom
+pub IsReading-room : IsReading read_room room_bytes IsSpelledRoom
 IsReading-room = record { sound = room_sound; complete = room_complete }
 
 -- what is made of parts comes apart into them again
@@ -138,13 +138,13 @@ ComesApart {A} {B} write IsFit write_made IsFitMade make parts =
     (y : B) → IsFitMade y → (make (parts y) ≡ y) × ((write_made y ≡ write (parts y)) × IsFit (parts y))
 
 module _ {A B : Type 0} {read : List ℕ → Found A} {write : A → List ℕ} {IsFit : A → Type 0} (r : IsReading read write IsFit) where
-  pub IsReading-made : (write_made : B → List ℕ) (IsFitMade : B → Type 0) (make : A → B) (parts : B → A) → ((x : A) → write_made (make x) ≡ write x) → ((x : A) → IsFit x → IsFitMade (make x)) → ComesApart write IsFit write_made IsFitMade make parts → IsReading (made make read) write_made IsFitMade
+  pub IsReading-made : (write_made : B → List ℕ) (IsFitMade : B → Type 0) (make : A → B) (parts : B → A) → ((x : A) → write_made (make x) ≡ write x) → ((x : A) → IsFit x → IsFitMade (make x)) → ComesApart write IsFit write_made IsFitMade make parts → IsReading (read_as make read) write_made IsFitMade
   IsReading-made write_made IsFitMade make parts same fit apart = record {
     sound = made_sound write_made IsFitMade make r same fit;
     complete = again;
   }
     where
-      again : (y : B) (rest : List ℕ) → IsFitMade y → made make read (write_made y ++ rest) ≡ Some (y, rest)
+      again : (y : B) (rest : List ℕ) → IsFitMade y → read_as make read (write_made y ++ rest) ≡ Some (y, rest)
       again y rest f =
           let a = apart y f in
           rw (a.1.0, r.complete (parts y) rest a.1.1) (ap (λ z. Some (z, rest)) a.0)
@@ -162,19 +162,19 @@ abbrev bytes_of_parts : Payload → Option ℕ × (Bool × (List Item × Answer)
 bytes_of_parts payload v = room_bytes v.0 ++ ((flag_byte v.1.0 ∷ []) ++ (items_bytes (scalars_of payload) v.1.1.0 ++ (answer_number v.1.1.1 ∷ [])))
 
 abbrev ArePartsFit : Payload → Option ℕ × (Bool × (List Item × Answer)) → Type 0
-ArePartsFit payload v = IsRoom v.0 × (Unit {0} × (AreRecorded (scalars_of payload) v.1.1.0 × Unit {0}))
+ArePartsFit payload v = IsSpelledRoom v.0 × (Unit {0} × (AreRecorded (scalars_of payload) v.1.1.0 × Unit {0}))
 
-IsReading-parts : (payload : Payload) → IsReading (followed_by room (followed_by flag (followed_by (items_of (scalars_of payload)) answer))) (bytes_of_parts payload) (ArePartsFit payload)
+IsReading-parts : (payload : Payload) → IsReading (followed_by_part read_room (followed_by_part flag (followed_by_part (read_item_list (scalars_of payload)) answer))) (bytes_of_parts payload) (ArePartsFit payload)
 IsReading-parts payload = IsReading-followed_by IsReading-room (IsReading-followed_by IsReading-flag (IsReading-followed_by (IsReading-items (scalars_of payload)) IsReading-answer))
 
-IsReading-writer_record : (payload : Payload) → IsReading (writer_record payload) writer_record_bytes (IsWriterRecord payload)
+IsReading-writer_record : (payload : Payload) → IsReading (read_writer_record payload) writer_record_bytes (IsWriterRecord payload)
 IsReading-writer_record payload =
     IsReading-made (IsReading-parts payload) writer_record_bytes (IsWriterRecord payload) (record_of payload) parts_of
     (λ v. refl)
     (λ v f. record { of = refl; room = f.0; few = f.1.1.0.0; fit = f.1.1.0.1 })
     (λ said f. (ap (λ p. record_of p (parts_of said)) (sym f.of), (ap (λ p. bytes_of_parts p (parts_of said)) f.of, (f.room, (tt, ((f.few, f.fit), tt))))))
 
-IsReading-reader_record : IsReading reader_record reader_record_bytes IsReaderRecord
+IsReading-reader_record : IsReading read_reader_record reader_record_bytes IsReaderRecord
 IsReading-reader_record =
     IsReading-made (IsReading-followed_by_its IsReading-number (λ offered. IsReading-followed_by IsReading-number (IsReading-followed_by IsReading-flag (IsReading-followed_by (IsReading-upto offered) (IsReading-followed_by IsReading-flag IsReading-answer)))))
     reader_record_bytes IsReaderRecord _
@@ -205,8 +205,8 @@ IsReading-reader =
 
 -- a host writer that was read part by part
 module _ (bytes b1 b2 b3 : List ℕ) (ty : TransmitIndex) (p : Payload) (n : ℕ) (said : List WriterSaid) where
-  pub writer_read : transmit_type bytes ≡ Some (ty, b1) → number b1 ≡ Some (n, b2) → p ≡ payload_of ty → many (writer_record p) n b2 ≡ Some (said, b3) → Some (record { ty = ty; said = said }, b3) ≡ writer bytes
-  unfolding listed
+  pub writer_read : transmit_type bytes ≡ Some (ty, b1) → read_number b1 ≡ Some (n, b2) → p ≡ payload_of ty → many (read_writer_record p) n b2 ≡ Some (said, b3) → Some (record { ty = ty; said = said }, b3) ≡ writer bytes
+  unfolding read_counted
   writer_read e f is g = rw (e, f, sym is, g) refl
 
 -- tapes
@@ -259,7 +259,7 @@ module _ (bytes b1 b2 b3 b4 : List ℕ) (steps : List Step) (writers : List Writ
   abbrev the_tape : TapeOf
   the_tape = record { steps = steps; writers = writers; readers = readers }
 
-  pub read_in_parts : IsBytes bytes → option_map (λ (p : Unit {0} × List ℕ). p.1) (head bytes) ≡ Some b1 → listed step b1 ≡ Some (steps, b2) → few_listed writer b2 ≡ Some (writers, b3) → few_listed reader b3 ≡ Some (readers, b4) → IsTape the_tape
+  pub read_in_parts : IsBytes bytes → option_map (λ (p : Unit {0} × List ℕ). p.1) (head bytes) ≡ Some b1 → read_counted step b1 ≡ Some (steps, b2) → few_listed writer b2 ≡ Some (writers, b3) → few_listed reader b3 ≡ Some (readers, b4) → IsTape the_tape
   read_in_parts f e g h i =
       option_map_some (λ (p : Unit {0} × List ℕ). p.1) (head bytes) b1 e (λ p j k.
       (IsReading-tape.sound bytes b4 the_tape f (rw (j, k, g, h, i) refl)).1)

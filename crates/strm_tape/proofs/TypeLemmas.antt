@@ -16,7 +16,7 @@ use Rattle.strm_lines.specs.Grammar.{IsBetween, IsPayload, IsType, IsCount}
 use Rattle.strm_lines.proofs.ChoiceLemmas.{chosen, both_true}
 use Rattle.strm_lines.proofs.CutLemmas.{option_map_some}
 use Rattle.strm_tape.specs.Spelling.{number_bytes, payload_bytes, type_bytes}
-use Rattle.strm_tape.specs.Reading.{Found, followed_by, made, byte, scalars, scalar, fields, shape, payload_by, payload, type_by, transmit_type, count_of}
+use Rattle.strm_tape.specs.Reading.{Found, followed_by_part, read_as, byte, scalars, scalar, fields, shape, payload_by, payload, type_by, transmit_type, read_count}
 use Rattle.strm_tape.proofs.ReadingLemmas.{IsReading, IsReading-byte, IsReading-number, IsReading-within, IsReading-followed_by, found, rest_fits}
 
 -- scalars
@@ -75,17 +75,17 @@ fields_none = record {
     empty (s ∷ ss) rest f = absurd (omega (arith, f))
 
 -- a scalar in front of so many
-fields_more : (n : ℕ) → IsReading (followed_by scalar (fields n)) (λ v. scalar_number v.0 ∷ fields_bytes v.1) (λ v. Unit {0} × (length v.1 ≡ n)) → IsReading (fields (suc n)) fields_bytes (λ ss. length ss ≡ suc n)
+fields_more : (n : ℕ) → IsReading (followed_by_part scalar (fields n)) (λ v. scalar_number v.0 ∷ fields_bytes v.1) (λ v. Unit {0} × (length v.1 ≡ n)) → IsReading (fields (suc n)) fields_bytes (λ ss. length ss ≡ suc n)
 unfolding fields
 fields_more n both = record {
   sound = λ bytes rest ss f e.
-      option_map_some _ (followed_by scalar (fields n) bytes) (ss, rest) e (λ p g h.
+      option_map_some _ (followed_by_part scalar (fields n) bytes) (ss, rest) e (λ p g h.
       let one : ((scalar_number p.0.0 ∷ fields_bytes p.0.1) ++ p.1 ≡ bytes) × (Unit {0} × (length p.0.1 ≡ n)) = both.sound bytes p.1 p.0 f g in
       found fields_bytes (λ l. length l ≡ suc n) bytes (p.0.0 ∷ p.0.1, p.1) (ss, rest) h (one.0, ap suc one.1.1));
   complete = more;
 }
   where
-    more : (ss : List Scalar) (rest : List ℕ) → length ss ≡ suc n → made (λ p. p.0 ∷ p.1) (followed_by scalar (fields n)) (fields_bytes ss ++ rest) ≡ Some (ss, rest)
+    more : (ss : List Scalar) (rest : List ℕ) → length ss ≡ suc n → read_as (λ p. p.0 ∷ p.1) (followed_by_part scalar (fields n)) (fields_bytes ss ++ rest) ≡ Some (ss, rest)
     more [] rest f = absurd (omega (arith, f))
     more (s ∷ ss) rest f = rw (both.complete (s, ss) rest (tt, omega (arith, f))) refl
 
@@ -121,7 +121,7 @@ IsReading-shape = record { sound = shape_sound; complete = shape_complete }
 -- what is made of a part in one way is written as that part, behind what else stands there
 module _ {A B : Type 0} {read : List ℕ → Found A} {write : A → List ℕ} {IsFit : A → Type 0}
     (write_made : B → List ℕ) (IsFitMade : B → Type 0) (make : A → B) where
-  pub made_sound : IsReading read write IsFit → ((x : A) → write_made (make x) ≡ write x) → ((x : A) → IsFit x → IsFitMade (make x)) → (bytes rest : List ℕ) (y : B) → IsBytes bytes → made make read bytes ≡ Some (y, rest) → (write_made y ++ rest ≡ bytes) × IsFitMade y
+  pub made_sound : IsReading read write IsFit → ((x : A) → write_made (make x) ≡ write x) → ((x : A) → IsFit x → IsFitMade (make x)) → (bytes rest : List ℕ) (y : B) → IsBytes bytes → read_as make read bytes ≡ Some (y, rest) → (write_made y ++ rest ≡ bytes) × IsFitMade y
   made_sound r same fit bytes rest y f e =
       option_map_some (λ p. (make p.0, p.1)) (read bytes) (y, rest) e (λ p g h.
       let one : (write p.0 ++ p.1 ≡ bytes) × IsFit p.0 = r.sound bytes p.1 p.0 f g in
@@ -215,8 +215,8 @@ pub IsReading-type : IsReading transmit_type type_bytes IsType
 IsReading-type = record { sound = type_sound; complete = type_complete }
 
 -- the count of a read or write of this type
-pub IsReading-count : (ty : TransmitIndex) → IsReading (count_of ty) number_bytes (IsCount ty)
-unfolding count_of
+pub IsReading-count : (ty : TransmitIndex) → IsReading (read_count ty) number_bytes (IsCount ty)
+unfolding read_count
 IsReading-count (Stream p) = record { sound = IsReading-number.sound; complete = IsReading-number.complete }
 IsReading-count (Future p) = record {
   sound = λ bytes rest n f e. let one : (number_bytes n ++ rest ≡ bytes) × IsBetween 1 1 n = (IsReading-within 1 1 (omega arith)).sound bytes rest n f e in (one.0, omega (arith, one.1.0, one.1.1));

@@ -11,14 +11,14 @@ use Rattle.strm_memory.specs.Bytes.{put_at, IsBytes}
 use Rattle.strm_memory.specs.Items.{items, stored}
 use Rattle.strm_memory.proofs.CopyLemmas.{numbers_copied_at}
 use Rattle.strm_memory.proofs.RegionLemmas.{length-items, AreItems-items, length-stored_at}
-use Rattle.strm_buffers.specs.Listing.{Item, items_in, AreKept}
+use Rattle.strm_buffers.specs.Listing.{Item, items_in, AreItemsKept}
 use Rattle.strm_buffers.proofs.ListingLemmas.{kept_stored, are_stored}
 use Rattle.strm_tape.specs.Spelling.{region_bytes}
 use Rattle.strm_tape.specs.Reading.{items_as_written}
 
 -- what the new bytes are, where the comparison with the old ones gave this
 pub record Again (payload : Payload) (bytes written : List ℕ) (n : ℕ) (same : Bool) : Type 0 where
-  pub kept : AreKept payload written 0 n
+  pub kept : AreItemsKept payload written 0 n
   pub exact : items_as_written (scalars_of payload) bytes n ≡ cond same (Some (items_in (scalars_of payload) written 0 n)) None
 
 module _ (payload : Payload) (bytes zeros new : List ℕ) (len n : ℕ) where
@@ -54,7 +54,7 @@ module _ (payload : Payload) (bytes zeros new : List ℕ) (len n : ℕ) where
 
 -- bytes that are whole numbers, and the same bytes anew: these are kept, and lie as they are written
 pub record Plain (payload : Payload) (bytes written : List ℕ) (n : ℕ) : Type 0 where
-  pub kept : AreKept payload written 0 n
+  pub kept : AreItemsKept payload written 0 n
   pub exact : items_as_written (scalars_of payload) bytes n ≡ Some (items_in (scalars_of payload) written 0 n)
 
 -- numbers copied over as many zeros

@@ -31,23 +31,23 @@ abbrev pub ◌>>=◌ : {A B : Type 0} → Option A → (A → Option B) → Opti
 o >>= f = option_and_then f o
 
 -- one part, and behind it another, which may rest on the first
-abbrev pub followed_by_its : {A B : Type 0} → (List ℕ → Found A) → (A → List ℕ → Found B) → List ℕ → Found (A × B)
-followed_by_its first second bytes = do
+abbrev pub followed_by_its_part : {A B : Type 0} → (List ℕ → Found A) → (A → List ℕ → Found B) → List ℕ → Found (A × B)
+followed_by_its_part first second bytes = do
   p ← first bytes
   q ← second p.0 p.1
   Some ((p.0, q.0), q.1)
 
 -- one part, and behind it another
-abbrev pub followed_by : {A B : Type 0} → (List ℕ → Found A) → (List ℕ → Found B) → List ℕ → Found (A × B)
-followed_by first second = followed_by_its first (λ x. second)
+abbrev pub followed_by_part : {A B : Type 0} → (List ℕ → Found A) → (List ℕ → Found B) → List ℕ → Found (A × B)
+followed_by_part first second = followed_by_its_part first (λ x. second)
 
 -- a part, seen as something else
-abbrev pub made : {A B : Type 0} → (A → B) → (List ℕ → Found A) → List ℕ → Found B
-made make read bytes = option_map (λ p. (make p.0, p.1)) (read bytes)
+abbrev pub read_as : {A B : Type 0} → (A → B) → (List ℕ → Found A) → List ℕ → Found B
+read_as make read bytes = option_map (λ p. (make p.0, p.1)) (read bytes)
 
 -- nothing
-abbrev pub nothing : List ℕ → Found (Unit {0})
-nothing bytes = Some (tt, bytes)
+abbrev pub read_nothing : List ℕ → Found (Unit {0})
+read_nothing bytes = Some (tt, bytes)
 
 -- a byte
 abbrev pub byte : List ℕ → Found ℕ
@@ -55,13 +55,13 @@ byte [] = None
 byte (b ∷ bytes) = Some (b, bytes)
 
 -- a number of four bytes
-unfoldable pub number : List ℕ → Found ℕ
-number bytes = if nat_le 4 (length bytes) then Some (le (take 4 bytes), drop 4 bytes) else None
+unfoldable pub read_number : List ℕ → Found ℕ
+read_number bytes = if nat_le 4 (length bytes) then Some (le (take 4 bytes), drop 4 bytes) else None
 
 -- a number from low to high
 unfoldable pub within : ℕ → ℕ → List ℕ → Found ℕ
 within low high bytes = do
-  p ← number bytes
+  p ← read_number bytes
   if nat_le low p.0 && nat_le p.0 high then Some p else None
 
 -- all scalars, by their places
@@ -78,7 +78,7 @@ scalar bytes = do
 -- so many scalars
 unfoldable pub fields : ℕ → List ℕ → Found (List Scalar)
 fields zero bytes = Some ([], bytes)
-fields (suc n) bytes = made (λ p. p.0 ∷ p.1) (followed_by scalar (fields n)) bytes
+fields (suc n) bytes = read_as (λ p. p.0 ∷ p.1) (followed_by_part scalar (fields n)) bytes
 
 -- one to eight scalars behind their number
 unfoldable pub shape : List ℕ → Found (List Scalar)
@@ -90,8 +90,8 @@ shape bytes = do
 abbrev pub payload_by : ℕ → List ℕ → Found Payload
 payload_by form bytes =
     if form == 0 then Some (Nothing, bytes)
-    else (if form == 1 then made One scalar bytes
-    else (if form == 2 then made Tuple shape bytes else None))
+    else (if form == 1 then read_as One scalar bytes
+    else (if form == 2 then read_as Tuple shape bytes else None))
 
 -- a payload
 unfoldable pub payload : List ℕ → Found Payload
@@ -102,8 +102,8 @@ payload bytes = do
 -- a type, by its kind
 abbrev pub type_by : ℕ → List ℕ → Found TransmitIndex
 type_by kind bytes =
-    if kind == 0 then made Stream payload bytes
-    else (if kind == 1 then made Future payload bytes else None)
+    if kind == 0 then read_as Stream payload bytes
+    else (if kind == 1 then read_as Future payload bytes else None)
 
 -- a type
 unfoldable pub transmit_type : List ℕ → Found TransmitIndex
@@ -112,9 +112,9 @@ transmit_type bytes = do
   type_by p.0 p.1
 
 -- the count of a read or write of this type
-unfoldable pub count_of : TransmitIndex → List ℕ → Found ℕ
-count_of (Stream payload) bytes = number bytes
-count_of (Future payload) bytes = within 1 1 bytes
+unfoldable pub read_count : TransmitIndex → List ℕ → Found ℕ
+read_count (Stream payload) bytes = read_number bytes
+read_count (Future payload) bytes = within 1 1 bytes
 
 -- so many bytes, which are to be low to 64
 abbrev pub chunk_of : ℕ → ℕ → List ℕ → Found (List ℕ)
@@ -130,52 +130,52 @@ chunk low bytes = do
 
 -- two numbers
 abbrev pub two : List ℕ → Found (ℕ × ℕ)
-two = followed_by number number
+two = followed_by_part read_number read_number
 
 -- three numbers
 abbrev pub three : List ℕ → Found (ℕ × (ℕ × ℕ))
-three = followed_by number two
+three = followed_by_part read_number two
 
 -- an end: guest, type and handle
-abbrev pub named_end : List ℕ → Found (ℕ × (TransmitIndex × ℕ))
-named_end = followed_by number (followed_by transmit_type number)
+abbrev pub read_named_end : List ℕ → Found (ℕ × (TransmitIndex × ℕ))
+read_named_end = followed_by_part read_number (followed_by_part transmit_type read_number)
 
 -- what is read of a read or write: an end, an address and a count
-abbrev pub operands : List ℕ → Found (ℕ × (TransmitIndex × (ℕ × (ℕ × ℕ))))
-operands = followed_by number (followed_by_its transmit_type (λ ty. followed_by number (followed_by number (count_of ty))))
+abbrev pub read_operands : List ℕ → Found (ℕ × (TransmitIndex × (ℕ × (ℕ × ℕ))))
+read_operands = followed_by_part read_number (followed_by_its_part transmit_type (λ ty. followed_by_part read_number (followed_by_part read_number (read_count ty))))
 
 -- how the arguments of each command are read, by the places of the commands
-abbrev pub readers : List (List ℕ → Found Step)
-readers =
-    made Guest number
-    ∷ made (λ v. New v.0 v.1) (followed_by number transmit_type)
-    ∷ made (λ v. Between v.0 v.1.0 v.1.1) (followed_by number (followed_by number transmit_type))
-    ∷ made (λ v. Write v.0 v.1.0 v.1.1.0 v.1.1.1.0 v.1.1.1.1) operands
-    ∷ made (λ v. Read v.0 v.1.0 v.1.1.0 v.1.1.1.0 v.1.1.1.1) operands
-    ∷ made (λ v. CancelWrite v.0 v.1.0 v.1.1) named_end
-    ∷ made (λ v. CancelRead v.0 v.1.0 v.1.1) named_end
-    ∷ made (λ v. DropWrite v.0 v.1.0 v.1.1) named_end
-    ∷ made (λ v. DropRead v.0 v.1.0 v.1.1) named_end
-    ∷ made (λ v. Event v.0 v.1) two
-    ∷ made (λ v. Move v.0 v.1.0 v.1.1.0 v.1.1.1) (followed_by number (followed_by transmit_type two))
-    ∷ made (λ v. Lift v.0 v.1.0 v.1.1) named_end
-    ∷ made (λ v. Lower v.0 v.1.0 v.1.1) (followed_by number (followed_by number transmit_type))
-    ∷ made (λ v. Pipe v.0 v.1) two
-    ∷ made Close number
-    ∷ made HostNew number
-    ∷ made (λ v. Drive) nothing
-    ∷ made (λ v. Feed v.0 v.1) (followed_by number (chunk 0))
-    ∷ made (λ v. Grant v.0 v.1) two
-    ∷ made SetNew number
-    ∷ made (λ v. SetJoin v.0 v.1.0 v.1.1) three
-    ∷ made (λ v. SetPoll v.0 v.1) two
-    ∷ made (λ v. SetDrop v.0 v.1) two
-    ∷ made (λ v. ErrNew v.0 v.1.0 v.1.1) three
-    ∷ made (λ v. ErrText v.0 v.1.0 v.1.1) three
-    ∷ made (λ v. ErrMove v.0 v.1.0 v.1.1) three
-    ∷ made (λ v. ErrDrop v.0 v.1) two
-    ∷ made (λ v. Poke v.0 v.1.0 v.1.1) (followed_by number (followed_by number (chunk 1)))
-    ∷ made (λ v. Dump v.0 v.1.0 v.1.1) (followed_by number (followed_by number (within 1 64)))
+abbrev pub argument_readers : List (List ℕ → Found Step)
+argument_readers =
+    read_as Guest read_number
+    ∷ read_as (λ v. New v.0 v.1) (followed_by_part read_number transmit_type)
+    ∷ read_as (λ v. Between v.0 v.1.0 v.1.1) (followed_by_part read_number (followed_by_part read_number transmit_type))
+    ∷ read_as (λ v. Write v.0 v.1.0 v.1.1.0 v.1.1.1.0 v.1.1.1.1) read_operands
+    ∷ read_as (λ v. Read v.0 v.1.0 v.1.1.0 v.1.1.1.0 v.1.1.1.1) read_operands
+    ∷ read_as (λ v. CancelWrite v.0 v.1.0 v.1.1) read_named_end
+    ∷ read_as (λ v. CancelRead v.0 v.1.0 v.1.1) read_named_end
+    ∷ read_as (λ v. DropWrite v.0 v.1.0 v.1.1) read_named_end
+    ∷ read_as (λ v. DropRead v.0 v.1.0 v.1.1) read_named_end
+    ∷ read_as (λ v. Event v.0 v.1) two
+    ∷ read_as (λ v. Move v.0 v.1.0 v.1.1.0 v.1.1.1) (followed_by_part read_number (followed_by_part transmit_type two))
+    ∷ read_as (λ v. Lift v.0 v.1.0 v.1.1) read_named_end
+    ∷ read_as (λ v. Lower v.0 v.1.0 v.1.1) (followed_by_part read_number (followed_by_part read_number transmit_type))
+    ∷ read_as (λ v. Pipe v.0 v.1) two
+    ∷ read_as Close read_number
+    ∷ read_as HostNew read_number
+    ∷ read_as (λ v. Drive) read_nothing
+    ∷ read_as (λ v. Feed v.0 v.1) (followed_by_part read_number (chunk 0))
+    ∷ read_as (λ v. Grant v.0 v.1) two
+    ∷ read_as SetNew read_number
+    ∷ read_as (λ v. SetJoin v.0 v.1.0 v.1.1) three
+    ∷ read_as (λ v. SetPoll v.0 v.1) two
+    ∷ read_as (λ v. SetDrop v.0 v.1) two
+    ∷ read_as (λ v. ErrNew v.0 v.1.0 v.1.1) three
+    ∷ read_as (λ v. ErrText v.0 v.1.0 v.1.1) three
+    ∷ read_as (λ v. ErrMove v.0 v.1.0 v.1.1) three
+    ∷ read_as (λ v. ErrDrop v.0 v.1) two
+    ∷ read_as (λ v. Poke v.0 v.1.0 v.1.1) (followed_by_part read_number (followed_by_part read_number (chunk 1)))
+    ∷ read_as (λ v. Dump v.0 v.1.0 v.1.1) (followed_by_part read_number (followed_by_part read_number (within 1 64)))
     ∷ []
 
 -- no step
@@ -185,7 +185,7 @@ none bytes = None
 -- the step whose command has this place
 unfoldable pub step_by : ℕ → List ℕ → Found Step
 step_by zero bytes = None
-step_by (suc n) bytes = slice_index_or readers n none bytes
+step_by (suc n) bytes = slice_index_or argument_readers n none bytes
 
 -- a step
 unfoldable pub step : List ℕ → Found Step
@@ -203,25 +203,25 @@ flag bytes = do
   Some (b, p.1)
 
 -- all answers, by their places
-abbrev pub answers : List Answer
-answers = Pending ∷ Completed ∷ Cancelled ∷ Dropped ∷ Failed ∷ []
+abbrev pub all_answers : List Answer
+all_answers = Pending ∷ Completed ∷ Cancelled ∷ Dropped ∷ Failed ∷ []
 
 -- an answer
 unfoldable pub answer : List ℕ → Found Answer
 answer bytes = do
   p ← byte bytes
-  a ← slice_get answers p.0
+  a ← slice_get all_answers p.0
   Some (a, p.1)
 
 -- the room that a number is
-abbrev pub room_of : ℕ → Option (Option ℕ)
-room_of n = if n == 4294967295 then Some None else (if nat_lt n 268435456 then Some (Some n) else None)
+abbrev pub room_of_number : ℕ → Option (Option ℕ)
+room_of_number n = if n == 4294967295 then Some None else (if nat_lt n 268435456 then Some (Some n) else None)
 
 -- a room
-unfoldable pub room : List ℕ → Found (Option ℕ)
-room bytes = do
-  p ← number bytes
-  r ← room_of p.0
+unfoldable pub read_room : List ℕ → Found (Option ℕ)
+read_room bytes = do
+  p ← read_number bytes
+  r ← room_of_number p.0
   Some (r, p.1)
 
 -- items that lie in bytes as they are written over zeros
@@ -238,38 +238,38 @@ region ss n bytes =
     else None
 
 -- items behind their number
-unfoldable pub items_of : List Scalar → List ℕ → Found (List Item)
-items_of ss bytes = do
-  p ← number bytes
+unfoldable pub read_item_list : List Scalar → List ℕ → Found (List Item)
+read_item_list ss bytes = do
+  p ← read_number bytes
   if nat_lt p.0 4294967295 then region ss p.0 p.1 else None
 
 -- items of a payload
-abbrev pub typed : Payload → List Item → TypedItems
-typed payload xs = record { payload = payload; items = xs }
+abbrev pub typed_items : Payload → List Item → TypedItems
+typed_items payload xs = record { payload = payload; items = xs }
 
 -- a record of a host writer of this payload
-abbrev pub writer_record : Payload → List ℕ → Found WriterSaid
-writer_record payload =
-    made
+abbrev pub read_writer_record : Payload → List ℕ → Found WriterSaid
+read_writer_record payload =
+    read_as
     (λ v. record { room = v.0; finish = v.1.0; payload = payload; items = v.1.1.0; answer = v.1.1.1 })
-    (followed_by room (followed_by flag (followed_by (items_of (scalars_of payload)) answer)))
+    (followed_by_part read_room (followed_by_part flag (followed_by_part (read_item_list (scalars_of payload)) answer)))
 
 -- a record of a host reader
-abbrev pub reader_record : List ℕ → Found ReaderSaid
-reader_record =
-    made
+abbrev pub read_reader_record : List ℕ → Found ReaderSaid
+read_reader_record =
+    read_as
     (λ v. record { offered = v.0; since = v.1.0; finish = v.1.1.0; taken = v.1.1.1.0; bad = v.1.1.1.1.0; answer = v.1.1.1.1.1 })
-    (followed_by_its number (λ offered. followed_by number (followed_by flag (followed_by (within 0 offered) (followed_by flag answer)))))
+    (followed_by_its_part read_number (λ offered. followed_by_part read_number (followed_by_part flag (followed_by_part (within 0 offered) (followed_by_part flag answer)))))
 
 -- so many things
 unfoldable pub many : {A : Type 0} → (List ℕ → Found A) → ℕ → List ℕ → Found (List A)
 many read zero bytes = Some ([], bytes)
-many read (suc n) bytes = made (λ p. p.0 ∷ p.1) (followed_by read (many read n)) bytes
+many read (suc n) bytes = read_as (λ p. p.0 ∷ p.1) (followed_by_part read (many read n)) bytes
 
 -- things behind their number
-unfoldable pub listed : {A : Type 0} → (List ℕ → Found A) → List ℕ → Found (List A)
-listed read bytes = do
-  p ← number bytes
+unfoldable pub read_counted : {A : Type 0} → (List ℕ → Found A) → List ℕ → Found (List A)
+read_counted read bytes = do
+  p ← read_number bytes
   many read p.0 p.1
 
 -- at most 64 things behind one byte
@@ -283,12 +283,12 @@ few_listed read bytes = do
 -- a host writer
 abbrev pub writer : List ℕ → Found WriterTape
 writer =
-    made (λ v. record { ty = v.0; said = v.1 })
-    (followed_by_its transmit_type (λ ty. listed (writer_record (payload_of ty))))
+    read_as (λ v. record { ty = v.0; said = v.1 })
+    (followed_by_its_part transmit_type (λ ty. read_counted (read_writer_record (payload_of ty))))
 
 -- a host reader
 abbrev pub reader : List ℕ → Found ReaderTape
-reader = made (λ v. record { ty = v.0; said = v.1 }) (followed_by transmit_type (listed reader_record))
+reader = read_as (λ v. record { ty = v.0; said = v.1 }) (followed_by_part transmit_type (read_counted read_reader_record))
 
 -- what a tape begins with
 unfoldable pub head : List ℕ → Found (Unit {0})
@@ -297,5 +297,5 @@ head bytes = if bytes_eq (take 5 bytes) head_bytes then Some (tt, drop 5 bytes) 
 -- a tape, and what follows it
 abbrev pub tape : List ℕ → Found TapeOf
 tape =
-    made (λ v. record { steps = v.1.0; writers = v.1.1.0; readers = v.1.1.1 })
-    (followed_by head (followed_by (listed step) (followed_by (few_listed writer) (few_listed reader))))
+    read_as (λ v. record { steps = v.1.0; writers = v.1.1.0; readers = v.1.1.1 })
+    (followed_by_part head (followed_by_part (read_counted step) (followed_by_part (few_listed writer) (few_listed reader))))

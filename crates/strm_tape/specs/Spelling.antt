@@ -71,12 +71,12 @@ place_among n [] command = n
 place_among n (c ∷ cs) command = if bytes_eq command c then n else place_among (n + 1) cs command
 
 -- the place of a step's command, from 1
-abbrev pub place_of : Step → ℕ
-place_of step = place_among 1 commands (line_of step).command
+abbrev pub command_place : Step → ℕ
+command_place step = place_among 1 commands (line_of step).command
 
 -- a step: the place of its command, and the arguments of its line
 abbrev pub step_bytes : Step → List ℕ
-step_bytes step = place_of step ∷ arguments_bytes (line_of step).arguments
+step_bytes step = command_place step ∷ arguments_bytes (line_of step).arguments
 
 -- steps in a row
 abbrev pub steps_bytes : List Step → List ℕ
@@ -127,8 +127,8 @@ reader_record_bytes said =
     ++ (answer_number said.answer ∷ [])
 
 -- things in a row behind their number
-abbrev pub counted : {A : Type 0} → (A → List ℕ) → List A → List ℕ
-counted write xs = number_bytes (length xs) ++ flat_map write xs
+abbrev pub spelled_counted : {A : Type 0} → (A → List ℕ) → List A → List ℕ
+spelled_counted write xs = number_bytes (length xs) ++ flat_map write xs
 
 -- the same behind one byte
 abbrev pub few_counted : {A : Type 0} → (A → List ℕ) → List A → List ℕ
@@ -154,11 +154,11 @@ pub record TapeOf : Type 0 where
 
 -- a host writer: its type, and its records
 abbrev pub writer_bytes : WriterTape → List ℕ
-writer_bytes writer = type_bytes writer.ty ++ counted writer_record_bytes writer.said
+writer_bytes writer = type_bytes writer.ty ++ spelled_counted writer_record_bytes writer.said
 
 -- a host reader: the same
 abbrev pub reader_bytes : ReaderTape → List ℕ
-reader_bytes reader = type_bytes reader.ty ++ counted reader_record_bytes reader.said
+reader_bytes reader = type_bytes reader.ty ++ spelled_counted reader_record_bytes reader.said
 
 -- what a tape begins with: `STRT`, and the version
 abbrev pub head_bytes : List ℕ
@@ -168,21 +168,21 @@ head_bytes = 83 ∷ 84 ∷ 82 ∷ 84 ∷ 1 ∷ []
 abbrev pub tape_spelling : TapeOf → List ℕ
 tape_spelling tape =
     head_bytes
-    ++ (counted step_bytes tape.steps
+    ++ (spelled_counted step_bytes tape.steps
     ++ (few_counted writer_bytes tape.writers
     ++ few_counted reader_bytes tape.readers))
 
 -- WHICH TAPES THERE ARE
 
 -- a stated room is below 2^28
-abbrev pub IsRoom : Option ℕ → Type 0
-IsRoom None = Unit {0}
-IsRoom (Some room) = room < 268435456
+abbrev pub IsSpelledRoom : Option ℕ → Type 0
+IsSpelledRoom None = Unit {0}
+IsSpelledRoom (Some room) = room < 268435456
 
 -- a record of a host writer of this payload
 pub record IsWriterRecord (payload : Payload) (said : WriterSaid) : Type 0 where
   pub of : said.payload ≡ payload
-  pub room : IsRoom said.room
+  pub room : IsSpelledRoom said.room
   pub few : length said.items < 4294967295
   pub fit : AreItems (scalars_of payload) said.items
 

@@ -5,7 +5,7 @@
 
 ghost use Rattle.std.specs.Prelude.{◌≡◌, ◌++◌, ◌∷◌, [], IfOk, OnOk};
 ghost use Rattle.std.specs.Option.{option_map};
-ghost use Rattle.strm_tape.specs.Reading.{many, listed, few_listed, step, writer_record, reader_record, writer, reader};
+ghost use Rattle.strm_tape.specs.Reading.{many, read_counted, few_listed, step, read_writer_record, read_reader_record, writer, reader};
 
 use crate::parts::{byte, number, transmit_type};
 use crate::records::{reader_record, writer_record};
@@ -52,7 +52,7 @@ pub(crate) fn listed_steps(
     bytes: &[u8],
 ) -> Result<Option<(Vec<Step>, &[u8])>, OutOfMemory>
     ensures { IfOk result (λ found. option_map (λ p. (p.0.items, p.1.now)) found
-        ≡ listed step bytes.now) }
+        ≡ read_counted step bytes.now) }
 {
     match number(bytes) {
         Some((count, rest)) => steps(alloc, count, rest),
@@ -68,7 +68,7 @@ fn writer_records<'a>(
     bytes: &'a [u8],
 ) -> Result<Option<(Vec<WriterSaid>, &'a [u8])>, OutOfMemory>
     ensures { IfOk result (λ found. option_map (λ p. (p.0.items, p.1.now)) found
-        ≡ many (writer_record payload.now) count bytes.now) }
+        ≡ many (read_writer_record payload.now) count bytes.now) }
 {
     let mut all = Vec::new(alloc);
     let mut rest = bytes;
@@ -89,7 +89,7 @@ fn reader_records(
     bytes: &[u8],
 ) -> Result<Option<(Vec<ReaderSaid>, &[u8])>, OutOfMemory>
     ensures { IfOk result (λ found. option_map (λ p. (p.0.items, p.1.now)) found
-        ≡ many reader_record count bytes.now) }
+        ≡ many read_reader_record count bytes.now) }
 {
     let mut all = Vec::new(alloc);
     let mut rest = bytes;

@@ -5,7 +5,7 @@
 ghost use Rattle.std.specs.Prelude.{◌≡◌, ◌≤◌, slice_get};
 ghost use Rattle.std.specs.Option.{option_map};
 ghost use Rattle.strm_memory.specs.Bytes.{IsBytes};
-ghost use Rattle.strm_tape.specs.Reading.{byte, number, within, scalars, scalar, fields, shape, payload_by, payload, type_by, transmit_type, count_of, chunk};
+ghost use Rattle.strm_tape.specs.Reading.{byte, read_number, within, scalars, scalar, fields, shape, payload_by, payload, type_by, transmit_type, read_count, chunk};
 
 use strm_codes::codes::TransmitIndex;
 use strm_codes::payloads::{Payload, Shape};
@@ -33,7 +33,7 @@ pub(crate) fn byte(bytes: &[u8]) -> Option<(u8, &[u8])>
 #[inline(always)]
 #[tactic(auto, unfolding(crate::specs::Reading::number))]
 pub(crate) fn number(bytes: &[u8]) -> Option<(u32, &[u8])>
-    ensures { option_map (λ p. (p.0, p.1.now)) result ≡ number bytes.now }
+    ensures { option_map (λ p. (p.0, p.1.now)) result ≡ read_number bytes.now }
 {
     if bytes.len() < 4 {
         return None;
@@ -196,7 +196,7 @@ fn type_by(kind: u8, bytes: &[u8]) -> Option<(TransmitIndex, &[u8])>
 // The count of a read or write of this type, and what follows it.
 #[tactic(auto, unfolding(crate::specs::Reading::count_of))]
 pub(crate) fn count_of<'a>(ty: &TransmitIndex, bytes: &'a [u8]) -> Option<(u32, &'a [u8])>
-    ensures { option_map (λ p. (p.0, p.1.now)) result ≡ count_of ty.now bytes.now }
+    ensures { option_map (λ p. (p.0, p.1.now)) result ≡ read_count ty.now bytes.now }
 {
     match ty {
         TransmitIndex::Stream(_) => number(bytes),

@@ -6,8 +6,8 @@
 ghost use Rattle.std.specs.Prelude.{◌≡◌, ◌<◌, ◌*◌, ◌++◌, ◌∷◌, [], Bool, true, false, length, replicate, slice_get, if◌then◌else◌, Some, None, IsTrue, IfOk, OnOk};
 ghost use Rattle.std.specs.Option.{option_map};
 ghost use Rattle.strm_codes.specs.Layout.{scalars_of, item_size, is_number_payload};
-ghost use Rattle.strm_buffers.specs.Listing.{items_in, AreKept};
-ghost use Rattle.strm_tape.specs.Reading.{made, flag, answers, answer, room_of, room, items_as_written, region, items_of, writer_record, reader_record, typed};
+ghost use Rattle.strm_buffers.specs.Listing.{items_in, AreItemsKept};
+ghost use Rattle.strm_tape.specs.Reading.{read_as, flag, all_answers, answer, room_of_number, read_room, items_as_written, region, read_item_list, read_writer_record, read_reader_record, typed_items};
 
 use crate::parts::{are_bytes, byte, number, within};
 use crate::writing::{put, put_zeros};
@@ -38,7 +38,7 @@ fn flag_at(place: u8) -> Option<bool>
 
 // The answer of a place.
 fn answer_at(place: u8) -> Option<Answer>
-    ensures { result ≡ slice_get answers place }
+    ensures { result ≡ slice_get all_answers place }
 {
     let all = [
         Answer::Pending,
@@ -62,7 +62,7 @@ fn answer(bytes: &[u8]) -> Option<(Answer, &[u8])>
 
 // The room that a number is.
 fn room_of(number: u32) -> Option<Option<u32>>
-    ensures { result ≡ room_of number }
+    ensures { result ≡ room_of_number number }
 {
     if number == 4_294_967_295 {
         Some(None)
@@ -76,7 +76,7 @@ fn room_of(number: u32) -> Option<Option<u32>>
 // A room, and what follows it.
 #[tactic(auto, unfolding(crate::specs::Reading::room))]
 fn room(bytes: &[u8]) -> Option<(Option<u32>, &[u8])>
-    ensures { option_map (λ p. (p.0, p.1.now)) result ≡ room bytes.now }
+    ensures { option_map (λ p. (p.0, p.1.now)) result ≡ read_room bytes.now }
 {
     let (found, rest) = number(bytes)?;
     let room = room_of(found)?;
@@ -88,7 +88,7 @@ fn write_again(bytes: &[u8], payload: Payload, count: u32, written: &mut Vec<u8>
     requires all { length bytes.now ≡ item_size (scalars_of payload) * count }
     requires zeros { written.old.items ≡ replicate (length bytes.now) 0 }
     requires few { count < 4294967295 }
-    ensures kept { IsTrue result → AreKept payload written.new.items 0 count }
+    ensures kept { IsTrue result → AreItemsKept payload written.new.items 0 count }
     ensures exact { items_as_written (scalars_of payload) bytes.now count
         ≡ (if result then Some (items_in (scalars_of payload) written.new.items 0 count) else None) }
 {
@@ -109,7 +109,7 @@ fn fill(
     requires all { length bytes.now ≡ item_size (scalars_of payload) * count }
     requires empty { written.old.items ≡ [] }
     requires few { count < 4294967295 }
-    ensures kept { IfOk result (λ same. IsTrue same → AreKept payload written.new.items 0 count) }
+    ensures kept { IfOk result (λ same. IsTrue same → AreItemsKept payload written.new.items 0 count) }
     ensures exact { IfOk result (λ same. items_as_written (scalars_of payload) bytes.now count
         ≡ (if same then Some (items_in (scalars_of payload) written.new.items 0 count) else None)) }
 {
@@ -128,7 +128,7 @@ fn fill_plain(
     requires all { length bytes.now ≡ item_size (scalars_of payload) * count }
     requires empty { written.old.items ≡ [] }
     requires few { count < 4294967295 }
-    ensures kept { OnOk result (AreKept payload written.new.items 0 count) }
+    ensures kept { OnOk result (AreItemsKept payload written.new.items 0 count) }
     ensures exact { OnOk result (items_as_written (scalars_of payload) bytes.now count
         ≡ Some (items_in (scalars_of payload) written.new.items 0 count)) }
 {
@@ -147,7 +147,7 @@ fn fill_any(
     requires all { length bytes.now ≡ item_size (scalars_of payload) * count }
     requires empty { written.old.items ≡ [] }
     requires few { count < 4294967295 }
-    ensures kept { IfOk result (λ same. IsTrue same → AreKept payload written.new.items 0 count) }
+    ensures kept { IfOk result (λ same. IsTrue same → AreItemsKept payload written.new.items 0 count) }
     ensures exact { IfOk result (λ same. items_as_written (scalars_of payload) bytes.now count
         ≡ (if same then Some (items_in (scalars_of payload) written.new.items 0 count) else None)) }
 {
@@ -168,7 +168,7 @@ fn items_of_bytes(
     requires all { length bytes.now ≡ item_size (scalars_of payload.now) * count }
     requires few { count < 4294967295 }
     ensures { IfOk result (λ found. found
-        ≡ option_map (typed payload.now) (items_as_written (scalars_of payload.now) bytes.now count)) }
+        ≡ option_map (typed_items payload.now) (items_as_written (scalars_of payload.now) bytes.now count)) }
 {
     let mut written = Vec::new(alloc);
     if !fill_any(bytes, *payload, count, &mut written)? {
@@ -187,7 +187,7 @@ fn region(
 ) -> Result<Option<(Items, &[u8])>, OutOfMemory>
     requires few { count < 4294967295 }
     ensures { IfOk result (λ found. option_map (λ p. (p.0, p.1.now)) found
-        ≡ made (typed payload) (region (scalars_of payload) count) bytes.now) }
+        ≡ read_as (typed_items payload) (region (scalars_of payload) count) bytes.now) }
 {
     let size = payload.size() as usize * count as usize;
     if bytes.len() < size {
@@ -208,7 +208,7 @@ fn items_of(
     bytes: &[u8],
 ) -> Result<Option<(Items, &[u8])>, OutOfMemory>
     ensures { IfOk result (λ found. option_map (λ p. (p.0, p.1.now)) found
-        ≡ made (typed payload) (items_of (scalars_of payload)) bytes.now) }
+        ≡ read_as (typed_items payload) (read_item_list (scalars_of payload)) bytes.now) }
 {
     let Some((count, rest)) = number(bytes) else {
         return Ok(None);
@@ -227,7 +227,7 @@ pub(crate) fn writer_record(
     bytes: &[u8],
 ) -> Result<Option<(WriterSaid, &[u8])>, OutOfMemory>
     ensures { IfOk result (λ found. option_map (λ p. (p.0, p.1.now)) found
-        ≡ writer_record payload bytes.now) }
+        ≡ read_writer_record payload bytes.now) }
 {
     let Some((room, rest)) = room(bytes) else {
         return Ok(None);
@@ -254,7 +254,7 @@ pub(crate) fn writer_record(
 
 // A record of a host reader, and what follows it.
 pub(crate) fn reader_record(bytes: &[u8]) -> Option<(ReaderSaid, &[u8])>
-    ensures { option_map (λ p. (p.0, p.1.now)) result ≡ reader_record bytes.now }
+    ensures { option_map (λ p. (p.0, p.1.now)) result ≡ read_reader_record bytes.now }
 {
     let (offered, rest) = number(bytes)?;
     let (since, rest) = number(rest)?;

@@ -4,7 +4,7 @@
 
 ghost use Rattle.std.specs.Prelude.{◌≡◌};
 ghost use Rattle.std.specs.Option.{option_map};
-ghost use Rattle.strm_tape.specs.Reading.{followed_by, number, transmit_type, chunk, within, two, three, named_end, operands};
+ghost use Rattle.strm_tape.specs.Reading.{followed_by_part, read_number, transmit_type, chunk, within, two, three, read_named_end, read_operands};
 
 use crate::parts::{chunk, count_of, number, transmit_type, within};
 use strm_codes::codes::TransmitIndex;
@@ -29,7 +29,7 @@ pub(crate) fn three_numbers(bytes: &[u8]) -> Option<(u32, u32, u32, &[u8])>
 }
 
 pub(crate) fn number_and_type(bytes: &[u8]) -> Option<(u32, TransmitIndex, &[u8])>
-    ensures { option_map (λ p. ((p.0, p.1), p.2.now)) result ≡ followed_by number transmit_type bytes.now }
+    ensures { option_map (λ p. ((p.0, p.1), p.2.now)) result ≡ followed_by_part read_number transmit_type bytes.now }
 {
     let (number, rest) = number(bytes)?;
     let Some((ty, rest)) = transmit_type(rest) else {
@@ -40,7 +40,7 @@ pub(crate) fn number_and_type(bytes: &[u8]) -> Option<(u32, TransmitIndex, &[u8]
 
 pub(crate) fn two_numbers_and_type(bytes: &[u8]) -> Option<(u32, u32, TransmitIndex, &[u8])>
     ensures { option_map (λ p. ((p.0, (p.1, p.2)), p.3.now)) result
-        ≡ followed_by number (followed_by number transmit_type) bytes.now }
+        ≡ followed_by_part read_number (followed_by_part read_number transmit_type) bytes.now }
 {
     let (first, rest) = number(bytes)?;
     let Some((second, ty, rest)) = number_and_type(rest) else {
@@ -50,7 +50,7 @@ pub(crate) fn two_numbers_and_type(bytes: &[u8]) -> Option<(u32, u32, TransmitIn
 }
 
 pub(crate) fn named_end(bytes: &[u8]) -> Option<(u32, TransmitIndex, u32, &[u8])>
-    ensures { option_map (λ p. ((p.0, (p.1, p.2)), p.3.now)) result ≡ named_end bytes.now }
+    ensures { option_map (λ p. ((p.0, (p.1, p.2)), p.3.now)) result ≡ read_named_end bytes.now }
 {
     let (guest, rest) = number(bytes)?;
     let Some((ty, rest)) = transmit_type(rest) else {
@@ -62,7 +62,7 @@ pub(crate) fn named_end(bytes: &[u8]) -> Option<(u32, TransmitIndex, u32, &[u8])
 
 pub(crate) fn end_and_guest(bytes: &[u8]) -> Option<(u32, TransmitIndex, u32, u32, &[u8])>
     ensures { option_map (λ p. ((p.0, (p.1, (p.2, p.3))), p.4.now)) result
-        ≡ followed_by number (followed_by transmit_type two) bytes.now }
+        ≡ followed_by_part read_number (followed_by_part transmit_type two) bytes.now }
 {
     let (guest, rest) = number(bytes)?;
     let Some((ty, rest)) = transmit_type(rest) else {
@@ -73,7 +73,7 @@ pub(crate) fn end_and_guest(bytes: &[u8]) -> Option<(u32, TransmitIndex, u32, u3
 }
 
 pub(crate) fn operands(bytes: &[u8]) -> Option<(u32, TransmitIndex, u32, u32, u32, &[u8])>
-    ensures { option_map (λ p. ((p.0, (p.1, (p.2, (p.3, p.4)))), p.5.now)) result ≡ operands bytes.now }
+    ensures { option_map (λ p. ((p.0, (p.1, (p.2, (p.3, p.4)))), p.5.now)) result ≡ read_operands bytes.now }
 {
     let (guest, rest) = number(bytes)?;
     let Some((ty, rest)) = transmit_type(rest) else {
@@ -85,7 +85,7 @@ pub(crate) fn operands(bytes: &[u8]) -> Option<(u32, TransmitIndex, u32, u32, u3
 }
 
 pub(crate) fn number_and_fed(bytes: &[u8]) -> Option<(u32, Chunk, &[u8])>
-    ensures { option_map (λ p. ((p.0, p.1), p.2.now)) result ≡ followed_by number (chunk 0) bytes.now }
+    ensures { option_map (λ p. ((p.0, p.1), p.2.now)) result ≡ followed_by_part read_number (chunk 0) bytes.now }
 {
     let (host, rest) = number(bytes)?;
     let Some((fed, rest)) = chunk(0, rest) else {
@@ -96,7 +96,7 @@ pub(crate) fn number_and_fed(bytes: &[u8]) -> Option<(u32, Chunk, &[u8])>
 
 pub(crate) fn place_and_bytes(bytes: &[u8]) -> Option<(u32, u32, Chunk, &[u8])>
     ensures { option_map (λ p. ((p.0, (p.1, p.2)), p.3.now)) result
-        ≡ followed_by number (followed_by number (chunk 1)) bytes.now }
+        ≡ followed_by_part read_number (followed_by_part read_number (chunk 1)) bytes.now }
 {
     let (guest, address, rest) = two_numbers(bytes)?;
     let Some((put, rest)) = chunk(1, rest) else {
@@ -107,7 +107,7 @@ pub(crate) fn place_and_bytes(bytes: &[u8]) -> Option<(u32, u32, Chunk, &[u8])>
 
 pub(crate) fn place_and_len(bytes: &[u8]) -> Option<(u32, u32, u32, &[u8])>
     ensures { option_map (λ p. ((p.0, (p.1, p.2)), p.3.now)) result
-        ≡ followed_by number (followed_by number (within 1 64)) bytes.now }
+        ≡ followed_by_part read_number (followed_by_part read_number (within 1 64)) bytes.now }
 {
     let (guest, address, rest) = two_numbers(bytes)?;
     let (len, rest) = within(1, 64, rest)?;

@@ -12,8 +12,8 @@ asked_for true taken = min (taken + 1) (2 ^ 32 - 1)
 asked_for false taken = taken
 
 -- the turn that makes such a record: as many items are taken, and one more is asked for where it was none
-abbrev pub turn_for : ReaderSaid → ReaderTurn
-turn_for said = record { take = asked_for said.bad said.taken; answer = said.answer }
+abbrev pub scripted_turn_for : ReaderSaid → ReaderTurn
+scripted_turn_for said = record { take = asked_for said.bad said.taken; answer = said.answer }
 
 -- the turns of a replay reader, one a poll from the first
 abbrev pub plan_of_reader : ReplayReader → List ReaderTurn

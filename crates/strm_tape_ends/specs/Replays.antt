@@ -9,14 +9,14 @@ use Rattle.strm_program_ends.specs.Scripts.{faults_in}
 use Rattle.strm_tape_ends.specs.declared.replay_writer.ReplayWriter.{ReplayWriter}
 
 -- the items of the next record of a plan: none behind the last
-abbrev pub next_items : List WriterSaid → List Item
-next_items [] = []
-next_items (said ∷ plan) = said.items
+abbrev pub next_record_items : List WriterSaid → List Item
+next_record_items [] = []
+next_record_items (said ∷ plan) = said.items
 
 -- and its answer
-abbrev pub next_answer : List WriterSaid → Answer
-next_answer [] = Pending
-next_answer (said ∷ plan) = said.answer
+abbrev pub next_record_answer : List WriterSaid → Answer
+next_record_answer [] = Pending
+next_record_answer (said ∷ plan) = said.answer
 
 -- the records of a tape that a replay writer is still to follow, the next one first
 abbrev pub plan_of : ReplayWriter → List WriterSaid

@@ -5,7 +5,7 @@
 ghost use Rattle.std.specs.Prelude.{◌≡◌, ◌<◌, ◌++◌, ◌∷◌, [], length, map, IfOk, OnOk, Some, slice_get};
 ghost use Rattle.strm_codes.specs.Types.{kind_of, payload_of};
 ghost use Rattle.strm_program_ends.specs.Takings.{unpolled_discarding};
-ghost use Rattle.strm_tape_ends.specs.ReaderPlans.{turn_for};
+ghost use Rattle.strm_tape_ends.specs.ReaderPlans.{scripted_turn_for};
 
 use std::alloc::Global;
 use strm_buffers::answers::{HostTurn, ReaderSaid};
@@ -37,7 +37,7 @@ impl ReplayReader {
             IfOk result (λ r.
             replay_reader_tells r ≡ unpolled_discarding (kind_of t.ty) (payload_of t.ty)) }
         ensures plan { (t : ReaderTape) → slice_get tape.now.readers number ≡ Some t →
-            IfOk result (λ r. plan_of_reader r ≡ map turn_for t.said) }
+            IfOk result (λ r. plan_of_reader r ≡ map scripted_turn_for t.said) }
     {
         let reader = tape.reader(number);
         let turns = turns_of(alloc, &reader.said)?;
@@ -49,7 +49,7 @@ impl ReplayReader {
 
 // The turn that makes such a record.
 fn turn_for(said: &ReaderSaid) -> ReaderTurn
-    ensures { result ≡ turn_for said.now }
+    ensures { result ≡ scripted_turn_for said.now }
 {
     let more = if said.bad { 1 } else { 0 };
     ReaderTurn {
@@ -70,7 +70,7 @@ fn push_turn(turns: &mut Vec<ReaderTurn>, turn: ReaderTurn) -> Result<(), OutOfM
 
 // The turns that make such records.
 fn turns_of(alloc: Global, said: &[ReaderSaid]) -> Result<Vec<ReaderTurn>, OutOfMemory>
-    ensures { IfOk result (λ turns. turns.items ≡ map turn_for said.now) }
+    ensures { IfOk result (λ turns. turns.items ≡ map scripted_turn_for said.now) }
 {
     let mut turns = Vec::new(alloc);
     for k in 0..said.len() {
@@ -84,7 +84,7 @@ impl HostReader for ReplayReader {
     ghost use Rattle.strm_codes.specs.Layout.{scalars_of};
     ghost use Rattle.strm_buffers.specs.Offers.{after_taking, IsBadNext};
     ghost use Rattle.strm_buffers.specs.Said.{IfAnswered, IfNoMemory};
-    ghost use Rattle.strm_buffers.specs.Tells.{PollsReader, KeepsReader, SameOffer, reader_record, first_lent, closed_reader, granted};
+    ghost use Rattle.strm_buffers.specs.Tells.{PollsReader, KeepsReader, SameOffer, reader_record, first_lent, reader_tells_closed, reader_granted};
     ghost use Rattle.strm_program_ends.specs.Takings.{turn_after};
     ghost use Rattle.strm_tape_ends.specs.ReaderPlans.{plan_of_reader, replay_reader_tells};
 
@@ -128,7 +128,7 @@ impl HostReader for ReplayReader {
 
     fn grant(&mut self, count: u32) -> Result<(), OutOfMemory>
         ensures ok { OnOk result
-            (replay_reader_tells self.new ≡ granted (replay_reader_tells self.old) count) }
+            (replay_reader_tells self.new ≡ reader_granted (replay_reader_tells self.old) count) }
         ensures err { OnErr result (replay_reader_tells self.new ≡ replay_reader_tells self.old) }
 
         // Its plan stays.
@@ -139,7 +139,7 @@ impl HostReader for ReplayReader {
 
     fn close(&mut self)
         ensures closes { replay_reader_tells self.new
-            ≡ closed_reader (replay_reader_tells self.old) }
+            ≡ reader_tells_closed (replay_reader_tells self.old) }
 
         // Its plan stays.
         ensures plan { plan_of_reader self.new ≡ plan_of_reader self.old }

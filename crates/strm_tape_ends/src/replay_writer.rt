@@ -162,8 +162,8 @@ impl HostWriter for ReplayWriter {
     ghost use Rattle.std.specs.Prelude.{true, OnErr};
     ghost use Rattle.strm_buffers.specs.Windows.{Between, room_of};
     ghost use Rattle.strm_buffers.specs.Said.{in_room, IfAnswered, IfNoMemory};
-    ghost use Rattle.strm_buffers.specs.Tells.{PollsWriter, KeepsWriter, ClosesWriter, Fills, writer_record, given, fed};
-    ghost use Rattle.strm_tape_ends.specs.Replays.{plan_of, replay_tells, next_items, next_answer};
+    ghost use Rattle.strm_buffers.specs.Tells.{PollsWriter, KeepsWriter, ClosesWriter, Fills, writer_record, writer_given, writer_fed};
+    ghost use Rattle.strm_tape_ends.specs.Replays.{plan_of, replay_tells, next_record_items, next_record_answer};
 
     ghost writer_tells = { replay_tells };
 
@@ -186,13 +186,13 @@ impl HostWriter for ReplayWriter {
         ensures fills { Fills window.old window.new }
 
         // It follows the next record of its plan.
-        ensures answer { IfAnswered result (λ answer. answer ≡ next_answer (plan_of self.old)) }
-        ensures items { IfAnswered result (λ _. window.new.marked ++ self.new.held.items ≡ next_items (plan_of self.old)) }
+        ensures answer { IfAnswered result (λ answer. answer ≡ next_record_answer (plan_of self.old)) }
+        ensures items { IfAnswered result (λ _. window.new.marked ++ self.new.held.items ≡ next_record_items (plan_of self.old)) }
         ensures plan { IfAnswered result (λ _. plan_of self.new ≡ drop 1 (plan_of self.old)) }
 
         // Without memory the next one is what it was.
-        ensures same_answer { IfNoMemory result (next_answer (plan_of self.new) ≡ next_answer (plan_of self.old)) }
-        ensures same_items { IfNoMemory result (next_items (plan_of self.new) ≡ next_items (plan_of self.old)) }
+        ensures same_answer { IfNoMemory result (next_record_answer (plan_of self.new) ≡ next_record_answer (plan_of self.old)) }
+        ensures same_items { IfNoMemory result (next_record_items (plan_of self.new) ≡ next_record_items (plan_of self.old)) }
         ensures same_behind { IfNoMemory result (drop 1 (plan_of self.new) ≡ drop 1 (plan_of self.old)) }
     {
         match self.find_next() {
@@ -216,7 +216,7 @@ impl HostWriter for ReplayWriter {
         ensures marked { OnOk result (window.new.marked ≡
             in_room (room_of window.old.place) self.old.held.items) }
         ensures ok { OnOk result (replay_tells self.new ≡
-            given (replay_tells self.old) (room_of window.old.place)) }
+            writer_given (replay_tells self.old) (room_of window.old.place)) }
         ensures unmarked { OnErr result (window.new.marked ≡ []) }
         ensures err { OnErr result (replay_tells self.new ≡ replay_tells self.old) }
         ensures out_of_memory { OnErr result (window.old.place ≡ Between) }
@@ -231,7 +231,7 @@ impl HostWriter for ReplayWriter {
     }
 
     fn feed(&mut self, _bytes: &[u8]) -> Result<(), OutOfMemory>
-        ensures ok { OnOk result (replay_tells self.new ≡ fed (replay_tells self.old) _bytes.now) }
+        ensures ok { OnOk result (replay_tells self.new ≡ writer_fed (replay_tells self.old) _bytes.now) }
         ensures err { OnErr result (replay_tells self.new ≡ replay_tells self.old) }
 
         // Its plan stays.
@@ -266,13 +266,13 @@ impl ReplayWriter {
     ghost use Rattle.strm_buffers.specs.Windows.{room_of};
     ghost use Rattle.strm_buffers.specs.Said.{in_room, past_room};
     ghost use Rattle.strm_buffers.specs.Tells.{Fills};
-    ghost use Rattle.strm_tape_ends.specs.Replays.{plan_of, next_items, next_answer};
+    ghost use Rattle.strm_tape_ends.specs.Replays.{plan_of, next_record_items, next_record_answer};
 
     // Sees that there is a record to follow: behind the last, one without items.
     fn find_next(&mut self) -> Result<(), OutOfMemory>
         ensures found { OnOk result (0 < vec_len self.new.backwards) }
-        ensures items { next_items (plan_of self.new) ≡ next_items (plan_of self.old) }
-        ensures answer { next_answer (plan_of self.new) ≡ next_answer (plan_of self.old) }
+        ensures items { next_record_items (plan_of self.new) ≡ next_record_items (plan_of self.old) }
+        ensures answer { next_record_answer (plan_of self.new) ≡ next_record_answer (plan_of self.old) }
         ensures behind { drop 1 (plan_of self.new) ≡ drop 1 (plan_of self.old) }
         ensures kind { self.new.kind ≡ self.old.kind }
         ensures payload { self.new.payload ≡ self.old.payload }
@@ -300,12 +300,12 @@ impl ReplayWriter {
         requires payload { window.old.payload ≡ self.old.payload }
         requires nothing_marked { window.old.marked ≡ [] }
         requires next { 0 < vec_len self.old.backwards }
-        ensures answer { IfOk result (λ answer. answer ≡ next_answer (plan_of self.old)) }
-        ensures marked { OnOk result (window.new.marked ≡ in_room (room_of window.old.place) (next_items (plan_of self.old))) }
-        ensures held { OnOk result (self.new.held.items ≡ past_room (room_of window.old.place) (next_items (plan_of self.old))) }
+        ensures answer { IfOk result (λ answer. answer ≡ next_record_answer (plan_of self.old)) }
+        ensures marked { OnOk result (window.new.marked ≡ in_room (room_of window.old.place) (next_record_items (plan_of self.old))) }
+        ensures held { OnOk result (self.new.held.items ≡ past_room (room_of window.old.place) (next_record_items (plan_of self.old))) }
         ensures said { OnOk result (self.new.said.items ≡ self.old.said.items
-            ++ record { room = room_of window.old.place; finish = finish; payload = window.old.payload; items = next_items (plan_of self.old); answer = next_answer (plan_of self.old) } ∷ []) }
-        ensures fit { OnOk result (AreItems (scalars_of self.old.payload) (next_items (plan_of self.old))) }
+            ++ record { room = room_of window.old.place; finish = finish; payload = window.old.payload; items = next_record_items (plan_of self.old); answer = next_record_answer (plan_of self.old) } ∷ []) }
+        ensures fit { OnOk result (AreItems (scalars_of self.old.payload) (next_record_items (plan_of self.old))) }
         ensures plan { OnOk result (plan_of self.new ≡ drop 1 (plan_of self.old)) }
         ensures err { OnErr result (self.new.said.items ≡ self.old.said.items) }
         ensures same_plan { OnErr result (plan_of self.new ≡ plan_of self.old) }

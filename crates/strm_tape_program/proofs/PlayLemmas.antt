@@ -3,7 +3,7 @@ use Rattle.std.proofs.Common.{◌≡◌, ◌⊎◌, ℕ, Bool, true, false, List
 use Rattle.std.specs.Prelude.{IsErrOf}
 use Rattle.strm_buffers.specs.Tells.{Tells}
 use Rattle.strm_machine.specs.declared.steps.Step.{Step}
-use Rattle.strm_session.specs.Serving.{IsStop}
+use Rattle.strm_session.specs.Serving.{IsStopStatus}
 use Rattle.strm_session.specs.declared.runs.RunStop.{RunStop}
 use Rattle.strm_session.specs.declared.runs.Transcript.{Transcript}
 use Rattle.strm_tape.specs.Spelling.{WriterTape, ReaderTape, TapeOf}
@@ -46,7 +46,7 @@ none_other tape old new same other =
     (subst (λ (t : TapeOf). FirstDiffer t tape other.reader other.end other.at) same other.differ)
 
 -- the status that goes with the text of a play is that of each play of the tape, since they are one
-pub status_of_play : (tape : TapeOf) (old new : Tells) (status : ℕ) (text : List ℕ) → IsOfTape tape old new status text → (status ≡ 0) ⊎ IsStop status → (end : Result Transcript RunStop) → IsPlayOf tape end → IsStatusOfPlay status end
+pub status_of_play : (tape : TapeOf) (old new : Tells) (status : ℕ) (text : List ℕ) → IsOfTape tape old new status text → (status ≡ 0) ⊎ IsStopStatus status → (end : Result Transcript RunStop) → IsPlayOf tape end → IsStatusOfPlay status end
 status_of_play tape old new status text h (inl e) end plays =
     let whole = h.done e in
     subst (IsStatusOfPlay status) (one_play tape (Ok whole.end) end whole.replay.plays plays) e

@@ -7,7 +7,7 @@ use Rattle.std.proofs.lemmas.List.Elements.{All-head, All-tail}
 use Rattle.strm_buffers.specs.Tells.{WriterTells, Tells, no_tells}
 use Rattle.strm_machine.specs.declared.steps.Step.{Step}
 use Rattle.strm_input_output.specs.Faults.{Rose}
-use Rattle.strm_lines.specs.Lines.{lines_of, Spells, IsFirstBad, IsTooLong}
+use Rattle.strm_lines.specs.Lines.{lines_of, Spells, IsFirstBadLine, IsTooLong}
 use Rattle.strm_lines.proofs.LineLemmas.{spelled_not_bad}
 use Rattle.strm_tape_runs.specs.Taking.{NoneHolds, HoldsNone, IsFirstHolding}
 use Rattle.strm_input_output.specs.Serving.{IsOfSource}
@@ -53,14 +53,14 @@ module _ {rest : Option (List ℕ)} {old new : Tells} {before after status : ℕ
     pub done_of : (steps : List Step) → Spells (lines_of input) steps → status ≡ 0
     done_of steps s = ⊎_elim (λ d. d) (λ b. let bad = h.bad_line b in absurd (spelled_not_bad (lines_of input) steps bad.0 s bad.1)) done_or_bad
 
-    pub bad_line_of : (line : ℕ) → IsFirstBad (lines_of input) line → status ≡ 2
+    pub bad_line_of : (line : ℕ) → IsFirstBadLine (lines_of input) line → status ≡ 2
     bad_line_of line bad = ⊎_elim (λ d. let done = h.done d in absurd (spelled_not_bad (lines_of input) done.steps line done.spelled bad)) (λ b. b) done_or_bad
 
   module _ (left : Option (List ℕ)) (input : List ℕ) (h : IsOfScript left rest old new before after status text) (e : left ≡ Some input) where
     pub told_done : (Rose before after → ⊥) → (IsTooLong input → ⊥) → (steps : List Step) → Spells (lines_of input) steps → status ≡ 0
     told_done calm short steps s = done_of input (subst (λ l. IsOfScript l rest old new before after status text) e h) calm short steps s
 
-    pub told_bad_line : (Rose before after → ⊥) → (IsTooLong input → ⊥) → (line : ℕ) → IsFirstBad (lines_of input) line → status ≡ 2
+    pub told_bad_line : (Rose before after → ⊥) → (IsTooLong input → ⊥) → (line : ℕ) → IsFirstBadLine (lines_of input) line → status ≡ 2
     told_bad_line calm short line bad = bad_line_of input (subst (λ l. IsOfScript l rest old new before after status text) e h) calm short line bad
 
 module _ {left rest : Option (List ℕ)} {old new : Tells} {before after status : ℕ} {text : List ℕ} (h : IsOfScript left rest old new before after status text) where

@@ -5,13 +5,13 @@ use Rattle.strm_tape_program.specs.declared.modes.Mode.{Mode}
 use Rattle.strm_tape_program.specs.declared.modes.Mode.TheVariants.{Take, Play}
 
 -- the word of a mode
-abbrev pub word_of : Mode → List ℕ
-word_of Take = codes "take"
-word_of Play = codes "play"
+abbrev pub word_of_mode : Mode → List ℕ
+word_of_mode Take = codes "take"
+word_of_mode Play = codes "play"
 
 -- the words behind the program's name are the one word of this mode
 abbrev pub Names : List (List ℕ) → Mode → Type 0
-Names words mode = words ≡ word_of mode ∷ []
+Names words mode = words ≡ word_of_mode mode ∷ []
 
 -- they are that of none
 abbrev pub NamesNone : List (List ℕ) → Type 0

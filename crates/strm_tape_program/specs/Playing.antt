@@ -3,19 +3,19 @@ use Rattle.std.specs.Prelude.{◌≡◌, ◌≤◌, ◌⊎◌, ℕ, Bool, List, 
 use Rattle.strm_buffers.specs.Tells.{Tells}
 use Rattle.strm_machine.specs.declared.stops.Stop.{Stop}
 use Rattle.strm_lines.specs.Text.{transcript_text, stopped_text}
-use Rattle.strm_session.specs.Serving.{IsStop, IsStatusOf}
+use Rattle.strm_session.specs.Serving.{IsStopStatus, IsStatusOf}
 use Rattle.strm_session.specs.declared.runs.RunStop.{RunStop}
 use Rattle.strm_session.specs.declared.runs.Transcript.{Transcript}
 use Rattle.strm_tape.specs.Spelling.{TapeOf}
 use Rattle.strm_tape_runs.specs.Taking.{tape_of_run}
-use Rattle.strm_tape_runs.specs.Playing.{IsRunOf, WasRunInMemory, IsPlayOf}
+use Rattle.strm_tape_runs.specs.Playing.{IsRunOfSteps, WasRunInMemory, IsPlayOf}
 use Rattle.strm_tape_runs.specs.Differing.{FirstDiffer}
 use Rattle.strm_tape_program.specs.Texts.{differs_text}
 
 -- the steps of a tape were run, the host ends recorded what the tape says, and it came to what the machine's
 -- play of the tape comes to
 pub record IsReplay (tape : TapeOf) (old new : Tells) (end : Result Transcript RunStop) : Type 0 where
-  pub run : IsRunOf old new tape.steps end
+  pub run : IsRunOfSteps old new tape.steps end
   pub same : tape_of_run tape.steps old new ≡ tape
   pub plays : IsPlayOf tape end
 
@@ -45,9 +45,9 @@ pub record IsOtherRun (tape : TapeOf) (old new : Tells) : Type 0 where
 -- a status but 5 and 9, and its text, by why they come: from the tape, and what the host ends told before and
 -- tell after
 pub record IsOfTape (tape : TapeOf) (old new : Tells) (status : ℕ) (text : List ℕ) : Type 0 where
-  pub known : (status ≡ 0) ⊎ IsStop status ⊎ (status ≡ 10)
+  pub known : (status ≡ 0) ⊎ IsStopStatus status ⊎ (status ≡ 10)
   pub done : status ≡ 0 → IsWholePlay tape old new text
-  pub stopped : IsStop status → IsStoppedPlay tape old new status text
+  pub stopped : IsStopStatus status → IsStoppedPlay tape old new status text
   pub differs : status ≡ 10 → IsOtherRun tape old new × (text ≡ differs_text)
 
 -- the status of a play that came out so

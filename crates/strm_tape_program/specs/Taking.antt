@@ -3,13 +3,13 @@ use Rattle.std.specs.Prelude.{◌≡◌, ◌≢◌, ◌⊎◌, ℕ, List, Option
 use Rattle.strm_buffers.specs.Tells.{Tells}
 use Rattle.strm_machine.specs.declared.steps.Step.{Step}
 use Rattle.strm_input_output.specs.Serving.{IsOfSource}
-use Rattle.strm_lines.specs.Lines.{lines_of, Spells, IsFirstBad, IsTooLong}
+use Rattle.strm_lines.specs.Lines.{lines_of, Spells, IsFirstBadLine, IsTooLong}
 use Rattle.strm_lines.specs.Text.{bad_line_text, too_long_text, read_fault_text}
 use Rattle.strm_session.specs.declared.runs.RunStop.{RunStop}
 use Rattle.strm_session.specs.declared.runs.Transcript.{Transcript}
 use Rattle.strm_tape.specs.Spelling.{IsTape, tape_spelling}
 use Rattle.strm_tape_runs.specs.Taking.{tape_of_run}
-use Rattle.strm_tape_runs.specs.Playing.{IsRunOf, FoundMemory, IsPlayOf}
+use Rattle.strm_tape_runs.specs.Playing.{IsRunOfSteps, FoundMemory, IsPlayOf}
 use Rattle.strm_tape_program.specs.declared.taking.Output.{Output}
 use Rattle.strm_tape_program.specs.declared.taking.Output.TheVariants.{Tape, BadLine, TooLong, Fault}
 
@@ -18,7 +18,7 @@ use Rattle.strm_tape_program.specs.declared.taking.Output.TheVariants.{Tape, Bad
 pub record IsTaped (old new : Tells) (steps : List Step) : Type 0 where
   pub is_tape : IsTape (tape_of_run steps old new)
   pub end : Result Transcript RunStop
-  pub run : IsRunOf old new steps end
+  pub run : IsRunOfSteps old new steps end
   pub memory : FoundMemory end
   pub plays : IsPlayOf (tape_of_run steps old new) end
 
@@ -41,7 +41,7 @@ pub record IsOfScript (left rest : Option (List ℕ)) (old new : Tells)
   pub source : IsOfSource IsOfLines IsTooLong left rest before after status text
   pub done : status ≡ 0 → IfSome left (λ input. IsTaken old new input text)
   pub bad_line : status ≡ 2 → (line : ℕ)
-      × IfSome left (λ input. IsFirstBad (lines_of input) line) × (text ≡ bad_line_text line)
+      × IfSome left (λ input. IsFirstBadLine (lines_of input) line) × (text ≡ bad_line_text line)
   -- where nothing is run, the host ends are as they were
   pub unrun : status ≢ 0 → new ≡ old
 
@@ -50,11 +50,11 @@ abbrev pub IsTakeStatus : ℕ → Type 0
 IsTakeStatus status = (status ≡ 0) ⊎ (status ≡ 2) ⊎ (status ≡ 3) ⊎ (status ≡ 4) ⊎ (status ≡ 5) ⊎ (status ≡ 9)
 
 -- the status that goes with what is written
-abbrev pub status_of : Output → ℕ
-status_of (Tape bytes) = 0
-status_of (BadLine text) = 2
-status_of TooLong = 3
-status_of Fault = 4
+abbrev pub status_of_output : Output → ℕ
+status_of_output (Tape bytes) = 0
+status_of_output (BadLine text) = 2
+status_of_output TooLong = 3
+status_of_output Fault = 4
 
 -- its bytes
 abbrev pub text_of : Output → List ℕ

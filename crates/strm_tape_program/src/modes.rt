@@ -7,7 +7,7 @@ ghost use Rattle.std.specs.Io.KnownBytes.{Appends};
 ghost use Rattle.strm_input_output.specs.Faults.{Rose, TakesPart};
 ghost use Rattle.strm_tape_program.specs.declared.modes.Mode.{Mode};
 ghost use Rattle.strm_tape_program.specs.Modes.{Names, NamesNone, mode_of_word};
-ghost use Rattle.strm_tape_program.specs.Texts.{usage_text};
+ghost use Rattle.strm_tape_program.specs.Texts.{tape_usage_text};
 
 use crate::statuses::{USAGE, WRITE_FAULT};
 use crate::texts::usage_text;
@@ -31,9 +31,9 @@ pub fn tape_mode<K: Sink>(words: &Vec<String>, sink: &mut K) -> Result<Mode, u8>
     ensures known { IfErr result (λ status. (status ≡ USAGE) ⊎ (status ≡ WRITE_FAULT)) }
     ensures other { IfErr result (λ status. NamesNone (map string_bytes words.now.items)) }
     ensures usage { IfErr result (λ status. status ≡ USAGE →
-        Appends (K.taken sink.old) (K.taken sink.new) usage_text) }
+        Appends (K.taken sink.old) (K.taken sink.new) tape_usage_text) }
     ensures write_fault { IfErr result (λ status. status ≡ WRITE_FAULT →
-        TakesPart (K.taken sink.old) (K.taken sink.new) usage_text
+        TakesPart (K.taken sink.old) (K.taken sink.new) tape_usage_text
         × Rose (K.faults sink.old) (K.faults sink.new)) }
     ensures quiet { OnOk result (sink.new ≡ sink.old) }
 {

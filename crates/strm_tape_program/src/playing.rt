@@ -7,7 +7,7 @@ ghost use Rattle.strm_buffers.specs.Tells.{Tells};
 ghost use Rattle.strm_input_output.specs.Faults.{Rose};
 ghost use Rattle.strm_input_output.specs.Serving.{WritesWhole, WritesPart, IsOr};
 ghost use Rattle.strm_session.specs.Records.{HostsGoOn};
-ghost use Rattle.strm_session.specs.Serving.{IsStop};
+ghost use Rattle.strm_session.specs.Serving.{IsStopStatus};
 ghost use Rattle.strm_session.specs.declared.runs.RunStop.{RunStop};
 ghost use Rattle.strm_session.specs.declared.runs.Transcript.{Transcript};
 ghost use Rattle.strm_tape.specs.Spelling.{TapeOf};
@@ -76,7 +76,7 @@ pub fn tape_play<K: Sink, H: RecordedEnds>(
 
 // What is to be written of a play.
 fn answer_of(alloc: Global, end: Result<Transcript, RunStop>) -> Result<Answer, OutOfMemory>
-    ensures known { IfOk result (λ o. (o.status ≡ 0) ⊎ IsStop o.status) }
+    ensures known { IfOk result (λ o. (o.status ≡ 0) ⊎ IsStopStatus o.status) }
     ensures played { (tape : TapeOf) (old new : Tells) → IsReplay tape old new end →
         IfOk result (λ o. IsOfTape tape old new o.status o.text) }
 {

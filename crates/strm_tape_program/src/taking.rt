@@ -7,12 +7,12 @@ ghost use Rattle.strm_machine.specs.declared.steps.Step.{Step};
 ghost use Rattle.strm_input_output.specs.Faults.{Rose};
 ghost use Rattle.strm_input_output.specs.Serving.{ReadsWithin, WritesWhole, WritesPart, IsFaultless, IsOr};
 ghost use Rattle.strm_lines.specs.Grammar.{HasLine};
-ghost use Rattle.strm_lines.specs.Lines.{lines_of, Spells, IsFirstBad, IsTooLong};
+ghost use Rattle.strm_lines.specs.Lines.{lines_of, Spells, IsFirstBadLine, IsTooLong};
 ghost use Rattle.strm_session.specs.Records.{HostsGoOn};
 ghost use Rattle.strm_session.specs.Runs.{HaveRoom};
 ghost use Rattle.strm_tape.specs.Spelling.{tape_spelling};
 ghost use Rattle.strm_tape_runs.specs.Taking.{NoneHolds, tape_of_run};
-ghost use Rattle.strm_tape_program.specs.Taking.{IsTaped, IsOfScript, IsTakeStatus, status_of, text_of};
+ghost use Rattle.strm_tape_program.specs.Taking.{IsTaped, IsOfScript, IsTakeStatus, status_of_output, text_of};
 
 use crate::statuses::{BAD_LINE, DONE, OUT_OF_MEMORY, READ_FAULT, TOO_LONG, WRITE_FAULT};
 use std::alloc::Global;
@@ -41,7 +41,7 @@ pub(crate) enum Output {
 impl Output {
     // The status that goes with it.
     fn status(&self) -> u8
-        ensures { result ≡ status_of self.now }
+        ensures { result ≡ status_of_output self.now }
     {
         match self {
             Output::Tape(_) => DONE,
@@ -97,7 +97,7 @@ pub fn tape_take<S: Source, K: Sink, H: RecordedEnds>(
     ensures bad_line { (input : List ℕ) (line : ℕ) →
         IsFaultless (S.left source.old) input
         (S.faults source.old) (S.faults source.new) (K.faults sink.old) (K.faults sink.new) →
-        IsFirstBad (lines_of input) line → ¬ IsTooLong input → IsOr BAD_LINE result }
+        IsFirstBadLine (lines_of input) line → ¬ IsTooLong input → IsOr BAD_LINE result }
     ensures too_long { (input : List ℕ) →
         IsFaultless (S.left source.old) input
         (S.faults source.old) (S.faults source.new) (K.faults sink.old) (K.faults sink.new) →
@@ -119,7 +119,7 @@ fn answer_source<S: Source, H: RecordedEnds>(
     requires room { HaveRoom (H.tells hosts.old) }
     ensures told { IfOk result (λ o.
         IsOfScript (S.left source.old) (S.left source.new) (H.tells hosts.old) (H.tells hosts.new)
-        (S.faults source.old) (S.faults source.new) (status_of o) (text_of o)) }
+        (S.faults source.old) (S.faults source.new) (status_of_output o) (text_of o)) }
     ensures read { ReadsWithin MAX_BYTES (S.left source.old) (S.left source.new) }
     ensures goes_on { HostsGoOn (H.tells hosts.old) (H.tells hosts.new) }
 {
@@ -141,7 +141,7 @@ fn answer_script<H: RecordedEnds>(
     requires room { HaveRoom (H.tells hosts.old) }
     ensures told { (before after : ℕ) → IfOk result (λ o.
         IsOfScript (Some input.now) (Some []) (H.tells hosts.old) (H.tells hosts.new)
-        before after (status_of o) (text_of o)) }
+        before after (status_of_output o) (text_of o)) }
     ensures goes_on { HostsGoOn (H.tells hosts.old) (H.tells hosts.new) }
 {
     match parse(alloc, input) {

@@ -1,11 +1,11 @@
 //! The texts of the program that are always the same.
 
 ghost use Rattle.std.specs.Prelude.{◌≡◌};
-ghost use Rattle.strm_tape_program.specs.Texts.{usage_text, not_a_tape_text, differs_text};
+ghost use Rattle.strm_tape_program.specs.Texts.{tape_usage_text, not_a_tape_text, differs_text};
 
 // The text for words of the program that are none of its own.
 pub(crate) fn usage_text() -> &'static [u8]
-    ensures { result.now ≡ usage_text }
+    ensures { result.now ≡ tape_usage_text }
 {
     b"usage: tape take | tape play\n"
 }

@@ -43,17 +43,17 @@ use Rattle.strm_host_machine.specs.World.{World, stream_in, writer_at, reader_at
 use Rattle.strm_host_machine.specs.Ends.{Writer, Reader, no_writer, no_reader, writer_in, reader_in, polled_writer, polled_reader, given_writer, fed_writer, granted_reader, closed_writer, closed_reader}
 use Rattle.strm_host_machine.specs.Outcomes.{Outcome, Goes, Stops, Stuck, stops, done, then_on, of_reply}
 use Rattle.strm_host_machine.specs.Polls.{AfterWriter, is_failed, same_flag, same_room, is_writer_poll, writer_judged, writer_says, polls_writer, AfterReader, is_reader_poll, tells_truly, reader_judged, reader_says, polls_reader}
-use Rattle.strm_host_machine.specs.Producing.{receives, with_answer, produced_result, hands_out, is_produced, produces, producer_turn, lowered}
-use Rattle.strm_host_machine.specs.Consuming.{lifted, with_taken, gives_up, consumer_turn}
+use Rattle.strm_host_machine.specs.WriterTurn.{receives, with_answer, produced_result, hands_out, is_produced, produces, writer_turn, lowered_items}
+use Rattle.strm_host_machine.specs.ReaderTurn.{lifted_items, reader_with_taken, gives_up, reader_turn}
 use Rattle.strm_host_machine.specs.Settling.{answered_with, result_of, moved_on, with_some_received}
 use Rattle.strm_host_machine.specs.Piping.{wants_items, fetches, gathered, passed_on, offers, is_done_with, is_run_dry, both_gone, ends_if_done, pipe_round}
 use Rattle.strm_host_machine.specs.Driving.{if_open, driven_by, drive_turn, numbers_from, driven}
 use Rattle.strm_host_machine.specs.Attaching.{has_items, hosts_new, is_dry, piped, piped_by, without_ends, pipes, forsakes}
 use Rattle.strm_host_machine.specs.HostRefusals.{refusal_in}
-use Rattle.strm_host_machine.specs.Steps.{reacts, operates_by, drops_in, on_host, performs_by, performs_in, unless_refused_in, outcome, step_of}
+use Rattle.strm_host_machine.specs.Steps.{reacts, operates_by, drops_in, on_host, performs_by, performs_in, unless_refused_in, outcome, outcome_of_step}
 use Rattle.strm_host_machine.proofs.TouchLemmas.{touch-by}
 use Rattle.strm_host_machine.proofs.LaterLemmas.{Used, all-set, StreamLater, stream_twice, operation_later, received_later, moved_later, without_ends_later}
-use Rattle.strm_tape.specs.Spelling.{IsRoom}
+use Rattle.strm_tape.specs.Spelling.{IsSpelledRoom}
 use Rattle.strm_tape_runs.specs.Marks.{FairRoom, FairTaking}
 
 -- the items that an operation has left are a count
@@ -67,7 +67,7 @@ ReadsFew stream = LeftFew stream.reader.operation
 
 -- RECORDS
 
-room_same : (a b : Option ℕ) → same_room a b ≡ true → IsRoom b → IsRoom a
+room_same : (a b : Option ℕ) → same_room a b ≡ true → IsSpelledRoom b → IsSpelledRoom a
 room_same None b e h = tt
 room_same (Some a) None e h = cc
 room_same (Some a) (Some b) e h = let same = eqb-true a b e in omega (arith, h, same)
@@ -77,7 +77,7 @@ both_true true true e = (refl, refl)
 both_true true false e = cc
 both_true false b e = cc
 
-poll_fair : (room : Option ℕ) (finish : Bool) (said : WriterSaid) → is_writer_poll room finish said ≡ true → IsRoom room → FairRoom said
+poll_fair : (room : Option ℕ) (finish : Bool) (said : WriterSaid) → is_writer_poll room finish said ≡ true → IsSpelledRoom room → FairRoom said
 poll_fair room finish said e h = room_same said.room room (both_true (same_room said.room room) (same_flag said.finish finish) e).0 h
 
 taking_fair : (offered since : ℕ) (finish : Bool) (said : ReaderSaid) → is_reader_poll offered since finish said ≡ true → FairTaking said
@@ -339,7 +339,7 @@ module _ (first : World) where
     WriterFares T U X Y w s n room finish next coming =
         IsLater T U w → FaresAfterWriter (And T s) U X Y next → Fares X Y (writer_says w s n room finish coming next)
 
-    says-fares : (T U X Y : Streams) (w : World) (s n : ℕ) (room : Option ℕ) (finish : Bool) (coming : List WriterSaid) (next : AfterWriter) → (writer_at w n).coming ≡ coming → IsRoom room → Writes n s → ¬ T s → WriterFares T U X Y w s n room finish next coming
+    says-fares : (T U X Y : Streams) (w : World) (s n : ℕ) (room : Option ℕ) (finish : Bool) (coming : List WriterSaid) (next : AfterWriter) → (writer_at w n).coming ≡ coming → IsSpelledRoom room → Writes n s → ¬ T s → WriterFares T U X Y w s n room finish next coming
     says-fares T U X Y w s n room finish [] next e q owns unturned t h = tt
     says-fares T U X Y w s n room finish (said ∷ more) next e q owns unturned t h =
         let after = with_writer w n (polled_writer (writer_at w n) room said more) in
@@ -355,7 +355,7 @@ module _ (first : World) where
 
     received-later : (T U : Streams) (w : World) (s : ℕ) (read : Operation) (items : List Item) (result : Option StreamResult) → read.left < 268435456 → IsLater T U w → IsLater T U (receives w s read items result)
     received-later T U w s read items result few t =
-        let guests = lowered w.state.guests (stream_in w s).payload read items in
+        let guests = lowered_items w.state.guests (stream_in w s).payload read items in
         with_stream-later T U (with_guests w guests) s _ (moved_later Reading (stream_in w s) read (length items) result) (read_on_few (stream_in w s) read (length items) result few)
         (record { writers = t.writers; readers = t.readers; streams = t.streams; few = t.few })
 
@@ -375,8 +375,8 @@ module _ (first : World) where
         cond_both (producer_at w.state n).over (done (receives w s read [] (Some results.Dropped))) (is_produced w s n read) (Fares (And T s) U)
         (λ o. received-later (And T s) U w s read [] _ few (writers_on T U s w t)) (λ o. produced-fares T U w s n read few owns unturned t)
 
-    turn-fares : (T U : Streams) (w : World) (s n : ℕ) (read : Operation) → read.left < 268435456 → Writes n s → ¬ T s → IsLater T U w → Fares (And T s) U (producer_turn w s n read)
-    unfolding producer_turn
+    turn-fares : (T U : Streams) (w : World) (s n : ℕ) (read : Operation) → read.left < 268435456 → Writes n s → ¬ T s → IsLater T U w → Fares (And T s) U (writer_turn w s n read)
+    unfolding writer_turn
     turn-fares T U w s n read few owns unturned t = produces-fares T U w s n read _ few owns unturned t
 
     -- A HOST READER'S TURN
@@ -422,13 +422,13 @@ module _ (first : World) where
         (λ b. cond_both (breaks_as_reader kind said) (stops (HostBroke (ends.Reader r)) after) goes_on (Fares X Y) (λ d. used) (λ d. h after said k))))
         (λ p. tt)
 
-    consumer_turn-fares : (T U : Streams) (w : World) (s r : ℕ) (write : Operation) → Reads r s → ¬ U s → IsLater T U w → Fares T (And U s) (consumer_turn w s r write)
-    unfolding consumer_turn
-    consumer_turn-fares T U w s r write owns unturned t =
-        reader_says-fares T U T (And U s) w s r write.left write.asked (lifted w.state.guests (stream_in w s).payload write) (reader_at w r).coming
-        (λ after said. done (gives_up (with_taken after r said.answer said.taken) s write said.taken said.answer))
+    reader_turn-fares : (T U : Streams) (w : World) (s r : ℕ) (write : Operation) → Reads r s → ¬ U s → IsLater T U w → Fares T (And U s) (reader_turn w s r write)
+    unfolding reader_turn
+    reader_turn-fares T U w s r write owns unturned t =
+        reader_says-fares T U T (And U s) w s r write.left write.asked (lifted_items w.state.guests (stream_in w s).payload write) (reader_at w r).coming
+        (λ after said. done (gives_up (reader_with_taken after r said.answer said.taken) s write said.taken said.answer))
         refl owns unturned t
-        (λ v x k. with_stream-later T (And U s) (with_taken v r x.answer x.taken) s _ (moved_later Writing (stream_in v s) write x.taken (result_of x.answer)) (written_on_few (stream_in v s) write x.taken (result_of x.answer) (k.few s))
+        (λ v x k. with_stream-later T (And U s) (reader_with_taken v r x.answer x.taken) s _ (moved_later Writing (stream_in v s) write x.taken (result_of x.answer)) (written_on_few (stream_in v s) write x.taken (result_of x.answer) (k.few s))
         (record { writers = k.writers; readers = k.readers; streams = k.streams; few = k.few }))
 
     -- THE ROUND OF A PIPE
@@ -493,7 +493,7 @@ module _ (first : World) where
     driven_by-fares : (T U : Streams) (w : World) (s : ℕ) (stream : Stream) (writer reader : Owner) → ReadsFew stream → (stream_in w s).writer.owner ≡ writer → (stream_in w s).reader.owner ≡ reader → ¬ T s → ¬ U s → IsLater T U w → Fares (And T s) (And U s) (driven_by w s stream writer reader)
     driven_by-fares T U w s stream (Host n) (Host r) few e f free unread t = pipe_round-fares T U w s n r ((t.streams s).writer n e) ((t.streams s).reader r f) free unread t
     driven_by-fares T U w s stream (Host n) _ few e f free unread t = reads-fares T U s w stream.reader.operation _ t few (λ o l. turn-fares T U w s n o l ((t.streams s).writer n e) free t)
-    driven_by-fares T U w s stream _ (Host r) few e f free unread t = writes-fares T U s w stream.writer.operation _ t (λ o. consumer_turn-fares T U w s r o ((t.streams s).reader r f) unread t)
+    driven_by-fares T U w s stream _ (Host r) few e f free unread t = writes-fares T U s w stream.writer.operation _ t (λ o. reader_turn-fares T U w s r o ((t.streams s).reader r f) unread t)
     driven_by-fares T U w s stream _ _ few e f free unread t = both_on T U s w t
 
     drive_turn-fares : (T U : Streams) (w : World) (s : ℕ) → ¬ T s → ¬ U s → IsLater T U w → Fares (And T s) (And U s) (drive_turn w s)
@@ -576,7 +576,7 @@ module _ (first : World) where
       operates-halts Writing end address count (Host r) e asked =
           let s = stream_named (named first.state end) in
           let write = begun end.guest address (items_asked end.ty count) in
-          then-halts Nowhere (And Nowhere s) _ _ (consumer_turn-fares Nowhere Nowhere _ s r write e (λ x. x) (with_stream-later Nowhere Nowhere first s (with_operation Writing (stream_in first s) write) (operation_later Writing (stream_in first s) write) (few s) (itself_later Nowhere Nowhere)))
+          then-halts Nowhere (And Nowhere s) _ _ (reader_turn-fares Nowhere Nowhere _ s r write e (λ x. x) (with_stream-later Nowhere Nowhere first s (with_operation Writing (stream_in first s) write) (operation_later Writing (stream_in first s) write) (few s) (itself_later Nowhere Nowhere)))
           (λ v k. answered-halts v s Writing _ (ends_used Nowhere (And Nowhere s) v k))
       operates-halts side end address count _ e asked = reacts-halts (OnEnd side end (Operate address count))
 
@@ -603,7 +603,7 @@ module _ (first : World) where
       unless-halts act (Some refusal) e = itself_ends
       unless-halts act None e = performs-halts act e
 
-      pub step-fares : (step : Step) → StepFares (step_of first step)
+      pub step-fares : (step : Step) → StepFares (outcome_of_step first step)
       unfolding outcome
       step-fares step =
           let act = act_of step in

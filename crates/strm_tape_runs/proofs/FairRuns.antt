@@ -13,24 +13,24 @@ use Rattle.strm_machine.specs.declared.steps.Step.{Step}
 use Rattle.strm_machine.specs.declared.stops.Stop.{Stop}
 use Rattle.strm_host_machine.specs.Ends.{Writer, Reader, writer_in, reader_in}
 use Rattle.strm_host_machine.specs.World.{World, stream_in, writer_at}
-use Rattle.strm_host_machine.specs.HostPlays.{Played, play, after_step, Ends, Halts, Hangs}
+use Rattle.strm_host_machine.specs.HostPlays.{HostPlayed, host_play, after_host_step, Ends, Halts, Hangs}
 use Rattle.strm_host_machine.specs.Outcomes.{Outcome, Goes, Stops, Stuck}
-use Rattle.strm_host_machine.specs.Steps.{step_of}
-use Rattle.strm_host_laws.specs.HostMoments.{HostMoment, host_moments, first_moments, last_of}
-use Rattle.strm_host_laws.specs.HostLaws.{WriterGoesOn, WriterStops}
+use Rattle.strm_host_machine.specs.Steps.{outcome_of_step}
+use Rattle.strm_host_laws.specs.HostMoments.{HostMoment, host_moments, first_moments, end_world}
+use Rattle.strm_host_laws.specs.HostLaws.{WriterGoesOn, WriterHalts}
 use Rattle.strm_machine.specs.Hosting.{HostsHold}
 use Rattle.strm_machine.specs.declared.streams.Duty.{Duty}
 use Rattle.strm_machine.specs.declared.streams.Duty.TheVariants.{Serves}
 use Rattle.strm_machine.specs.declared.streams.Side.TheVariants.{Writing, Reading}
 use Rattle.strm_machine.specs.declared.streams.Producer.{Producer}
-use Rattle.strm_host_machine.specs.Does.{AllBegin, saids, writers_from, readers_from, spent}
+use Rattle.strm_host_machine.specs.Does.{AllBegin, saids, writers_from, readers_from, world_spent}
 use Rattle.strm_session.specs.declared.runs.RunStop.{RunStop}
 use Rattle.strm_session.specs.declared.runs.Transcript.{Transcript}
-use Rattle.strm_session.specs.Runs.{start, start_among, halted_in, HaltsBy}
+use Rattle.strm_session.specs.Runs.{run_start, start_among, halted_in, HaltsBy}
 use Rattle.strm_host_machine.proofs.LaterLemmas.{Used}
 use Rattle.strm_tape_runs.specs.declared.marks.Mark.{Mark}
 use Rattle.strm_tape_runs.specs.Marks.{FairRoom, FairTaking, mark_of, reader_mark_of, IsTapable, ReaderTapable}
-use Rattle.strm_tape_runs.specs.Playing.{IsRunOf, FoundMemory}
+use Rattle.strm_tape_runs.specs.Playing.{IsRunOfSteps, FoundMemory}
 use Rattle.strm_tape_runs.proofs.RunLemmas.{begins_length, payload_back, stop_found}
 use Rattle.strm_tape_runs.proofs.FairLemmas.{LeftFew, ReadsFew, UsedFew, Writes, Reads, EndsUsed, StepFares, step-fares}
 
@@ -75,27 +75,27 @@ ends_at_most j k first ws rs l a = record {
 -- ONE STEP MORE
 
 -- a run goes on from where another ended
-continued : Played → List Step → Played
-continued (Ends told w) more = play told w more
+continued : HostPlayed → List Step → HostPlayed
+continued (Ends told w) more = host_play told w more
 continued p more = p
 
-goes_through : (told : List Reply) (o : Outcome) (next : List Reply → World → Played) (on : List Reply → World → Played) (more : List Step)
-    → ((t : List Reply) (v : World) → on t v ≡ continued (next t v) more) → after_step told o on ≡ continued (after_step told o next) more
+goes_through : (told : List Reply) (o : Outcome) (next : List Reply → World → HostPlayed) (on : List Reply → World → HostPlayed) (more : List Step)
+    → ((t : List Reply) (v : World) → on t v ≡ continued (next t v) more) → after_host_step told o on ≡ continued (after_host_step told o next) more
 unfolding continued
 goes_through told (Goes reply v) next on more h = h (told ++ reply ∷ []) v
 goes_through told (Stops stop ws rs) next on more h = refl
 goes_through told Stuck next on more h = refl
 
-play_on : (xs more : List Step) (told : List Reply) (w : World) → play told w (xs ++ more) ≡ continued (play told w xs) more
+play_on : (xs more : List Step) (told : List Reply) (w : World) → host_play told w (xs ++ more) ≡ continued (host_play told w xs) more
 unfolding continued
 play_on [] more told w = refl
 play_on (x ∷ xs) more told w =
-    goes_through told (step_of w x) (λ t v. play t v xs) (λ t v. play t v (xs ++ more)) more (λ t v. play_on xs more t v)
+    goes_through told (outcome_of_step w x) (λ t v. host_play t v xs) (λ t v. host_play t v (xs ++ more)) more (λ t v. play_on xs more t v)
 
-one_on : (first : World) (front : List Step) (told : List Reply) (w : World) (step : Step) (reply : Reply) (v : World) → play [] first front ≡ Ends told w → step_of w step ≡ Goes reply v → play [] first (front ++ step ∷ []) ≡ Ends (told ++ reply ∷ []) v
+one_on : (first : World) (front : List Step) (told : List Reply) (w : World) (step : Step) (reply : Reply) (v : World) → host_play [] first front ≡ Ends told w → outcome_of_step w step ≡ Goes reply v → host_play [] first (front ++ step ∷ []) ≡ Ends (told ++ reply ∷ []) v
 unfolding continued
 one_on first front told w step reply v e q =
-    play_on front (step ∷ []) [] first ∙ ap (λ p. continued p (step ∷ [])) e ∙ ap (λ o. after_step told o (λ t x. Ends t x)) q
+    play_on front (step ∷ []) [] first ∙ ap (λ p. continued p (step ∷ [])) e ∙ ap (λ o. after_host_step told o (λ t x. Ends t x)) q
 
 -- A RUN
 
@@ -105,15 +105,15 @@ counted_few (Some operation) h = omega (arith, h)
 
 -- the items of each operation are a count, in whichever run from this world
 abbrev pub AllCounted : World → Type 0
-AllCounted first = (run : List Step) (count s : ℕ) → AreCounted (stream_in (last_of first (first_moments count first run)) s)
+AllCounted first = (run : List Step) (count s : ℕ) → AreCounted (stream_in (end_world first (first_moments count first run)) s)
 
 -- the moments of a run lead to its end
 abbrev pub AllLead : World → Type 0
-AllLead first = (run : List Step) (replies : List Reply) (end : World) → play [] first run ≡ Ends replies end → last_of first (host_moments first run) ≡ end
+AllLead first = (run : List Step) (replies : List Reply) (end : World) → host_play [] first run ≡ Ends replies end → end_world first (host_moments first run) ≡ end
 
 -- host ends and streams agree, in whichever run from it
 abbrev pub AllHold : World → Type 0
-AllHold first = (run : List Step) (count : ℕ) → HostsHold (last_of first (first_moments count first run)).state
+AllHold first = (run : List Step) (count : ℕ) → HostsHold (end_world first (first_moments count first run)).state
 
 served_by : Duty → ℕ
 served_by (Serves s) = s
@@ -128,59 +128,59 @@ unfolding served_by
 one_reader w h r s t a b = ap served_by (sym ((h.serve Reading r t).serves b) ∙ (h.serve Reading r s).serves a)
 
 module _ (first : World) (counted : AllCounted first) (hold : AllHold first) (lead : AllLead first) where
-  few_there : (front : List Step) (told : List Reply) (w : World) → play [] first front ≡ Ends told w → (s : ℕ) → ReadsFew (stream_in w s)
+  few_there : (front : List Step) (told : List Reply) (w : World) → host_play [] first front ≡ Ends told w → (s : ℕ) → ReadsFew (stream_in w s)
   few_there front told w e s =
       let all = host_moments first front in
-      let there = subst (λ (xs : List HostMoment). AreCounted (stream_in (last_of first xs) s)) (take_all (length all) all (omega arith)) (counted front (length all) s) in
+      let there = subst (λ (xs : List HostMoment). AreCounted (stream_in (end_world first xs) s)) (take_all (length all) all (omega arith)) (counted front (length all) s) in
       let here = subst (λ (x : World). AreCounted (stream_in x s)) (lead front told w e) there in
       counted_few (stream_in w s).reader.operation here.1
 
-  hold_there : (front : List Step) (told : List Reply) (w : World) → play [] first front ≡ Ends told w → HostsHold w.state
+  hold_there : (front : List Step) (told : List Reply) (w : World) → host_play [] first front ≡ Ends told w → HostsHold w.state
   hold_there front told w e =
       let all = host_moments first front in
-      let there = subst (λ (xs : List HostMoment). HostsHold (last_of first xs).state) (take_all (length all) all (omega arith)) (hold front (length all)) in
+      let there = subst (λ (xs : List HostMoment). HostsHold (end_world first xs).state) (take_all (length all) all (omega arith)) (hold front (length all)) in
       subst (λ (x : World). HostsHold x.state) (lead front told w e) there
 
   -- a run of these steps leads to this world
   abbrev Leads : List Step → List Reply → World → Type 0
-  Leads front told w = play [] first front ≡ Ends told w
+  Leads front told w = host_play [] first front ≡ Ends told w
 
   -- what was used up to a world, of each end so many at most
   abbrev Fair : ℕ → World → Type 0
   Fair k w = EndsUsed first k w.writers w.readers
 
   -- what a run that comes out so used
-  abbrev Out : ℕ → Played → Type 0
+  abbrev Out : ℕ → HostPlayed → Type 0
   Out k (Ends told w) = Fair k w
   Out k (Halts told stop ws rs) = EndsUsed first k ws rs
   Out k (Hangs told) = Unit {0}
 
   abbrev RestFair : ℕ → ℕ → List Reply → List Step → List Step → Step → Type 0
   RestFair m k told more front step =
-      (reply : Reply) (v : World) → play [] first (front ++ step ∷ []) ≡ Ends (told ++ reply ∷ []) v → Fair (k + 1) v → Out m (play (told ++ reply ∷ []) v more)
+      (reply : Reply) (v : World) → host_play [] first (front ++ step ∷ []) ≡ Ends (told ++ reply ∷ []) v → Fair (k + 1) v → Out m (host_play (told ++ reply ∷ []) v more)
 
-  by_outcome : (m k : ℕ) (front : List Step) (told : List Reply) (w : World) (step : Step) (more : List Step) → k + 1 ≤ m → Leads front told w → Fair k w → RestFair m k told more front step
-      → (o : Outcome) → step_of w step ≡ o → StepFares w o → Out m (after_step told o (λ t v. play t v more))
+  by_outcome : (m k : ℕ) (f : List Step) (told : List Reply) (w : World) (step : Step) (more : List Step) → k + 1 ≤ m → Leads f told w → Fair k w → RestFair m k told more f step
+      → (o : Outcome) → outcome_of_step w step ≡ o → StepFares w o → Out m (after_host_step told o (λ t v. host_play t v more))
   by_outcome m k front told w step more l e u rest (Goes reply v) q h = rest reply v (one_on first front told w step reply v e q) (ends_twice k first w v.writers v.readers u h)
   by_outcome m k front told w step more l e u rest (Stops stop ws rs) q h = ends_at_most (k + 1) m first ws rs l (ends_twice k first w ws rs u h)
   by_outcome m k front told w step more l e u rest Stuck q h = tt
 
-  run_fair : (m k : ℕ) (rest front : List Step) (told : List Reply) (w : World) → k + length rest ≤ m → play [] first front ≡ Ends told w → Fair k w → Out m (play told w rest)
+  run_fair : (m k : ℕ) (rest front : List Step) (told : List Reply) (w : World) → k + length rest ≤ m → host_play [] first front ≡ Ends told w → Fair k w → Out m (host_play told w rest)
   run_fair m k [] front told w l e u = ends_at_most k m first w.writers w.readers (omega (arith, l)) u
   run_fair m k (step ∷ more) front told w l e u =
       let h = hold_there front told w e in
-      by_outcome m k front told w step more (omega (arith, l)) e u (λ reply v f x. run_fair m (k + 1) more (front ++ step ∷ []) (told ++ reply ∷ []) v (omega (arith, l)) f x) (step_of w step) refl
+      by_outcome m k front told w step more (omega (arith, l)) e u (λ reply v f x. run_fair m (k + 1) more (front ++ step ∷ []) (told ++ reply ∷ []) v (omega (arith, l)) f x) (outcome_of_step w step) refl
       (step-fares w (one_writer w h) (one_reader w h) (few_there front told w e) step)
 
-  whole_fair : (steps : List Step) → Out (length steps) (play [] first steps)
+  whole_fair : (steps : List Step) → Out (length steps) (host_play [] first steps)
   whole_fair steps =
       run_fair (length steps) 0 steps [] [] first (omega arith) refl
       (record { writers = λ n. (([], refl, All-nil FairRoom), omega arith); readers = λ r. (([], refl, All-nil FairTaking), omega arith) })
 
-  pub ended_fair : (steps : List Step) (told : List Reply) (w : World) → play [] first steps ≡ Ends told w → Fair (length steps) w
+  pub ended_fair : (steps : List Step) (told : List Reply) (w : World) → host_play [] first steps ≡ Ends told w → Fair (length steps) w
   ended_fair steps told w e = subst (Out (length steps)) e (whole_fair steps)
 
-  pub halted_fair : (steps : List Step) (told : List Reply) (stop : Stop) (ws : List Writer) (rs : List Reader) → play [] first steps ≡ Halts told stop ws rs → EndsUsed first (length steps) ws rs
+  pub halted_fair : (steps : List Step) (told : List Reply) (stop : Stop) (ws : List Writer) (rs : List Reader) → host_play [] first steps ≡ Halts told stop ws rs → EndsUsed first (length steps) ws rs
   halted_fair steps told stop ws rs e = subst (Out (length steps)) e (whole_fair steps)
 
 -- WHAT HOST ENDS TELL
@@ -239,15 +239,15 @@ readers_tapable k (w ∷ ws) (v ∷ vs) l b u =
 
 -- host writers stay of their payloads
 abbrev pub AllGoOn : World → Type 0
-AllGoOn first = (run : List Step) (count n : ℕ) → WriterGoesOn n (first_moments count first run) (writer_at first n) (writer_at (last_of first (first_moments count first run)) n)
+AllGoOn first = (run : List Step) (count n : ℕ) → WriterGoesOn n (first_moments count first run) (writer_at first n) (writer_at (end_world first (first_moments count first run)) n)
 
 abbrev pub AllStop : World → Type 0
-AllStop first = (run : List Step) (replies : List Reply) (stop : Stop) (ws : List Writer) (rs : List Reader) → play [] first run ≡ Halts replies stop ws rs → (n : ℕ) → WriterStops (writer_at (last_of first (host_moments first run)) n) (writer_in ws n)
+AllStop first = (run : List Step) (replies : List Reply) (stop : Stop) (ws : List Writer) (rs : List Reader) → host_play [] first run ≡ Halts replies stop ws rs → (n : ℕ) → WriterHalts (writer_at (end_world first (host_moments first run)) n) (writer_in ws n)
 
-moments_typed : (first : World) → AllGoOn first → (run : List Step) (n : ℕ) → (writer_at (last_of first (host_moments first run)) n).payload ≡ (writer_at first n).payload
+moments_typed : (first : World) → AllGoOn first → (run : List Step) (n : ℕ) → (writer_at (end_world first (host_moments first run)) n).payload ≡ (writer_at first n).payload
 moments_typed first go run n =
     let all = host_moments first run in
-    subst (λ (xs : List HostMoment). (writer_at (last_of first xs) n).payload ≡ (writer_at first n).payload) (take_all (length all) all (omega arith)) (go run (length all) n).payload
+    subst (λ (xs : List HostMoment). (writer_at (end_world first xs) n).payload ≡ (writer_at first n).payload) (take_all (length all) all (omega arith)) (go run (length all) n).payload
 
 -- a run that found memory used these records of the host ends, which stayed of their payloads
 record CameOut (k : ℕ) (old new : Tells) : Type 0 where
@@ -256,18 +256,18 @@ record CameOut (k : ℕ) (old new : Tells) : Type 0 where
   typed : (n : ℕ) → (writer_in (writers_from ps new.writers (saids new).writers) n).payload ≡ (writer_at (start_among old new) n).payload
 
 module _ (old new : Tells) (counted : AllCounted (start_among old new)) (hold : AllHold (start_among old new)) (lead : AllLead (start_among old new)) (go : AllGoOn (start_among old new)) (stop : AllStop (start_among old new)) where
-  came_out : (steps : List Step) (end : Result Transcript RunStop) → IsRunOf old new steps end → FoundMemory end → CameOut (length steps) old new
+  came_out : (steps : List Step) (end : Result Transcript RunStop) → IsRunOfSteps old new steps end → FoundMemory end → CameOut (length steps) old new
   came_out steps (Ok t) r m =
       let first = start_among old new in
       record {
         ps = t.store.producers;
-        used = ended_fair first counted hold lead steps t.replies (spent t.store new) r.ok.played;
-        typed = λ n. subst (λ (w : World). (writer_at w n).payload ≡ (writer_at first n).payload) (lead steps t.replies (spent t.store new) r.ok.played) (moments_typed first go steps n);
+        used = ended_fair first counted hold lead steps t.replies (world_spent t.store new) r.ok.played;
+        typed = λ n. subst (λ (w : World). (writer_at w n).payload ≡ (writer_at first n).payload) (lead steps t.replies (world_spent t.store new) r.ok.played) (moments_typed first go steps n);
       }
   came_out steps (Err s) r m =
       let first = start_among old new in
       let why = stop_found s.cause m in
-      let there = spent (halted_in first steps) new in
+      let there = world_spent (halted_in first steps) new in
       let halts = subst (λ (o : Option Stop). HaltsBy first steps s.replies new o) why.1 r.stop.stops.halts in
       record {
         ps = (halted_in first steps).producers;
@@ -276,13 +276,13 @@ module _ (old new : Tells) (counted : AllCounted (start_among old new)) (hold : 
       }
 
   -- what was added has a place on a tape
-  pub run_tapable : (steps : List Step) (end : Result Transcript RunStop) (marks : List Mark) → length steps ≤ 4294967295 → marks ≡ map mark_of old.writers → IsRunOf old new steps end → FoundMemory end → AllZip IsTapable marks new.writers
+  pub run_tapable : (steps : List Step) (end : Result Transcript RunStop) (marks : List Mark) → length steps ≤ 4294967295 → marks ≡ map mark_of old.writers → IsRunOfSteps old new steps end → FoundMemory end → AllZip IsTapable marks new.writers
   run_tapable steps end marks l e r m =
       let out = came_out steps end r m in
       subst (λ ms. AllZip IsTapable ms new.writers) (sym e)
-      (writers_tapable (length steps) start.producers out.ps old.writers new.writers l r.goes_on.begins.0 (record { used = out.used.writers; typed = out.typed }))
+      (writers_tapable (length steps) run_start.producers out.ps old.writers new.writers l r.goes_on.begins.0 (record { used = out.used.writers; typed = out.typed }))
 
-  pub run_readers_tapable : (steps : List Step) (end : Result Transcript RunStop) (marks : List Mark) → length steps ≤ 4294967295 → marks ≡ map reader_mark_of old.readers → IsRunOf old new steps end → FoundMemory end → AllZip ReaderTapable marks new.readers
+  pub run_readers_tapable : (steps : List Step) (end : Result Transcript RunStop) (marks : List Mark) → length steps ≤ 4294967295 → marks ≡ map reader_mark_of old.readers → IsRunOfSteps old new steps end → FoundMemory end → AllZip ReaderTapable marks new.readers
   run_readers_tapable steps end marks l e r m =
       let out = came_out steps end r m in
       subst (λ ms. AllZip ReaderTapable ms new.readers) (sym e)

@@ -4,7 +4,7 @@ use Rattle.strm_machine.specs.declared.replies.Reply.{Reply}
 use Rattle.strm_machine.specs.declared.stops.Stop.{Stop}
 use Rattle.strm_machine.specs.declared.stops.Stop.TheVariants as stops
 use Rattle.strm_host_machine.specs.World.{World}
-use Rattle.strm_host_machine.specs.HostPlays.{Played, Ends, Halts, Hangs}
+use Rattle.strm_host_machine.specs.HostPlays.{HostPlayed, Ends, Halts, Hangs}
 use Rattle.strm_session.specs.declared.runs.RunCause.{RunCause}
 use Rattle.strm_session.specs.declared.runs.RunCause.TheVariants as causes
 use Rattle.strm_session.specs.declared.runs.RunStop.{RunStop}
@@ -14,23 +14,23 @@ use Rattle.strm_tape.specs.Spelling.{TapeOf}
 use Rattle.strm_tape_runs.specs.Playing.{PlaysToEnd, PlaysToStop, IsPlayOf}
 
 -- the replies of a run
-told_in : Played → List Reply
+told_in : HostPlayed → List Reply
 told_in (Ends told world) = told
 told_in (Halts told stop writers readers) = told
 told_in (Hangs told) = told
 
 -- where it ended, if it did
-ended_at : World → Played → World
+ended_at : World → HostPlayed → World
 ended_at other (Ends told world) = world
 ended_at other _ = other
 
 -- by what it stopped, if it did
-stopped_by : Played → Option Stop
+stopped_by : HostPlayed → Option Stop
 stopped_by (Halts told stop writers readers) = Some stop
 stopped_by _ = None
 
 -- a run that ended
-abbrev HasEnded : Played → Type 0
+abbrev HasEnded : HostPlayed → Type 0
 HasEnded (Ends told world) = Unit {0}
 HasEnded _ = ⊥
 
@@ -53,8 +53,8 @@ module _ (tape : TapeOf) where
   unfolding told_in ended_at
   one_end t u p q =
       let same = sym p.plays ∙ q.plays in
-      let state = p.state ∙ ap (λ (o : Played). (ended_at p.end o).state) same ∙ sym q.state in
-      let counts = p.counts ∙ ap (λ (o : Played). counts_of (ended_at p.end o).state) same ∙ sym q.counts in
+      let state = p.state ∙ ap (λ (o : HostPlayed). (ended_at p.end o).state) same ∙ sym q.state in
+      let counts = p.counts ∙ ap (λ (o : HostPlayed). counts_of (ended_at p.end o).state) same ∙ sym q.counts in
       let replies = ap told_in same in
       λ i. record { replies = replies i; moved = counts i; store = state i }
 

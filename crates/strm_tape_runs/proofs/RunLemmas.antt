@@ -21,16 +21,16 @@ use Rattle.strm_machine.specs.declared.streams.Duty.TheVariants.{Ended}
 use Rattle.strm_machine.specs.declared.streams.Producer.{Producer}
 use Rattle.strm_host_machine.specs.Ends.{Writer, Reader}
 use Rattle.strm_host_machine.specs.World.{World}
-use Rattle.strm_host_machine.specs.HostPlays.{Played, play, Ends, Halts, Hangs}
+use Rattle.strm_host_machine.specs.HostPlays.{HostPlayed, host_play, Ends, Halts, Hangs}
 use Rattle.strm_host_machine.proofs.GrowLemmas.{supplied_since_itself}
-use Rattle.strm_host_machine.specs.Does.{Begins, AllBegin, held_while, first_duty, writer_of, writers_from, reader_of, readers_from, spent}
+use Rattle.strm_host_machine.specs.Does.{LogBegins, AllBegin, held_while, first_duty, writer_of, writers_from, reader_of, readers_from, world_spent}
 use Rattle.strm_record_laws.specs.Alike.{bare_writer, bare_reader, AreAlike, ComeOutAlike}
 use Rattle.strm_session.specs.declared.runs.RunCause.{RunCause}
 use Rattle.strm_session.specs.declared.runs.RunCause.TheVariants as causes
 use Rattle.strm_session.specs.declared.runs.RunStop.{RunStop}
 use Rattle.strm_session.specs.declared.runs.Transcript.{Transcript}
 use Rattle.strm_session.specs.Records.{HostsGoOn}
-use Rattle.strm_session.specs.Runs.{start, start_among, stop_of, counts_of, halted_in, HaltsBy}
+use Rattle.strm_session.specs.Runs.{run_start, start_among, stop_of, counts_of, halted_in, HaltsBy}
 use Rattle.strm_host_machine.proofs.DoesLemmas.{extends_self}
 use Rattle.strm_tape.specs.Spelling.{WriterTape, ReaderTape}
 use Rattle.strm_codes.specs.declared.codes.TransmitIndex.{TransmitIndex}
@@ -38,9 +38,9 @@ use Rattle.strm_tape.specs.declared.errors.TapeError.{TapeError}
 use Rattle.strm_tape.specs.declared.errors.TapeError.TheVariants.{Differs}
 use Rattle.strm_tape_runs.specs.declared.marks.Mark.{Mark}
 use Rattle.strm_tape_runs.specs.declared.marks.Marks.{Marks}
-use Rattle.strm_tape_runs.specs.Marks.{mark_of, reader_mark_of, writer_behind, reader_behind, tape_behind, IsReached, ReaderReached}
+use Rattle.strm_tape_runs.specs.Marks.{mark_of, reader_mark_of, writer_behind, reader_behind, tape_behind, IsMarkReached, ReaderReached}
 use Rattle.strm_tape_runs.specs.Taking.{HoldsNone, NoneHolds, writer_added, reader_added, zip_with, tape_of_run}
-use Rattle.strm_tape_runs.specs.Playing.{IsRunOf, FoundMemory, taped_writer, taped_reader, taped_world, IsPlayOf}
+use Rattle.strm_tape_runs.specs.Playing.{IsRunOfSteps, FoundMemory, taped_writer, taped_reader, taped_world, IsPlayOf}
 use Rattle.strm_tape_runs.proofs.ZipLemmas.{zip_with-map}
 
 -- HOST ENDS
@@ -49,13 +49,13 @@ use Rattle.strm_tape_runs.proofs.ZipLemmas.{zip_with-map}
 pub hosts_stay : (tells : Tells) → HostsGoOn tells tells
 hosts_stay tells = record { begins = extends_self tells; faults = λ end. omega arith; supplied = supplied_since_itself tells }
 
-pub begins_length : {A : Type 0} (said log : List A) → Begins said log → length said ≤ length log
+pub begins_length : {A : Type 0} (said log : List A) → LogBegins said log → length said ≤ length log
 begins_length said log e =
     let counted = ap (λ xs. length xs) e ∙ length-append said (drop (length said) log) in
     omega (arith, counted)
 
 -- host writers have the records that they had
-writers_reached : (ws vs : List WriterTells) → AllBegin (map (λ w. w.said) ws) (map (λ w. w.said) vs) → AllZip IsReached (map mark_of ws) vs
+writers_reached : (ws vs : List WriterTells) → AllBegin (map (λ w. w.said) ws) (map (λ w. w.said) vs) → AllZip IsMarkReached (map mark_of ws) vs
 writers_reached [] [] b = tt
 writers_reached [] (v ∷ vs) b = absurd b
 writers_reached (w ∷ ws) [] b = absurd b
@@ -67,8 +67,8 @@ readers_reached [] (v ∷ vs) b = absurd b
 readers_reached (w ∷ ws) [] b = absurd b
 readers_reached (w ∷ ws) (v ∷ vs) b = (begins_length w.said v.said b.0, readers_reached ws vs b.1)
 
-pub reach_writers : (marks : List Mark) (old new : Tells) → marks ≡ map mark_of old.writers → HostsGoOn old new → AllZip IsReached marks new.writers
-reach_writers marks old new e h = subst (λ ms. AllZip IsReached ms new.writers) (sym e) (writers_reached old.writers new.writers h.begins.0)
+pub reach_writers : (marks : List Mark) (old new : Tells) → marks ≡ map mark_of old.writers → HostsGoOn old new → AllZip IsMarkReached marks new.writers
+reach_writers marks old new e h = subst (λ ms. AllZip IsMarkReached ms new.writers) (sym e) (writers_reached old.writers new.writers h.begins.0)
 
 pub reach_readers : (marks : List Mark) (old new : Tells) → marks ≡ map reader_mark_of old.readers → HostsGoOn old new → AllZip ReaderReached marks new.readers
 reach_readers marks old new e h = subst (λ ms. AllZip ReaderReached ms new.readers) (sym e) (readers_reached old.readers new.readers h.begins.1)
@@ -144,7 +144,7 @@ same_readers (w ∷ ws) (v ∷ vs) b =
 alike_tape : (steps : List Step) (old new : Tells) → NoneHolds old → HostsGoOn old new → AreAlike (start_among old new) (taped_world (tape_of_run steps old new))
 alike_tape steps old new held h = record {
   state = refl;
-  writers = same_writers start.producers old.writers new.writers h.begins.0 held;
+  writers = same_writers run_start.producers old.writers new.writers h.begins.0 held;
   readers = same_readers old.readers new.readers h.begins.1;
 }
 
@@ -152,26 +152,26 @@ alike_tape steps old new held h = record {
 
 -- runs from worlds that are alike come out alike
 abbrev pub AllAlike : Type 0
-AllAlike = (a b : World) (steps : List Step) → AreAlike a b → ComeOutAlike (play [] a steps) (play [] b steps)
+AllAlike = (a b : World) (steps : List Step) → AreAlike a b → ComeOutAlike (host_play [] a steps) (host_play [] b steps)
 
 -- what is alike a run that ends, ends so too
-record EndsToo (told : List Reply) (a : World) (p : Played) : Type 0 where
+record EndsToo (told : List Reply) (a : World) (p : HostPlayed) : Type 0 where
   end : World
   ends : p ≡ Ends told end
   state : a.state ≡ end.state
 
-ends_too : (told : List Reply) (a : World) (p : Played) → ComeOutAlike (Ends told a) p → EndsToo told a p
+ends_too : (told : List Reply) (a : World) (p : HostPlayed) → ComeOutAlike (Ends told a) p → EndsToo told a p
 ends_too told a (Ends told' b) h = record { end = b; ends = ap (λ t. Ends t b) (sym h.0); state = h.1.state }
 ends_too told a (Halts told' stop ws rs) h = elim h [ ]
 ends_too told a (Hangs told') h = elim h [ ]
 
 -- and what is alike one that halts
-record HaltsToo (told : List Reply) (stop : Stop) (p : Played) : Type 0 where
+record HaltsToo (told : List Reply) (stop : Stop) (p : HostPlayed) : Type 0 where
   writers : List Writer
   readers : List Reader
   halts : p ≡ Halts told stop writers readers
 
-halts_too : (told : List Reply) (stop : Stop) (ws : List Writer) (rs : List Reader) (p : Played) → ComeOutAlike (Halts told stop ws rs) p → HaltsToo told stop p
+halts_too : (told : List Reply) (stop : Stop) (ws : List Writer) (rs : List Reader) (p : HostPlayed) → ComeOutAlike (Halts told stop ws rs) p → HaltsToo told stop p
 halts_too told stop ws rs (Halts told' stop' us ts) h = record {
   writers = us;
   readers = ts;
@@ -188,19 +188,19 @@ stop_found (causes.BadItem s) n = (_, refl)
 stop_found causes.OutOfMemory n = absurd (n refl)
 
 -- a run that found memory is the machine's play of its tape
-pub run_plays : AllAlike → (steps : List Step) (old new : Tells) (end : Result Transcript RunStop) → NoneHolds old → IsRunOf old new steps end → FoundMemory end → IsPlayOf (tape_of_run steps old new) end
+pub run_plays : AllAlike → (steps : List Step) (old new : Tells) (end : Result Transcript RunStop) → NoneHolds old → IsRunOfSteps old new steps end → FoundMemory end → IsPlayOf (tape_of_run steps old new) end
 run_plays alike steps old new (Ok t) held r m =
     let tape = tape_of_run steps old new in
-    let out = subst (λ (p : Played). ComeOutAlike p (play [] (taped_world tape) steps)) r.ok.played (alike (start_among old new) (taped_world tape) steps (alike_tape steps old new held r.goes_on)) in
-    let ends = ends_too t.replies (spent t.store new) (play [] (taped_world tape) steps) out in
+    let out = subst (λ (p : HostPlayed). ComeOutAlike p (host_play [] (taped_world tape) steps)) r.ok.played (alike (start_among old new) (taped_world tape) steps (alike_tape steps old new held r.goes_on)) in
+    let ends = ends_too t.replies (world_spent t.store new) (host_play [] (taped_world tape) steps) out in
     record { end = ends.end; plays = ends.ends; state = ends.state; counts = r.received ∙ ap counts_of ends.state }
 run_plays alike steps old new (Err s) held r m =
     let tape = tape_of_run steps old new in
     let why = stop_found s.cause m in
     let halts = subst (λ (o : Option Stop). HaltsBy (start_among old new) steps s.replies new o) why.1 r.stop.stops.halts in
-    let there = spent (halted_in (start_among old new) steps) new in
-    let out = subst (λ (p : Played). ComeOutAlike p (play [] (taped_world tape) steps)) halts (alike (start_among old new) (taped_world tape) steps (alike_tape steps old new held r.goes_on)) in
-    let too = halts_too s.replies why.0 there.writers there.readers (play [] (taped_world tape) steps) out in
+    let there = world_spent (halted_in (start_among old new) steps) new in
+    let out = subst (λ (p : HostPlayed). ComeOutAlike p (host_play [] (taped_world tape) steps)) halts (alike (start_among old new) (taped_world tape) steps (alike_tape steps old new held r.goes_on)) in
+    let too = halts_too s.replies why.0 there.writers there.readers (host_play [] (taped_world tape) steps) out in
     record { why = why.0; writers = too.writers; readers = too.readers; plays = too.halts; cause = why.1; at = r.at }
 
 -- WHERE THEY DIFFER

@@ -5,7 +5,7 @@ use Rattle.strm_codes.specs.Types.{payload_of}
 use Rattle.strm_buffers.specs.Said.{WriterSaid}
 use Rattle.strm_buffers.specs.declared.answers.ReaderSaid.{ReaderSaid}
 use Rattle.strm_buffers.specs.Tells.{WriterTells, ReaderTells, Tells}
-use Rattle.strm_tape.specs.Spelling.{IsRoom, WriterTape, ReaderTape, TapeOf}
+use Rattle.strm_tape.specs.Spelling.{IsSpelledRoom, WriterTape, ReaderTape, TapeOf}
 use Rattle.strm_tape_runs.specs.declared.marks.Mark.{Mark}
 use Rattle.strm_tape_runs.specs.declared.marks.Marks.{Marks}
 use Rattle.strm_tape_runs.specs.Taking.{writer_type, reader_type, zip_with}
@@ -35,8 +35,8 @@ tape_behind steps marks tells = record {
 }
 
 -- a host writer has at least as many records as a mark says
-abbrev pub IsReached : Mark → WriterTells → Type 0
-IsReached mark tells = mark.records ≤ length tells.said
+abbrev pub IsMarkReached : Mark → WriterTells → Type 0
+IsMarkReached mark tells = mark.records ≤ length tells.said
 
 -- a host reader has
 abbrev pub ReaderReached : Mark → ReaderTells → Type 0
@@ -44,7 +44,7 @@ ReaderReached mark tells = mark.records ≤ length tells.said
 
 -- a record of a host writer states a room that is a count, if it states one
 abbrev pub FairRoom : WriterSaid → Type 0
-FairRoom said = IsRoom said.room
+FairRoom said = IsSpelledRoom said.room
 
 -- a record of a host reader took no more than was offered
 abbrev pub FairTaking : ReaderSaid → Type 0
@@ -52,7 +52,7 @@ FairTaking said = said.taken ≤ said.offered
 
 -- what a host writer recorded behind a mark has a place on a tape
 pub record IsTapable (mark : Mark) (tells : WriterTells) : Type 0 where
-  pub reached : IsReached mark tells
+  pub reached : IsMarkReached mark tells
   pub rooms : All FairRoom (drop mark.records tells.said)
   pub typed : tells.payload ≡ payload_of mark.ty
   pub few : length (drop mark.records tells.said) < 4294967296

@@ -6,18 +6,18 @@ use Rattle.strm_machine.specs.declared.steps.Step.{Step}
 use Rattle.strm_machine.specs.declared.stops.Stop.{Stop}
 use Rattle.strm_host_machine.specs.Ends.{Writer, Reader}
 use Rattle.strm_host_machine.specs.World.{World}
-use Rattle.strm_host_machine.specs.HostPlays.{play, Ends, Halts}
+use Rattle.strm_host_machine.specs.HostPlays.{host_play, Ends, Halts}
 use Rattle.strm_session.specs.declared.runs.RunCause.TheVariants as causes
 use Rattle.strm_session.specs.declared.runs.RunStop.{RunStop}
 use Rattle.strm_session.specs.declared.runs.Transcript.{Transcript}
 use Rattle.strm_session.specs.Records.{HostsGoOn}
-use Rattle.strm_session.specs.Runs.{start, counts_of, next_step, stop_of, AreOfGuests, IsWhole, HasStopped, IsDecided}
+use Rattle.strm_session.specs.Runs.{run_start, counts_of, next_step, stop_of, AreOfGuests, IsWhole, HasStopped, IsDecided}
 use Rattle.strm_tape.specs.Spelling.{WriterTape, ReaderTape, TapeOf}
 use Rattle.strm_tape_runs.specs.Taking.{NoneHolds, writer_type, reader_type}
 
 -- this came of a run of these steps among host ends that told this before and tell that after: all that `run`
 -- says of it
-pub record IsRunOf (old new : Tells) (steps : List Step) (end : Result Transcript RunStop) : Type 0 where
+pub record IsRunOfSteps (old new : Tells) (steps : List Step) (end : Result Transcript RunStop) : Type 0 where
   pub ok : IfOk end (λ t. IsWhole old new steps t.replies t.store)
   pub received : IfOk end (λ t. t.moved ≡ counts_of t.store)
   pub stop : IfErr end (λ s. HasStopped old new steps s.replies s.cause)
@@ -27,12 +27,12 @@ pub record IsRunOf (old new : Tells) (steps : List Step) (end : Result Transcrip
   pub decided : IsDecided old new steps end
 
 -- a run of these steps came to some end
-abbrev pub WasRun : Tells → Tells → List Step → Type 0
-WasRun old new steps = (end : Result Transcript RunStop) × IsRunOf old new steps end
+abbrev pub StepsWereRun : Tells → Tells → List Step → Type 0
+StepsWereRun old new steps = (end : Result Transcript RunStop) × IsRunOfSteps old new steps end
 
 -- one did, or nothing was done
 abbrev pub WasRunOrNot : Tells → Tells → List Step → Type 0
-WasRunOrNot old new steps = (new ≡ old) ⊎ WasRun old new steps
+WasRunOrNot old new steps = (new ≡ old) ⊎ StepsWereRun old new steps
 
 -- it did not stop for want of memory
 abbrev pub FoundMemory : Result Transcript RunStop → Type 0
@@ -40,7 +40,7 @@ FoundMemory end = IfErr end (λ s. s.cause ≢ causes.OutOfMemory)
 
 -- and it did not stop for want of memory
 abbrev pub WasRunInMemory : Tells → Tells → List Step → Type 0
-WasRunInMemory old new steps = (end : Result Transcript RunStop) × IsRunOf old new steps end × FoundMemory end
+WasRunInMemory old new steps = (end : Result Transcript RunStop) × IsRunOfSteps old new steps end × FoundMemory end
 
 -- a host writer of which nothing is known but what a tape has of it: its records are to come
 abbrev pub taped_writer : WriterTape → Writer
@@ -70,7 +70,7 @@ taped_reader tape = record {
 -- a new store among the host ends of a tape
 abbrev pub taped_world : TapeOf → World
 taped_world tape = record {
-  state = start;
+  state = run_start;
   writers = map taped_writer tape.writers;
   readers = map taped_reader tape.readers;
 }
@@ -78,7 +78,7 @@ taped_world tape = record {
 -- the machine's play of a tape ends with these replies, counts and this state
 pub record PlaysToEnd (tape : TapeOf) (t : Transcript) : Type 0 where
   pub end : World
-  pub plays : play [] (taped_world tape) tape.steps ≡ Ends t.replies end
+  pub plays : host_play [] (taped_world tape) tape.steps ≡ Ends t.replies end
   pub state : t.store ≡ end.state
   pub counts : t.moved ≡ counts_of end.state
 
@@ -87,7 +87,7 @@ pub record PlaysToStop (tape : TapeOf) (s : RunStop) : Type 0 where
   pub why : Stop
   pub writers : List Writer
   pub readers : List Reader
-  pub plays : play [] (taped_world tape) tape.steps ≡ Halts s.replies why writers readers
+  pub plays : host_play [] (taped_world tape) tape.steps ≡ Halts s.replies why writers readers
   pub cause : stop_of s.cause ≡ Some why
   pub at : s.at ≡ next_step s.replies
 

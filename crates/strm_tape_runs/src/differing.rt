@@ -4,7 +4,7 @@ ghost use Rattle.std.specs.Prelude.{◌≡◌, ◌<◌, ◌≤◌, ◌^◌, ◌�
 ghost use Rattle.std.specs.List.{AllZip};
 ghost use Rattle.strm_buffers.specs.Tells.{told_by, told_by_reader};
 ghost use Rattle.strm_tape_runs.specs.Taking.{zip_with};
-ghost use Rattle.strm_tape_runs.specs.Marks.{writer_behind, reader_behind, tape_behind, IsReached, ReaderReached};
+ghost use Rattle.strm_tape_runs.specs.Marks.{writer_behind, reader_behind, tape_behind, IsMarkReached, ReaderReached};
 ghost use Rattle.strm_tape_runs.specs.Differing.{DifferFirst, WritersDiffer, ReadersDiffer, FirstDiffer};
 
 use crate::marks::{Mark, Marks};
@@ -140,7 +140,7 @@ fn writers_difference<H: RecordedEnds>(
     marks: &[Mark],
     tape: &Tape,
 ) -> Result<Option<Difference>, OutOfMemory>
-    requires reached { AllZip IsReached marks.now (H.tells hosts.now).writers }
+    requires reached { AllZip IsMarkReached marks.now (H.tells hosts.now).writers }
     requires types { map (λ m. m.ty) marks.now ≡ map (λ w. w.ty) tape.now.writers }
     ensures same { IfOk result (λ found. found ≡ None →
         zip_with writer_behind marks.now (H.tells hosts.now).writers ≡ tape.now.writers) }
@@ -198,7 +198,7 @@ pub(crate) fn first_difference<H: RecordedEnds>(
     marks: &Marks,
     tape: &Tape,
 ) -> Result<Option<Difference>, OutOfMemory>
-    requires writers { AllZip IsReached marks.now.writers.items (H.tells hosts.now).writers }
+    requires writers { AllZip IsMarkReached marks.now.writers.items (H.tells hosts.now).writers }
     requires readers { AllZip ReaderReached marks.now.readers.items (H.tells hosts.now).readers }
     requires types { map (λ m. m.ty) marks.now.writers.items ≡ map (λ w. w.ty) tape.now.writers }
     requires reader_types { map (λ m. m.ty) marks.now.readers.items

@@ -6,7 +6,7 @@ ghost use Rattle.std.specs.Prelude.{◌≡◌, ℕ, Bool, IfOk, IsErrOf};
 ghost use Rattle.strm_session.specs.Records.{HostsGoOn};
 ghost use Rattle.strm_tape_runs.specs.Taking.{tape_of_run};
 ghost use Rattle.strm_tape_runs.specs.Errors.{IsReplayError};
-ghost use Rattle.strm_tape_runs.specs.Playing.{IsRunOf, WasRunOrNot, WasRunInMemory, FoundMemory, IsPlayOf, AreEndsOf};
+ghost use Rattle.strm_tape_runs.specs.Playing.{IsRunOfSteps, WasRunOrNot, WasRunInMemory, FoundMemory, IsPlayOf, AreEndsOf};
 ghost use Rattle.strm_tape_runs.specs.Differing.{FirstDiffer};
 
 use crate::differing::{Difference, first_difference};
@@ -33,7 +33,7 @@ pub fn replay<H: RecordedEnds>(
 
     // The run is one of `run`, and what was added is what the tape has.
     ensures ran { IfOk result (λ end.
-        IsRunOf (H.tells hosts.old) (H.tells hosts.new) tape.now.steps end) }
+        IsRunOfSteps (H.tells hosts.old) (H.tells hosts.new) tape.now.steps end) }
     ensures memory { IfOk result (λ end. FoundMemory end) }
     ensures same { IfOk result (λ _.
         tape_of_run tape.now.steps (H.tells hosts.old) (H.tells hosts.new) ≡ tape.now) }

@@ -8,7 +8,7 @@ ghost use Rattle.strm_session.specs.Records.{HostsGoOn};
 ghost use Rattle.strm_session.specs.Runs.{HaveRoom};
 ghost use Rattle.strm_tape_runs.specs.Taking.{NoneHolds, IsFirstHolding, tape_of_run};
 ghost use Rattle.strm_tape_runs.specs.Errors.{IsTakingError};
-ghost use Rattle.strm_tape_runs.specs.Playing.{IsRunOf, WasRunOrNot, FoundMemory, IsPlayOf};
+ghost use Rattle.strm_tape_runs.specs.Playing.{IsRunOfSteps, WasRunOrNot, FoundMemory, IsPlayOf};
 
 use crate::marks::{Marks, first_holding};
 use crate::recorded::RecordedEnds;
@@ -47,7 +47,7 @@ pub fn tape_run<H: RecordedEnds>(
 
     // The run is one of `run`, and the tape has its steps and the records that it added.
     ensures ran { IfOk result (λ t.
-        IsRunOf (H.tells hosts.old) (H.tells hosts.new) steps.now t.end) }
+        IsRunOfSteps (H.tells hosts.old) (H.tells hosts.new) steps.now t.end) }
     ensures memory { IfOk result (λ t. FoundMemory t.end) }
     ensures tape { IfOk result (λ t.
         t.tape ≡ tape_of_run steps.now (H.tells hosts.old) (H.tells hosts.new)) }
@@ -117,7 +117,7 @@ fn run_on_tape<H: RecordedEnds>(
     requires room { HaveRoom (H.tells hosts.old) }
     requires held { NoneHolds (H.tells hosts.old) }
     ensures ran { IfOk result (λ t.
-        IsRunOf (H.tells hosts.old) (H.tells hosts.new) steps.now t.end) }
+        IsRunOfSteps (H.tells hosts.old) (H.tells hosts.new) steps.now t.end) }
     ensures memory { IfOk result (λ t. FoundMemory t.end) }
     ensures tape { IfOk result (λ t.
         t.tape ≡ tape_of_run steps.now (H.tells hosts.old) (H.tells hosts.new)) }

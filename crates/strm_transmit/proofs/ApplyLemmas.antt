@@ -9,13 +9,13 @@ use Rattle.strm_machine.specs.declared.replies.Reply.{Reply}
 use Rattle.strm_host_machine.specs.Does.{Answered, Does}
 use Rattle.strm_host_machine.specs.Steps.{outcome}
 use Rattle.strm_transmit.specs.Meets.{Meets, refused_too}
-use Rattle.strm_transmit.specs.Hosted.{answered, MayBeDone, Leaves, ErrsByRecord, MeetsAlone, MeetsHosted}
+use Rattle.strm_transmit.specs.Hosted.{call_answered, MayBeDone, Leaves, ErrsByRecord, MeetsAlone, MeetsHosted}
 use Rattle.strm_transmit.specs.declared.errors.StoreError.{StoreError}
 use Rattle.strm_transmit.specs.declared.errors.StoreError.TheVariants.{Refused, HostFailed, HostBroke, BadItem, StoreTrapped, OutOfMemory}
 use Rattle.strm_transmit.proofs.HostStepLemmas.{Settles}
 
 -- it is the same answer to the machine
-pub refused-answered : (result : Result Reply StoreError) → answered (refused_too result) ≡ answered result
+pub refused-answered : (result : Result Reply StoreError) → call_answered (refused_too result) ≡ call_answered result
 refused-answered (Ok reply) = refl
 refused-answered (Err (Refused refusal)) = refl
 refused-answered (Err (HostFailed end)) = refl

@@ -19,7 +19,7 @@ use Rattle.strm_machine.proofs.SoundLemmas.{sizes_of-with_handles}
 use Rattle.strm_machine.proofs.TurnLemmas.{all_kept}
 use Rattle.strm_machine.proofs.ErrorContextLemmas.{count-live}
 use Rattle.strm_machine.proofs.ContextStepLemmas.{NamesContext, context_names}
-use Rattle.strm_channels.specs.Guests.{seen, live_in, sets_among, with_context_in}
+use Rattle.strm_channels.specs.Guests.{guests_of, live_in, sets_among, with_context_in}
 use Rattle.strm_transmit.specs.Inside.{state_of, IsStore}
 use Rattle.strm_transmit.specs.Meets.{Meets, admitted, or_found}
 use Rattle.strm_transmit.specs.declared.store.Store.TheInside.{Inside}
@@ -45,20 +45,20 @@ pub record KeepsRest (old new : Inside) : Type 0 where
 
 -- one guest has other handles, and the error contexts are others
 pub record SetsContexts (old new : Inside) (g : ℕ) (handles : Handles) (contexts : Contexts) : Type 0 where
-  pub guests : seen new.guests.items ≡ with_handles (seen old.guests.items) g handles
+  pub guests : guests_of new.guests.items ≡ with_handles (guests_of old.guests.items) g handles
   pub others : new.contexts ≡ contexts
 
 module _ (old new : Inside) (g : ℕ) (handles : Handles) (contexts : Contexts) (k : KeepsRest old new) (h : SetsContexts old new g handles contexts) where
-  pub state_of-contexts : state_of new ≡ record (state_of old) { guests = with_handles (seen old.guests.items) g handles; contexts = contexts }
+  pub state_of-contexts : state_of new ≡ record (state_of old) { guests = with_handles (guests_of old.guests.items) g handles; contexts = contexts }
   state_of-contexts = rw (k.tag, k.limits, k.trapped, k.streams, k.producers, k.kept, k.consumers, h.guests, h.others) refl
 
   -- the state then
   abbrev pub then : State
-  then = record (state_of old) { guests = with_handles (seen old.guests.items) g handles; contexts = contexts }
+  then = record (state_of old) { guests = with_handles (guests_of old.guests.items) g handles; contexts = contexts }
 
   agrees-contexts : StateIsHeld then → IsStore old → Agrees new
   agrees-contexts held i =
-      let guests = seen old.guests.items in
+      let guests = guests_of old.guests.items in
       record {
         held = subst StateIsHeld (sym state_of-contexts) held;
         told = rw (k.streams, k.ready, h.guests) (told-same guests (with_handles guests g handles) old.streams.items old.ready.items (members-with_table guests g handles (sets_in guests g) (λ n q. refl)) i.told);
@@ -66,7 +66,7 @@ module _ (old new : Inside) (g : ℕ) (handles : Handles) (contexts : Contexts) 
 
   pub IsStore-contexts : IsCounted new → IsSound then → StateIsHeld then → IsStore old → IsStore new
   IsStore-contexts counted sound held i =
-      let guests = seen old.guests.items in
+      let guests = guests_of old.guests.items in
       IsStore-counted old new
       (record {
         handles = counted;
@@ -86,25 +86,25 @@ message_is_short s number i = (i.sound.contexts.messages number).short
 
 -- what a call that gives a handle to an error context did where it answered, and where it did not
 pub record Gives {A E : Type 0} (r : Result A E) (old new : Inside) (g number : ℕ) (contexts : Contexts) : Type 0 where
-  pub guests : OnOk r (seen new.guests.items ≡ with_context_in (seen old.guests.items) g number)
+  pub guests : OnOk r (guests_of new.guests.items ≡ with_context_in (guests_of old.guests.items) g number)
   pub others : OnOk r (new.contexts ≡ contexts)
   pub counter : OnOk r (new.counter ≡ counted old.counter)
-  pub live : OnOk r (live_in (seen new.guests.items) ≡ live_in (seen old.guests.items) + 1)
-  pub err : OnErr r (seen new.guests.items ≡ seen old.guests.items)
+  pub live : OnOk r (live_in (guests_of new.guests.items) ≡ live_in (guests_of old.guests.items) + 1)
+  pub err : OnErr r (guests_of new.guests.items ≡ guests_of old.guests.items)
   pub same : OnErr r (new.contexts ≡ old.contexts)
   pub kept : OnErr r (new.counter ≡ old.counter)
 
 module _ (old new : Inside) (g number : ℕ) (contexts : Contexts) (k : KeepsRest old new) where
-  same_state : seen new.guests.items ≡ seen old.guests.items → new.contexts ≡ old.contexts → state_of new ≡ state_of old
+  same_state : guests_of new.guests.items ≡ guests_of old.guests.items → new.contexts ≡ old.contexts → state_of new ≡ state_of old
   same_state e f = rw (k.tag, k.limits, k.trapped, k.streams, k.producers, k.kept, k.consumers, e, f) refl
 
-  same_store : seen new.guests.items ≡ seen old.guests.items → new.contexts ≡ old.contexts → new.counter ≡ old.counter → IsStore old → IsStore new
+  same_store : guests_of new.guests.items ≡ guests_of old.guests.items → new.contexts ≡ old.contexts → new.counter ≡ old.counter → IsStore old → IsStore new
   same_store e f c i =
       IsStore-counted old new
-      (kept_tables old new (record { limits = k.limits; counter = c; live_sets = k.live_sets; bytes = k.bytes; guests = rw e (all_kept (seen old.guests.items)) }) i)
+      (kept_tables old new (record { limits = k.limits; counter = c; live_sets = k.live_sets; bytes = k.bytes; guests = rw e (all_kept (guests_of old.guests.items)) }) i)
       (kept_streams old new k.streams k.live_streams (record { producers = k.producers; kept = k.kept; consumers = k.consumers }) i)
       (subst IsSound (sym (same_state e f)) i.sound)
-      (agrees_still old new (rw e (all_kept (seen old.guests.items))) (ap (λ (v : _). v.items) k.streams) k.ready i) i
+      (agrees_still old new (rw e (all_kept (guests_of old.guests.items))) (ap (λ (v : _). v.items) k.streams) k.ready i) i
 
   pub IsStore-gives : {A E : Type 0} (r : Result A E) → Gives r old new g number contexts → old.counter.live < old.counter.limit → IsSound (context_given (state_of old) g number contexts) → StateIsHeld (context_given (state_of old) g number contexts) → IsStore old → IsStore new
   IsStore-gives (Ok v) h below sound held i =

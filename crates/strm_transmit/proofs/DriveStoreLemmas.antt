@@ -28,8 +28,8 @@ use Rattle.strm_host_machine.proofs.DoesLemmas.{Does-then, Does-untold, Does-as}
 use Rattle.strm_host_machine.proofs.OutcomeLemmas.{outcome-performs, refusal_in-drive}
 use Rattle.strm_host_machine.proofs.DriveLemmas.{drive_turn-alone, drive_turn-due, waits_open, drive_turn-idle, drive_turn-due_write, drive_turn-idle_write, drive_turn-piped, drives_first, EndsDone, Does-drives_alone, Does-drives_one, Does-drives_stop}
 use Rattle.strm_host_machine.proofs.FitsLemmas.{are_alone}
-use Rattle.strm_transmit.specs.Meets.{replied}
-use Rattle.strm_transmit.specs.Hosted.{answered, IsStop, MeetsHosted}
+use Rattle.strm_transmit.specs.Meets.{as_reply}
+use Rattle.strm_transmit.specs.Hosted.{call_answered, IsStop, MeetsHosted}
 use Rattle.strm_transmit.specs.Inside.{AreServed}
 use Rattle.strm_transmit.specs.Rounds.{ends_by, pipe_ends, IsPipe}
 use Rattle.strm_transmit.specs.Turning.{turn_for, due_in, due_on, IsNextAmong, all_ends, NextServed}
@@ -205,7 +205,7 @@ module _ (old now : State) (tells told : Tells) (h : AreServed now.producers now
   drive_end total l none = passed total l (λ side n k f a b. none side n k tt f a)
 
 -- an error of a turn stops the round
-pub ends_stop : (error : StoreError) → IsStop error → EndsDone (answered (Err error))
+pub ends_stop : (error : StoreError) → IsStop error → EndsDone (call_answered (Err error))
 ends_stop error s = subst EndsDone (sym (stop_is error s)) tt
 
 drive-is : (world : World) → world.state.trapped ≡ false → outcome world Drive ≡ driven world (round_of world)
@@ -213,7 +213,7 @@ unfolding performs_in
 drive-is world t = outcome-performs world Drive t (refusal_in-drive world)
 
 module _ (old new : State) (tells told : Tells) where
-  pub drive_stop : (n total : ℕ) (error : StoreError) → IsStop error → n ≤ total → Does old new tells told (answered (Err error)) (drives_first n) → Does old new tells told (answered (Err error)) (drives_first total)
+  pub drive_stop : (n total : ℕ) (error : StoreError) → IsStop error → n ≤ total → Does old new tells told (call_answered (Err error)) (drives_first n) → Does old new tells told (call_answered (Err error)) (drives_first total)
   drive_stop n total error s l d =
       let sum : n + (total - n) ≡ total = omega (arith, l) in
       let same = stop_is error s in
@@ -237,12 +237,12 @@ module _ (old new : State) (tells told : Tells) where
 
   -- it went round as the machine does
   abbrev pub DroveSo : Result Reply StoreError → Type 0
-  DroveSo result = Does old new tells told (answered result) (λ w. driven w (round_of w))
+  DroveSo result = Does old new tells told (call_answered result) (λ w. driven w (round_of w))
 
-  pub hosted_drive : {T : Type 0} (f : T → Reply) (result : Result T StoreError) → old.trapped ≡ false → DroveSo (replied f result) → FitStill old new tells told → Halts result new → WantsDriven result → MeetsHosted old new tells told (replied f result) Drive
+  pub hosted_drive : {T : Type 0} (f : T → Reply) (result : Result T StoreError) → old.trapped ≡ false → DroveSo (as_reply f result) → FitStill old new tells told → Halts result new → WantsDriven result → MeetsHosted old new tells told (as_reply f result) Drive
   hosted_drive f result t does fits halts wants =
       hosted_polled old new tells told Drive refl f result
-      (Does-as old new tells told (answered (replied f result)) (λ w. driven w (round_of w)) (λ w. outcome w Drive) (λ logs. drive-is (world_of old tells logs) t) does)
+      (Does-as old new tells told (call_answered (as_reply f result)) (λ w. driven w (round_of w)) (λ w. outcome w Drive) (λ logs. drive-is (world_of old tells logs) t) does)
       (record { untrapped = t; none = λ logs. refusal_in-drive (world_of old tells logs) }) fits halts
       (wanting_result result (drive-wants t) wants)
 

@@ -6,7 +6,7 @@ use Rattle.strm_codes.specs.declared.codes.TransmitIndex.{TransmitIndex}
 use Rattle.strm_codes.specs.declared.codes.TransmitIndex.TheVariants as index
 use Rattle.strm_handles.specs.Handles.{Handles}
 use Rattle.strm_handles.specs.Ends.{without_value, readable, writable}
-use Rattle.strm_handles.specs.Lookups.{◌>>=◌, stream_of, future_of}
+use Rattle.strm_handles.specs.Lookups.{◌>>=◌, stream_end_of, future_end_of}
 use Rattle.strm_handles.specs.declared.entries.TransmitEnd.{TransmitEnd}
 use Rattle.strm_handles.specs.declared.entries.TransmitLocalState.{TransmitLocalState}
 use Rattle.strm_handles.specs.declared.entries.TransmitLocalState.TheVariants as states
@@ -28,7 +28,7 @@ use Rattle.strm_machine.proofs.NamedEndLemmas.{on_end-found, is_end-ok}
 use Rattle.strm_machine.proofs.RefusalLemmas.{LeaveFits, named_ok}
 use Rattle.strm_machine.proofs.SideLemmas.{same_side_is, StreamKeeps}
 use Rattle.strm_machine.proofs.SoundLemmas.{placed_at}
-use Rattle.strm_channels.specs.Guests.{seen, removable}
+use Rattle.strm_channels.specs.Guests.{guests_of, removable}
 use Rattle.strm_transmit.specs.Inside.{state_of, IsStore}
 use Rattle.strm_transmit.specs.Telling.{Retells}
 use Rattle.strm_transmit.specs.declared.store.Store.TheInside.{Inside}
@@ -44,7 +44,7 @@ pub record SetsStream (old new : Inside) (s : ℕ) (stream : Stream) : Type 0 wh
   pub live_sets : new.live_sets ≡ old.live_sets
   pub bytes : new.bytes ≡ old.bytes
   pub streams : new.streams.items ≡ set old.streams.items s stream
-  pub retold : Retells (seen old.guests.items) stream old.ready.items new.ready.items
+  pub retold : Retells (guests_of old.guests.items) stream old.ready.items new.ready.items
 
 -- the turn of a stream that became another, with all guests as they were
 abbrev set_turn : List machine.Guest → Stream → Turn
@@ -53,13 +53,13 @@ set_turn guests stream = record { code = None; guests = guests; stream = stream 
 -- a stream has the type and the owners of the one before it, and its operations lie in memory as theirs
 abbrev Follows : Inside → ℕ → Stream → Type 0
 Follows old s stream =
-    let sizes = sizes_of (seen old.guests.items) in
+    let sizes = sizes_of (guests_of old.guests.items) in
     let before = stream_at (state_of old) s in
     StreamIsPlaced sizes before → StreamKeeps sizes before stream
 
 pub IsStore-set : (old new : Inside) (s : ℕ) (stream : Stream) → s < length old.streams.items → Follows old s stream → SetsStream old new s stream → IsStore old → IsStore new
 IsStore-set old new s stream l keeps h i =
-    let guests = seen old.guests.items in
+    let guests = guests_of old.guests.items in
     IsStore-turn old new s (set_turn guests stream) l
     (record { guests = all_kept guests; stream = keeps (placed_at (state_of old) s l i.sound) })
     (record {
@@ -73,7 +73,7 @@ IsStore-set old new s stream l keeps h i =
       live_streams = h.live_streams;
       live_sets = h.live_sets;
       bytes = h.bytes;
-      guests = ap (λ (g : _). seen g.items) h.guests;
+      guests = ap (λ (g : _). guests_of g.items) h.guests;
       streams = h.streams;
       retold = h.retold;
     }) i
@@ -107,10 +107,10 @@ found_removable (Ok end) first told name f k =
 
 -- what a table answers to the removal of an idle end of a side
 removable_idle : (side : Side) (ty : TransmitIndex) (handles : Handles) (handle : ℕ) (name : ℕ × TransmitLocalState) → named_by ty handles handle ≡ Ok name → is_idle_state name.1 ≡ true → side_of name.1 ≡ side → removable side ty handles handle ≡ Ok tt
-removable_idle Writing (index.Stream payload) handles handle name e i s = found_removable (stream_of handles payload handle) writable (λ end done. end.rep) name e (idle_writable name.1 i s)
-removable_idle Reading (index.Stream payload) handles handle name e i s = found_removable (stream_of handles payload handle) readable (λ end done. (end.rep, done)) name e (idle_readable name.1 i s)
-removable_idle Writing (index.Future payload) handles handle name e i s = found_removable (future_of handles payload handle) writable (λ end done. (end.rep, done)) name e (idle_writable name.1 i s)
-removable_idle Reading (index.Future payload) handles handle name e i s = found_removable (future_of handles payload handle) readable (λ end done. (end.rep, done)) name e (idle_readable name.1 i s)
+removable_idle Writing (index.Stream payload) handles handle name e i s = found_removable (stream_end_of handles payload handle) writable (λ end done. end.rep) name e (idle_writable name.1 i s)
+removable_idle Reading (index.Stream payload) handles handle name e i s = found_removable (stream_end_of handles payload handle) readable (λ end done. (end.rep, done)) name e (idle_readable name.1 i s)
+removable_idle Writing (index.Future payload) handles handle name e i s = found_removable (future_end_of handles payload handle) writable (λ end done. (end.rep, done)) name e (idle_writable name.1 i s)
+removable_idle Reading (index.Future payload) handles handle name e i s = found_removable (future_end_of handles payload handle) readable (λ end done. (end.rep, done)) name e (idle_readable name.1 i s)
 
 -- the end that a handle names can be removed from its table
 pub removable_named : (state : State) (side : Side) (end : NamedEnd) → IsSound state → LeaveFits state side end → removable side end.ty (guest_in state.guests end.guest).handles end.handle ≡ Ok tt

@@ -1,6 +1,6 @@
 -- A stream that lost an end: the host end on the other side is gone and closed, in one step.
 use Rattle.std.proofs.Common.{◌≡◌, ℕ, cond, Ok, refl, ap, ◌∙◌, arith}
-use Rattle.strm_buffers.specs.Tells.{WriterTells, Tells, told_by, with_told, told_by_reader, ClosesWriter, closed_reader as closed_tells}
+use Rattle.strm_buffers.specs.Tells.{WriterTells, Tells, told_by, with_told, told_by_reader, ClosesWriter, reader_tells_closed as closed_tells}
 use Rattle.strm_machine.specs.State.{State, stream_at, is_host}
 use Rattle.strm_machine.specs.Moves.{with_owner}
 use Rattle.strm_machine.specs.Reactions.{with_stream_at}

@@ -24,7 +24,7 @@ use Rattle.strm_host_machine.proofs.DoesLemmas.{Does-untold, Does-as}
 use Rattle.strm_host_machine.proofs.OutcomeLemmas.{outcome-trapped, outcome-performs}
 use Rattle.strm_host_machine.proofs.ReactedLemmas.{refusal-reacted, touches-state, answer_of, lifted}
 use Rattle.strm_transmit.specs.Meets.{is_done, Meets, admitted, or_found}
-use Rattle.strm_transmit.specs.Hosted.{answered, lone, MayBeDone, Stays, Leaves, ErrsByRecord, MeetsHosted}
+use Rattle.strm_transmit.specs.Hosted.{call_answered, lone, MayBeDone, StoreStays, Leaves, ErrsByRecord, MeetsHosted}
 use Rattle.strm_transmit.specs.declared.errors.StoreError.{StoreError}
 use Rattle.strm_transmit.specs.declared.errors.StoreError.TheVariants.{Refused, HostFailed, HostBroke, BadItem, StoreTrapped, OutOfMemory}
 use Rattle.strm_transmit.proofs.StepLemmas.{not_admitted}
@@ -42,7 +42,7 @@ pub Fits-after : (after new : State) (left told : Tells) → new ≡ after → t
 Fits-after after new left told e f fits = subst (λ (x : State). Fits x told) (sym e) (subst (Fits after) (sym f) fits)
 
 -- store and host ends as they were
-pub all_stays : (state : State) (tells : Tells) → Stays state state tells tells
+pub all_stays : (state : State) (tells : Tells) → StoreStays state state tells tells
 all_stays state tells = record { same = refl; ends = refl }
 
 -- ## A call that is not admitted
@@ -70,7 +70,7 @@ module _ (state : State) (tells : Tells) (act : Act) where
   abbrev IsCaused : StoreError → Type 0
   IsCaused error = ◌≡◌ {A = Result Reply StoreError} (Err error) (Err OutOfMemory) → MayBeDone state tells act
 
-  pub unchanged : (error : StoreError) → Leaves act state state tells tells error → Does state state tells tells (answered (Err error)) (λ w. outcome w act) → Fits state tells → IsCaused error → ErrsByRecord tells tells error → IsAlone error → Unchanged error
+  pub unchanged : (error : StoreError) → Leaves act state state tells tells error → Does state state tells tells (call_answered (Err error)) (λ w. outcome w act) → Fits state tells → IsCaused error → ErrsByRecord tells tells error → IsAlone error → Unchanged error
   unchanged error leaves does fits caused by_record alone = record {
     does = does;
     fits = fits;
@@ -150,14 +150,14 @@ pub unpolled : (world : World) (act : Act) → touches world act ≡ false → m
 unpolled world act u = unpolled_by world.state (touch_of world.state act) u
 
 module _ (old new : State) (tells : Tells) (act : Act) where
-  meets-does : (result : Result Reply StoreError) → touches (lone old) act ≡ false → (reaction old act).state.producers ≡ old.producers → Settles result → Meets old new result (reaction old act) → Does old new tells tells (answered result) (λ w. outcome w act)
+  meets-does : (result : Result Reply StoreError) → touches (lone old) act ≡ false → (reaction old act).state.producers ≡ old.producers → Settles result → Meets old new result (reaction old act) → Does old new tells tells (call_answered result) (λ w. outcome w act)
   meets-does result u p s m = by_result result s m
     where
       -- what the machine does without them
       by_reaction : (r : Reaction) → reaction old act ≡ r → Does old r.state tells tells (answer_of r.reply) (λ w. outcome w act)
       by_reaction r e = subst (λ (x : Reaction). Does old x.state tells tells (answer_of x.reply) (λ w. outcome w act)) e (lifted old act tells [] [] u p)
 
-      by_result : (x : Result Reply StoreError) → Settles x → Meets old new x (reaction old act) → Does old new tells tells (answered x) (λ w. outcome w act)
+      by_result : (x : Result Reply StoreError) → Settles x → Meets old new x (reaction old act) → Does old new tells tells (call_answered x) (λ w. outcome w act)
       by_result (Ok reply) k n = subst (λ a. Does old new tells tells a (λ w. outcome w act)) (answer_settled reply k) (by_reaction (goes reply new) n)
       by_result (Err (Refused q)) k n = by_reaction (goes (replies.Refused q) new) n.0
       by_result (Err (HostFailed end)) k n = absurd n

@@ -6,7 +6,7 @@ use Rattle.std.proofs.lemmas.Bool.Decides.{nat_tests}
 use Rattle.strm_codes.specs.declared.codes.TransmitIndex.{TransmitIndex}
 use Rattle.strm_codes.specs.declared.refusals.Refusal.{Refusal}
 use Rattle.strm_codes.specs.declared.refusals.Refusal.TheVariants as refusals
-use Rattle.strm_buffers.specs.Tells.{ReaderTells, Tells, no_reader_tells, told_by, with_told, told_by_reader, with_told_reader, fed, granted}
+use Rattle.strm_buffers.specs.Tells.{ReaderTells, Tells, no_reader_tells, told_by, with_told, told_by_reader, with_told_reader, writer_fed, reader_granted}
 use Rattle.strm_machine.specs.State.{State, host_limit, stream_limit, no_stream, no_producer, producer_at, consumer_at, is_live, is_held, is_host, idle_end}
 use Rattle.strm_machine.specs.Tests.{are_places_full, are_streams_full}
 use Rattle.strm_machine.specs.Refusals.{Reason, where_, first_of, reader_reasons}
@@ -20,7 +20,7 @@ use Rattle.strm_machine.specs.declared.streams.Producer.{Producer}
 use Rattle.strm_host_machine.specs.Ends.{Reader, no_reader}
 use Rattle.strm_host_machine.specs.World.{World}
 use Rattle.strm_host_machine.specs.Attaching.{hosts_new}
-use Rattle.strm_host_machine.specs.HostRefusals.{is_unknown_host, is_used, type_read, refusal_in}
+use Rattle.strm_host_machine.specs.HostRefusals.{is_unknown_host, is_used, type_for_reader, refusal_in}
 use Rattle.strm_host_machine.specs.Steps.{on_host, performs_in, outcome}
 use Rattle.strm_host_machine.specs.Does.{Logs, readers_from, world_of, FitsWriter, FitsReader, Fits, Does}
 use Rattle.strm_host_machine.proofs.DoesLemmas.{Does-untold}
@@ -28,7 +28,7 @@ use Rattle.strm_host_machine.proofs.WorldLemmas.{length-writers_from}
 use Rattle.strm_host_machine.proofs.ReaderLemmas.{reader_at-from, length-readers_from}
 use Rattle.strm_host_machine.proofs.PipeAttachLemmas.{Does-grant}
 use Rattle.strm_host_machine.proofs.AttachLemmas.{hosted_by, hosting_by, hosted_in, Does-hosts_new, Does-feed}
-use Rattle.strm_transmit.specs.Meets.{admitted, replied, or_found}
+use Rattle.strm_transmit.specs.Meets.{admitted, as_reply, or_found}
 use Rattle.strm_transmit.specs.Hosted.{MayBeDone, MeetsHosted}
 use Rattle.strm_transmit.specs.declared.errors.StoreError.{StoreError}
 use Rattle.strm_transmit.specs.declared.errors.StoreError.TheVariants.{OutOfMemory}
@@ -54,8 +54,8 @@ use Rattle.strm_machine.proofs.HostLemmas.{no_host}
 use Rattle.strm_machine.proofs.SoundLemmas.{AreNamed-more}
 use Rattle.strm_machine.proofs.TableLemmas.{at_push}
 use Rattle.strm_machine.proofs.TurnLemmas.{all_kept}
-use Rattle.strm_channels.specs.Guests.{seen}
-use Rattle.strm_transmit.specs.Inside.{state_of, padded, AreServed, IsStore}
+use Rattle.strm_channels.specs.Guests.{guests_of}
+use Rattle.strm_transmit.specs.Inside.{state_of, padded_items, AreServed, IsStore}
 use Rattle.strm_transmit.specs.Keeping.{HasGrown, PlaceMade}
 use Rattle.strm_transmit.proofs.KeptLemmas.{have_grown, have_hosted, view_made}
 use Rattle.strm_transmit.specs.declared.store.Store.TheInside.{Inside}
@@ -85,15 +85,15 @@ type_told tells r = type_with (told_by_reader tells r).kind (told_by_reader tell
 abbrev pub reasons_of : State → Tells → ℕ → HostAct → List Reason
 reasons_of state tells n act = reasons_among state (length tells.writers) (length tells.readers) (type_told tells n) n act
 
-world_refusal : (world : World) (n : ℕ) (act : HostAct) → refusal_in world (OnHost n act) ≡ first_of (reasons_among world.state (length world.writers) (length world.readers) (type_read world n) n act)
+world_refusal : (world : World) (n : ℕ) (act : HostAct) → refusal_in world (OnHost n act) ≡ first_of (reasons_among world.state (length world.writers) (length world.readers) (type_for_reader world n) n act)
 unfolding refusal_in
 world_refusal world n New = refl
 world_refusal world n (Feed bytes) = refl
 world_refusal world r (Pipe reader) = refl
 world_refusal world r (Grant count) = refl
 
-type_read-told : (state : State) (tells : Tells) (logs : Logs) (r : ℕ) → type_read (world_of state tells logs) r ≡ type_told tells r
-type_read-told state tells logs r =
+type_for_reader-told : (state : State) (tells : Tells) (logs : Logs) (r : ℕ) → type_for_reader (world_of state tells logs) r ≡ type_told tells r
+type_for_reader-told state tells logs r =
     elim (cases_lt r (length tells.readers)) [
       | inl l ↦ ap (λ (x : Reader). type_with x.kind x.payload) (reader_at-from state tells logs r l)
       | inr l ↦
@@ -105,9 +105,9 @@ pub host_refusal-is : (state : State) (tells : Tells) (n : ℕ) (act : HostAct) 
 host_refusal-is state tells n act logs =
     let world = world_of state tells logs in
     world_refusal world n act
-    ∙ ap (λ count. first_of (reasons_among state count (length world.readers) (type_read world n) n act)) (length-writers_from state.producers tells.writers logs.writers)
-    ∙ ap (λ count. first_of (reasons_among state (length tells.writers) count (type_read world n) n act)) (length-readers_from tells.readers logs.readers)
-    ∙ ap (λ ty. first_of (reasons_among state (length tells.writers) (length tells.readers) ty n act)) (type_read-told state tells logs n)
+    ∙ ap (λ count. first_of (reasons_among state count (length world.readers) (type_for_reader world n) n act)) (length-writers_from state.producers tells.writers logs.writers)
+    ∙ ap (λ count. first_of (reasons_among state (length tells.writers) count (type_for_reader world n) n act)) (length-readers_from tells.readers logs.readers)
+    ∙ ap (λ ty. first_of (reasons_among state (length tells.writers) (length tells.readers) ty n act)) (type_for_reader-told state tells logs n)
 
 -- no records
 abbrev pub no_logs : Logs
@@ -237,23 +237,23 @@ module _ (old new : State) (tells : Tells) (n : ℕ) (h : MayHost old tells n) w
       }
 
   -- by what the making of the stream answered
-  pub hosted_made : (result : Result ℕ StoreError) → IfOk result (λ s. s ≡ length old.streams) → OnOk result (new ≡ hosted_in old tells n) → OnErr result (result ≡ Err OutOfMemory) → OnErr result (new ≡ old) → MeetsHosted old new tells tells (replied replies.Number result) (OnHost n New)
+  pub hosted_made : (result : Result ℕ StoreError) → IfOk result (λ s. s ≡ length old.streams) → OnOk result (new ≡ hosted_in old tells n) → OnErr result (result ≡ Err OutOfMemory) → OnErr result (new ≡ old) → MeetsHosted old new tells tells (as_reply replies.Number result) (OnHost n New)
   hosted_made (Ok s) number is memory same = hosted_new s number is
   hosted_made (Err error) number is memory same =
-      subst (λ (x : Result ℕ StoreError). MeetsHosted old new tells tells (replied replies.Number x) (OnHost n New)) (sym memory)
+      subst (λ (x : Result ℕ StoreError). MeetsHosted old new tells tells (as_reply replies.Number x) (OnHost n New)) (sym memory)
       (hosted_wanting old new tells tells n New h.may h.fits same refl)
 
 -- ## Bytes from outside
 
-pub hosted_feed : (state : State) (tells told : Tells) (n : ℕ) (bytes : List ℕ) → MayBeDone state tells (OnHost n (Feed bytes)) → Fits state tells → told ≡ with_told tells n (fed (told_by tells n) bytes) → MeetsHosted state state tells told (Ok replies.Done) (OnHost n (Feed bytes))
+pub hosted_feed : (state : State) (tells told : Tells) (n : ℕ) (bytes : List ℕ) → MayBeDone state tells (OnHost n (Feed bytes)) → Fits state tells → told ≡ with_told tells n (writer_fed (told_by tells n) bytes) → MeetsHosted state state tells told (Ok replies.Done) (OnHost n (Feed bytes))
 hosted_feed state tells told n bytes may fits is =
-    let after = with_told tells n (fed (told_by tells n) bytes) in
+    let after = with_told tells n (writer_fed (told_by tells n) bytes) in
     record {
       does = Does-after refl is
           (does_admitted state state tells after (OnHost n (Feed bytes)) (Ok replies.Done) (λ w. on_host w n (Feed bytes)) may
           (λ logs. performs-feed (world_of state tells logs) n bytes) (Does-feed state tells n bytes (feed_fits state tells n bytes may)));
       fits = Fits-after state state after told refl is
-          (Fits-told state tells n (fed (told_by tells n) bytes) (record { kind = refl; payload = refl }) fits);
+          (Fits-told state tells n (writer_fed (told_by tells n) bytes) (record { kind = refl; payload = refl }) fits);
       alone = λ u. cc u;
       err = tt;
       by_record = tt;
@@ -271,15 +271,15 @@ grant_fits state tells r count may =
     let a = passes (is_unknown_host (length tells.readers) r) refusals.UnknownHost [] (sym (host_refusal-is state tells r (Grant count) no_logs) ∙ may.none no_logs) in
     (known_host (length tells.readers) r a.test).0
 
-pub hosted_grant : (state : State) (tells told : Tells) (r count : ℕ) → MayBeDone state tells (OnHost r (Grant count)) → Fits state tells → told ≡ with_told_reader tells r (granted (told_by_reader tells r) count) → MeetsHosted state state tells told (Ok replies.Done) (OnHost r (Grant count))
+pub hosted_grant : (state : State) (tells told : Tells) (r count : ℕ) → MayBeDone state tells (OnHost r (Grant count)) → Fits state tells → told ≡ with_told_reader tells r (reader_granted (told_by_reader tells r) count) → MeetsHosted state state tells told (Ok replies.Done) (OnHost r (Grant count))
 hosted_grant state tells told r count may fits is =
-    let after = with_told_reader tells r (granted (told_by_reader tells r) count) in
+    let after = with_told_reader tells r (reader_granted (told_by_reader tells r) count) in
     record {
       does = Does-after refl is
           (does_admitted state state tells after (OnHost r (Grant count)) (Ok replies.Done) (λ w. on_host w r (Grant count)) may
           (λ logs. performs-grant (world_of state tells logs) r count) (Does-grant state tells r count (grant_fits state tells r count may)));
       fits = Fits-after state state after told refl is
-          (Fits-told_reader state tells r (granted (told_by_reader tells r) count) (record { kind = refl; payload = refl }) fits);
+          (Fits-told_reader state tells r (reader_granted (told_by_reader tells r) count) (record { kind = refl; payload = refl }) fits);
       alone = λ u. cc u;
       err = tt;
       by_record = tt;
@@ -324,7 +324,7 @@ pub record HostsStream (old new : Inside) (n : ℕ) (stream : Stream) (p : Produ
   pub consumers : new.consumers ≡ old.consumers
   pub ready : new.ready ≡ old.ready
 
-state_of-hosted : (old new : Inside) (n : ℕ) (stream : Stream) (p : Producer) → HostsStream old new n stream p → padded new.kept.items ≡ padded old.kept.items → state_of new ≡ record (state_of old) { streams = old.streams.items ++ stream ∷ []; producers = set old.producers n p }
+state_of-hosted : (old new : Inside) (n : ℕ) (stream : Stream) (p : Producer) → HostsStream old new n stream p → padded_items new.kept.items ≡ padded_items old.kept.items → state_of new ≡ record (state_of old) { streams = old.streams.items ++ stream ∷ []; producers = set old.producers n p }
 state_of-hosted old new n stream p h k = rw (h.tag, h.limits, h.contexts, h.trapped, h.guests, h.streams, h.producers, h.consumers, k) refl
 
 -- an unused host writer that serves a stream more, which it writes
@@ -349,7 +349,7 @@ hosted_served old n stream p m h =
 -- no guest has an end of the stream
 agrees_hosted : (old new : Inside) (n : ℕ) (stream : Stream) (p : Producer) → HostsStream old new n stream p → IsStore old → Agrees new
 agrees_hosted old new n stream p h i =
-    let guests = seen old.guests.items in
+    let guests = guests_of old.guests.items in
     let more = old.streams.items ++ stream ∷ [] in
     let s = length old.streams.items in
     let held : IsHeld guests more = IsHeld-push guests old.streams.items stream unheld i.held in
@@ -369,14 +369,14 @@ pub IsStore-hosted : (old new : Inside) (n : ℕ) (stream : Stream) (p : Produce
 IsStore-hosted old new n stream p h i =
     let writer : stream.writer.owner ≡ Host n = ap (λ (x : End). x.owner) h.writer in
     let reader : is_host stream.reader.owner ≡ false = ap (λ (x : End). is_host x.owner) h.reader in
-    let sizes = sizes_of (seen old.guests.items) in
+    let sizes = sizes_of (guests_of old.guests.items) in
     let idle : StreamIsPlaced sizes stream = record {
       writer = subst (λ (x : End). OperationIsPlaced sizes stream.payload x.operation) (sym h.writer) tt;
       reader = subst (λ (x : End). OperationIsPlaced sizes stream.payload x.operation) (sym h.reader) tt;
     } in
     let live : is_live stream ≡ true = ap (λ (x : End). is_live (record stream { writer = x })) h.writer in
     IsStore-counted old new
-    (kept_tables old new (record { limits = h.limits; counter = h.counter; live_sets = h.live_sets; bytes = h.bytes; guests = rw h.guests (all_kept (seen old.guests.items)) }) i)
+    (kept_tables old new (record { limits = h.limits; counter = h.counter; live_sets = h.live_sets; bytes = h.bytes; guests = rw h.guests (all_kept (guests_of old.guests.items)) }) i)
     (record {
       live = rw h.streams (omega (arith, h.live_streams, i.streams, live_pushed old.streams.items stream live));
       served = rw (h.producers, h.consumers, h.streams) (hosted_served old n stream p (record { kept = omega (arith, i.served.all, h.kept); unused = h.unused; serves = h.serves; writer = writer; reader = reader }) i.served);
@@ -404,15 +404,15 @@ pub record GrowsPlaces (old new : Inside) : Type 0 where
 pub IsStore-grown : (old new : Inside) → GrowsPlaces old new → IsStore old → IsStore new
 IsStore-grown old new h i =
     IsStore-counted old new
-    (kept_tables old new (record { limits = h.limits; counter = h.counter; live_sets = h.live_sets; bytes = h.bytes; guests = rw h.guests (all_kept (seen old.guests.items)) }) i)
+    (kept_tables old new (record { limits = h.limits; counter = h.counter; live_sets = h.live_sets; bytes = h.bytes; guests = rw h.guests (all_kept (guests_of old.guests.items)) }) i)
     (record {
       live = rw (h.live_streams, h.streams) i.streams;
       served = rw (h.producers, h.consumers, h.streams) i.served;
       kept = rw (h.producers, h.streams) (have_grown old.producers old.kept.items old.streams.items i.kept new.kept.items h.grown);
       few = rw h.streams i.few_streams;
     })
-    (IsSound-same (state_of old) (state_of new) (ap (λ (g : _). seen g.items) h.guests) h.streams h.contexts i.sound)
-    (agrees_still old new (rw h.guests (all_kept (seen old.guests.items))) h.streams h.ready i) i
+    (IsSound-same (state_of old) (state_of new) (ap (λ (g : _). guests_of g.items) h.guests) h.streams h.contexts i.sound)
+    (agrees_still old new (rw h.guests (all_kept (guests_of old.guests.items))) h.streams h.ready i) i
 
 -- a state with a stream more, which host writer n serves
 abbrev pub with_hosted : State → ℕ → Stream → Producer → State

@@ -11,7 +11,7 @@ use Rattle.strm_machine.specs.declared.streams.Duty.TheVariants.{Unused, Serves,
 use Rattle.strm_machine.specs.declared.streams.Producer.{Producer}
 use Rattle.strm_machine.specs.declared.streams.Side.TheVariants.{Writing}
 use Rattle.strm_machine.specs.declared.streams.Stream.{Stream}
-use Rattle.strm_transmit.specs.Inside.{padded, nothing_kept, HasPlace, AreServed, HavePlaces}
+use Rattle.strm_transmit.specs.Inside.{padded_items, nothing_kept, HasPlace, AreServed, HavePlaces}
 use Rattle.strm_transmit.specs.Keeping.{HasGrown, PlaceMade}
 use Rattle.strm_transmit.proofs.ServedLemmas.{at_set, same_stream, not_unused, ended_no, all_unused}
 
@@ -32,8 +32,8 @@ items_at (k ∷ kept) m zero = refl
 items_at (k ∷ kept) m (suc n) = items_at kept m n
 
 -- the items of one host writer
-pub padded-at : (kept : List TypedItems) (n : ℕ) → get_or (padded kept) n [] ≡ (get_or kept n nothing_kept).items
-padded-at kept n = items_at kept (host_limit - length kept) n
+pub padded_items-at : (kept : List TypedItems) (n : ℕ) → get_or (padded_items kept) n [] ≡ (get_or kept n nothing_kept).items
+padded_items-at kept n = items_at kept (host_limit - length kept) n
 
 set_then : (kept : List TypedItems) (m n : ℕ) (k : TypedItems) → n < length kept → items_then (set kept n k) m ≡ set (items_then kept m) n k.items
 set_then [] m n k l = absurd (omega (arith, l))
@@ -41,8 +41,8 @@ set_then (x ∷ kept) m zero k l = refl
 set_then (x ∷ kept) m (suc n) k l = ap (λ xs. x.items ∷ xs) (set_then kept m n k (omega (arith, l)))
 
 -- other items of one of them
-pub padded-set : (kept : List TypedItems) (n : ℕ) (k : TypedItems) → n < length kept → padded (set kept n k) ≡ set (padded kept) n k.items
-padded-set kept n k l =
+pub padded_items-set : (kept : List TypedItems) (n : ℕ) (k : TypedItems) → n < length kept → padded_items (set kept n k) ≡ set (padded_items kept) n k.items
+padded_items-set kept n k l =
     ap (λ m. items_then (set kept n k) (host_limit - m)) (length-set kept n k) ∙ set_then kept (host_limit - length kept) n k l
 
 push_then : (kept : List TypedItems) (m : ℕ) (k : TypedItems) → k.items ≡ [] → items_then (kept ++ k ∷ []) m ≡ items_then kept (suc m)
@@ -50,8 +50,8 @@ push_then [] m k e = ap (λ xs. xs ∷ replicate m []) e
 push_then (x ∷ kept) m k e = ap (λ xs. x.items ∷ xs) (push_then kept m k e)
 
 -- a place more, with nothing in it, is not seen
-pub padded-push : (kept : List TypedItems) (k : TypedItems) → k.items ≡ [] → length kept < host_limit → padded (kept ++ k ∷ []) ≡ padded kept
-padded-push kept k e l =
+pub padded_items-push : (kept : List TypedItems) (k : TypedItems) → k.items ≡ [] → length kept < host_limit → padded_items (kept ++ k ∷ []) ≡ padded_items kept
+padded_items-push kept k e l =
     let fewer : host_limit - length kept ≡ suc (host_limit - length (kept ++ k ∷ [])) = omega (arith, l, length-append kept (k ∷ [])) in
     push_then kept (host_limit - length (kept ++ k ∷ [])) k e ∙ ap (items_then kept) (sym fewer)
 
@@ -65,11 +65,11 @@ grown-push old new k g e l = record {
   few = omega (arith, l, length-append new (k ∷ []));
   more = omega (arith, g.more, length-append new (k ∷ []));
   same = λ m b. get_or_append_left new (k ∷ []) nothing_kept m (omega (arith, b, g.more)) ∙ g.same m b;
-  view = padded-push new k e l ∙ g.view;
+  view = padded_items-push new k e l ∙ g.view;
 }
 
-same_items : (old new : List TypedItems) (m : ℕ) → padded new ≡ padded old → (get_or new m nothing_kept).items ≡ (get_or old m nothing_kept).items
-same_items old new m e = sym (padded-at new m) ∙ ap (λ xs. get_or xs m []) e ∙ padded-at old m
+same_items : (old new : List TypedItems) (m : ℕ) → padded_items new ≡ padded_items old → (get_or new m nothing_kept).items ≡ (get_or old m nothing_kept).items
+same_items old new m e = sym (padded_items-at new m) ∙ ap (λ xs. get_or xs m []) e ∙ padded_items-at old m
 
 ended_used : (d : Duty) → d ≡ Ended → d ≢ Unused
 ended_used d e f = cc
@@ -167,10 +167,10 @@ module _ (ps : List Producer) (old : List TypedItems) (ss : List Stream) (h : Ha
       })
 
   -- and the machine sees no change
-  pub view_made : (new : List TypedItems) (n : ℕ) (payload : Payload) → (get_or ps n no_producer).duty ≡ Unused → PlaceMade old new n payload → padded new ≡ padded old
+  pub view_made : (new : List TypedItems) (n : ℕ) (payload : Payload) → (get_or ps n no_producer).duty ≡ Unused → PlaceMade old new n payload → padded_items new ≡ padded_items old
   view_made new n payload unused made =
-      let none : get_or (padded made.between) n [] ≡ [] = padded-at made.between n ∙ same_items old made.between n made.grown.view ∙ h.unused n unused in
-      ap padded made.after
-      ∙ padded-set made.between n (record { payload = payload; items = [] }) made.there
-      ∙ ap (set (padded made.between) n) (sym none) ∙ set-get_or (padded made.between) n []
+      let none : get_or (padded_items made.between) n [] ≡ [] = padded_items-at made.between n ∙ same_items old made.between n made.grown.view ∙ h.unused n unused in
+      ap padded_items made.after
+      ∙ padded_items-set made.between n (record { payload = payload; items = [] }) made.there
+      ∙ ap (set (padded_items made.between) n) (sym none) ∙ set-get_or (padded_items made.between) n []
       ∙ made.grown.view

@@ -4,9 +4,9 @@ use Rattle.std.specs.List.{refill, length_refill}
 use Rattle.std.specs.Vec.{with_item}
 use Rattle.strm_memory.specs.Linear.{with_contents}
 use Rattle.strm_machine.specs.State.{with_memory}
-use Rattle.strm_channels.specs.Guests.{seen}
+use Rattle.strm_channels.specs.Guests.{guests_of}
 use Rattle.strm_channels.specs.declared.guests.Guest.{Guest}
-use Rattle.strm_channels.proofs.GuestLemmas.{seen-with_memory, memory_in-seen}
+use Rattle.strm_channels.proofs.GuestLemmas.{guests_of-with_memory, memory_in-seen}
 use Rattle.strm_transmit.specs.Inside.{state_of, IsStore}
 use Rattle.strm_transmit.specs.Lending.{with_bytes_in}
 use Rattle.strm_transmit.specs.declared.store.Store.TheInside.{Inside}
@@ -30,7 +30,7 @@ module _ (s : Inside) (g : ℕ) (x : Guest) (there : g < length s.guests.items) 
     live_sets = refl;
     count = refl;
     ready = refl;
-    guests = seen-with_memory s.guests.items g x (rewritten x.memory.bytes bytes) there is;
+    guests = guests_of-with_memory s.guests.items g x (rewritten x.memory.bytes bytes) there is;
   }
 
   pub lent-keeps : IsStore s → IsStore (lent_to s g x bytes)
@@ -42,4 +42,4 @@ module _ (s : Inside) (g : ℕ) (x : Guest) (there : g < length s.guests.items) 
   pub lent-state : state_of (lent_to s g x bytes) ≡ with_bytes_in (state_of s) g bytes
   lent-state =
       puts-state s (lent_to s g x bytes) g (rewritten x.memory.bytes bytes) puts
-      ∙ ap (λ m. record (state_of s) { guests = with_memory (seen s.guests.items) g (rewritten m bytes) }) (sym (memory_in-seen s.guests.items g x there is))
+      ∙ ap (λ m. record (state_of s) { guests = with_memory (guests_of s.guests.items) g (rewritten m bytes) }) (sym (memory_in-seen s.guests.items g x there is))

@@ -16,9 +16,9 @@ pub mod DropLemmas
 pub mod EndingLemmas
 pub mod MoveLemmas
 pub mod SceneLemmas
-pub mod TakeLemmas
+pub mod ReaderTurnLemmas
 pub mod SceneStoreLemmas
-pub mod ProduceLemmas
+pub mod WriterTurnLemmas
 pub mod DriveStoreLemmas
 pub mod HostingLemmas
 pub mod PipeStoreLemmas

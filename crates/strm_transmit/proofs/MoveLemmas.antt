@@ -5,7 +5,7 @@ use Rattle.std.proofs.lemmas.Bool.{cases_lt}
 use Rattle.std.proofs.lemmas.List.{get_or_past, get_or-set_same, length-set}
 use Rattle.strm_codes.specs.declared.codes.TransmitIndex.{TransmitIndex}
 use Rattle.strm_handles.specs.Counters.{counted, uncounted}
-use Rattle.strm_waitable_sets.specs.Sets.{left, set_of}
+use Rattle.strm_waitable_sets.specs.Sets.{handle_left, set_of}
 use Rattle.strm_machine.specs.State.{State, sets_in, no_stream, stream_at, is_loose, is_held, is_host, is_live, sets_in_use}
 use Rattle.strm_machine.specs.Sides.{end_of}
 use Rattle.strm_machine.specs.Moves.{without_handle, next_in, with_owner}
@@ -29,7 +29,7 @@ use Rattle.strm_machine.proofs.ReactionLemmas.{reaction-performs}
 use Rattle.strm_machine.proofs.RefusalLemmas.{move_fits, lower_fits, close_fits}
 use Rattle.strm_machine.proofs.SoundLemmas.{IsSound-set, IsSound-freed, sizes_of-with_table, sizes_of-with_handles}
 use Rattle.strm_machine.proofs.SoundStepLemmas.{reaction-sound}
-use Rattle.strm_channels.specs.Guests.{seen, live_in, sets_among, without_handle_in, with_end_in}
+use Rattle.strm_channels.specs.Guests.{guests_of, live_in, sets_among, without_handle_in, with_end_in}
 use Rattle.strm_transmit.specs.Inside.{state_of, AreServed, HavePlaces, IsStore}
 use Rattle.strm_transmit.specs.declared.store.Store.TheInside.{Inside}
 use Rattle.strm_transmit.proofs.ServedLemmas.{ComesNoHost, AreServed-set}
@@ -50,7 +50,7 @@ pub record SetsOwner (old new : Inside) (s : ℕ) (side : Side) (owner : Owner) 
   pub live_sets : new.live_sets ≡ old.live_sets
   pub counted : new.live_streams ≡ count_by is_live new.streams.items
   pub streams : new.streams.items ≡ set old.streams.items s (with_owner side (stream_at (state_of old) s) owner)
-  pub retold : Retells (seen new.guests.items) (with_owner side (stream_at (state_of old) s) owner) between new.ready.items
+  pub retold : Retells (guests_of new.guests.items) (with_owner side (stream_at (state_of old) s) owner) between new.ready.items
 
 -- the handles of guests stay, and their counter
 pub record KeepsHandles (old new : Inside) : Type 0 where
@@ -60,14 +60,14 @@ pub record KeepsHandles (old new : Inside) : Type 0 where
 -- a handle leaves its set
 pub record LeavesHome (old : Inside) (g handle : ℕ) (between : Ready) : Type 0 where
   pub home : Option ℕ
-  pub is : home ≡ set_of (sets_in (seen old.guests.items) g) handle
+  pub is : home ≡ set_of (sets_in (guests_of old.guests.items) g) handle
   pub leaves : Leaves g handle home old.ready.items between
 
 -- a handle of a guest is freed and counted off
 pub record FreesHandle (old new : Inside) (g handle : ℕ) : Type 0 where
   pub counter : new.counter ≡ uncounted old.counter
-  pub live : live_in (seen new.guests.items) + 1 ≡ live_in (seen old.guests.items)
-  pub guests : seen new.guests.items ≡ without_handle_in (seen old.guests.items) g handle
+  pub live : live_in (guests_of new.guests.items) + 1 ≡ live_in (guests_of old.guests.items)
+  pub guests : guests_of new.guests.items ≡ without_handle_in (guests_of old.guests.items) g handle
 
 -- an owner that is no host end
 owned-comes : (side : Side) (stream : Stream) (owner : Owner) → is_host owner ≡ false → ComesNoHost stream (with_owner side stream owner)
@@ -98,10 +98,10 @@ module _ (old new : Inside) (s : ℕ) (side : Side) (owner : Owner) (between : R
   given = with_owner side (stream_at (state_of old) s) owner
 
   -- what is known of the ends of other streams, once they are told of these
-  told_again : IsHeld (seen new.guests.items) new.streams.items → ToldBut (seen new.guests.items) (set old.streams.items s given) s between → AreTold (seen new.guests.items) new.streams.items new.ready.items
+  told_again : IsHeld (guests_of new.guests.items) new.streams.items → ToldBut (guests_of new.guests.items) (set old.streams.items s given) s between → AreTold (guests_of new.guests.items) new.streams.items new.ready.items
   told_again held but =
       rw o.streams
-      (told-retold (seen new.guests.items) (set old.streams.items s given) s (rw o.streams at held) between new.ready.items given (get_or-set_same old.streams.items s given no_stream l) but o.retold)
+      (told-retold (guests_of new.guests.items) (set old.streams.items s given) s (rw o.streams at held) between new.ready.items given (get_or-set_same old.streams.items s given no_stream l) but o.retold)
 
   -- the stream alone
   owned : IsSound (record (state_of old) { streams = new.streams.items })
@@ -121,13 +121,13 @@ module _ (old new : Inside) (s : ℕ) (side : Side) (owner : Owner) (between : R
   counts = record { live = o.counted; served = served; kept = places; few = rw (o.streams, length-set old.streams.items s (with_owner side (stream_at (state_of old) s) owner)) i.few_streams }
 
   -- as many sets as there were
-  as_many : sets_among (seen new.guests.items) ≡ sets_among (seen old.guests.items) → new.live_sets ≡ sets_in_use (state_of new)
+  as_many : sets_among (guests_of new.guests.items) ≡ sets_among (guests_of old.guests.items) → new.live_sets ≡ sets_in_use (state_of new)
   as_many e = o.live_sets ∙ i.sets ∙ sym e
 
   agrees_owned : is_held (end_of side (stream_at (state_of old) s)).owner ≡ false → is_held owner ≡ false → between ≡ old.ready.items → KeepsHandles old new → Agrees new
   agrees_owned was now same h =
-      let guests = seen old.guests.items in
-      let held : IsHeld (seen new.guests.items) new.streams.items = rw (h.guests, o.streams) (IsHeld-set guests old.streams.items s given l (λ other. owned-across side other (stream_at (state_of old) s) owner was now) i.held) in
+      let guests = guests_of old.guests.items in
+      let held : IsHeld (guests_of new.guests.items) new.streams.items = rw (h.guests, o.streams) (IsHeld-set guests old.streams.items s given l (λ other. owned-across side other (stream_at (state_of old) s) owner was now) i.held) in
       record {
         held = held;
         told = told_again held (rw (h.guests, same) (but-besides guests guests old.streams.items (set old.streams.items s given) s old.ready.items (λ _ _ _. refl) (besides-set old.streams.items s given) i.told));
@@ -137,22 +137,22 @@ module _ (old new : Inside) (s : ℕ) (side : Side) (owner : Owner) (between : R
   IsStore-owned was now same h =
       IsStore-counted old new
       (record {
-        handles = kept_counted old new o.same.limits h.counter (ap (λ (g : _). live_in (seen g.items)) h.guests) i;
-        sets = as_many (ap (λ (g : _). sets_among (seen g.items)) h.guests);
+        handles = kept_counted old new o.same.limits h.counter (ap (λ (g : _). live_in (guests_of g.items)) h.guests) i;
+        sets = as_many (ap (λ (g : _). sets_among (guests_of g.items)) h.guests);
         sizes = rw h.guests refl;
         bytes = o.bytes;
       })
       counts
-      (IsSound-same (record (state_of old) { streams = new.streams.items }) (state_of new) (ap (λ (g : _). seen g.items) h.guests) refl o.same.contexts owned) (agrees_owned was now same h) i
+      (IsSound-same (record (state_of old) { streams = new.streams.items }) (state_of new) (ap (λ (g : _). guests_of g.items) h.guests) refl o.same.contexts owned) (agrees_owned was now same h) i
 
-  agrees_released : (g handle : ℕ) → g < length (seen old.guests.items) → is_end s side (end_named (state_of old) g handle) ≡ true → is_held owner ≡ false → LeavesHome old g handle between → FreesHandle old new g handle → Agrees new
+  agrees_released : (g handle : ℕ) → g < length (guests_of old.guests.items) → is_end s side (end_named (state_of old) g handle) ≡ true → is_held owner ≡ false → LeavesHome old g handle between → FreesHandle old new g handle → Agrees new
   agrees_released g handle there is now leaves h =
-      let guests = seen old.guests.items in
+      let guests = guests_of old.guests.items in
       let freed = without_handle_in guests g handle in
       let more = set old.streams.items s given in
-      let held : IsHeld (seen new.guests.items) new.streams.items =
+      let held : IsHeld (guests_of new.guests.items) new.streams.items =
       rw (h.guests, o.streams)
-      (IsHeld-removed guests old.streams.items more g s side there (λ k other. owned_beside old.streams.items s side l owner k other) i.held handle (left (sets_in guests g) handle) is
+      (IsHeld-removed guests old.streams.items more g s side there (λ k other. owned_beside old.streams.items s side l owner k other) i.held handle (handle_left (sets_in guests g) handle) is
       (ap (λ (x : Stream). is_held (end_of side x).owner) (get_or-set_same old.streams.items s given no_stream l) ∙ ap is_held (owned-owner side (stream_at (state_of old) s) owner) ∙ now)) in
       record {
         held = held;
@@ -162,14 +162,14 @@ module _ (old new : Inside) (s : ℕ) (side : Side) (owner : Owner) (between : R
             (but-besides guests guests old.streams.items more s old.ready.items (λ _ _ _. refl) (besides-set old.streams.items s given) i.told)));
       }
 
-  pub IsStore-released : (g handle : ℕ) → g < length (seen old.guests.items) → is_end s side (end_named (state_of old) g handle) ≡ true → is_held owner ≡ false → LeavesHome old g handle between → FreesHandle old new g handle → IsStore new
+  pub IsStore-released : (g handle : ℕ) → g < length (guests_of old.guests.items) → is_end s side (end_named (state_of old) g handle) ≡ true → is_held owner ≡ false → LeavesHome old g handle between → FreesHandle old new g handle → IsStore new
   IsStore-released g handle there is now leaves h =
       let ok : is_ok (end_named (state_of old) g handle) ≡ true = is_end-ok s side (end_named (state_of old) g handle) is in
       IsStore-counted old new
       (record {
         handles = less_counted old new o.same.limits h.counter h.live i;
-        sets = as_many (ap sets_among h.guests ∙ sets-with_table (seen old.guests.items) g _ _ refl);
-        sizes = ap sizes_of h.guests ∙ sizes_of-with_table (seen old.guests.items) g _ _;
+        sets = as_many (ap sets_among h.guests ∙ sets-with_table (guests_of old.guests.items) g _ _ refl);
+        sizes = ap sizes_of h.guests ∙ sizes_of-with_table (guests_of old.guests.items) g _ _;
         bytes = o.bytes;
       })
       counts
@@ -181,14 +181,14 @@ module _ (old new : Inside) (s : ℕ) (side : Side) (owner : Owner) (between : R
 -- a handle of a guest is freed, and one is given to a guest
 pub record MovesHandle (old new : Inside) (side : Side) (end : NamedEnd) (to s : ℕ) : Type 0 where
   pub counter : new.counter ≡ old.counter
-  pub live : live_in (seen new.guests.items) ≡ live_in (seen old.guests.items)
-  pub guests : seen new.guests.items ≡ with_end_in (without_handle_in (seen old.guests.items) end.guest end.handle) to side end.ty s
+  pub live : live_in (guests_of new.guests.items) ≡ live_in (guests_of old.guests.items)
+  pub guests : guests_of new.guests.items ≡ with_end_in (without_handle_in (guests_of old.guests.items) end.guest end.handle) to side end.ty s
 
 -- a handle is given and counted
 pub record GivesHandle (old new : Inside) (side : Side) (ty : TransmitIndex) (to s : ℕ) : Type 0 where
   pub counter : new.counter ≡ counted old.counter
-  pub live : live_in (seen new.guests.items) ≡ live_in (seen old.guests.items) + 1
-  pub guests : seen new.guests.items ≡ with_end_in (seen old.guests.items) to side ty s
+  pub live : live_in (guests_of new.guests.items) ≡ live_in (guests_of old.guests.items) + 1
+  pub guests : guests_of new.guests.items ≡ with_end_in (guests_of old.guests.items) to side ty s
 
 -- a step that nothing refuses leaves a sound state
 performs-sound : (state : State) (act : Act) → state.trapped ≡ false → refusal state act ≡ None → IsSound state → IsSound (performs state act).state
@@ -227,7 +227,7 @@ module _ (old new : Inside) (s : ℕ) (side : Side) (end : NamedEnd) (to number 
 
   agrees_moved : LeavesHome old end.guest end.handle between → refusal (state_of old) (Transfer end to) ≡ None → s ≡ stream_named (named (state_of old) end) → side ≡ side_named (named (state_of old) end) → IsStore old → Agrees new
   agrees_moved leaves e stream_is side_is i =
-      let guests = seen old.guests.items in
+      let guests = guests_of old.guests.items in
       let freed = without_handle_in guests end.guest end.handle in
       let more = set old.streams.items s (with_owner side (stream_at (state_of old) s) (Held to number)) in
       let made = moved_made (state_of old) end to s e stream_is i.sound in
@@ -243,12 +243,12 @@ module _ (old new : Inside) (s : ℕ) (side : Side) (end : NamedEnd) (to number 
 
   pub IsStore-moved : LeavesHome old end.guest end.handle between → old.is_trapped ≡ false → refusal (state_of old) (Transfer end to) ≡ None → s ≡ stream_named (named (state_of old) end) → side ≡ side_named (named (state_of old) end) → IsStore old → IsStore new
   IsStore-moved leaves t e stream_is side_is i =
-      let guests = seen old.guests.items in
+      let guests = guests_of old.guests.items in
       let freed = without_handle_in guests end.guest end.handle in
       IsStore-counted old new
       (record {
         handles = kept_counted old new o.same.limits m.counter m.live i;
-        sets = o.live_sets ∙ i.sets ∙ sym (ap sets_among m.guests ∙ sets-with_table freed to _ (sets_in freed to) refl ∙ sets-with_table guests end.guest _ (left (sets_in guests end.guest) end.handle) refl);
+        sets = o.live_sets ∙ i.sets ∙ sym (ap sets_among m.guests ∙ sets-with_table freed to _ (sets_in freed to) refl ∙ sets-with_table guests end.guest _ (handle_left (sets_in guests end.guest) end.handle) refl);
         sizes = ap sizes_of m.guests ∙ sizes_of-with_handles freed to _ ∙ sizes_of-with_table guests end.guest _ _;
         bytes = o.bytes;
       })
@@ -283,7 +283,7 @@ module _ (old new : Inside) (s g : ℕ) (ty : TransmitIndex) (number : ℕ) (o :
 
   agrees_lowered : refusal (state_of old) (OnLoose s (Lower g ty)) ≡ None → IsStore old → Agrees new
   agrees_lowered e i =
-      let guests = seen old.guests.items in
+      let guests = guests_of old.guests.items in
       let more = set old.streams.items s (with_owner Reading (stream_at (state_of old) s) (Held g number)) in
       let held : StateIsHeld (state_of new) = subst (λ (r : Reaction). StateIsHeld r.state) lowers-is (lowers-held (state_of old) s g ty e i.sound i.held) in
       record {
@@ -295,7 +295,7 @@ module _ (old new : Inside) (s g : ℕ) (ty : TransmitIndex) (number : ℕ) (o :
 
   pub IsStore-lowered : old.is_trapped ≡ false → refusal (state_of old) (OnLoose s (Lower g ty)) ≡ None → IsStore old → IsStore new
   IsStore-lowered t e i =
-      let guests = seen old.guests.items in
+      let guests = guests_of old.guests.items in
       let fits = lower_fits (state_of old) s g ty e in
       IsStore-counted old new
       (record {

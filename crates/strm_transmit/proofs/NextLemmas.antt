@@ -19,7 +19,7 @@ use Rattle.strm_machine.proofs.RefusalLemmas.{same_kind_is}
 use Rattle.strm_host_machine.specs.Does.{FitsWriter, FitsReader, Fits}
 use Rattle.strm_transmit.specs.Hosted.{FitsAt}
 use Rattle.strm_transmit.specs.Inside.{AreServed}
-use Rattle.strm_transmit.specs.Turning.{least_of, next_of, IsNextAmong, NextAmong, NextServed}
+use Rattle.strm_transmit.specs.Turning.{least_of, next_for_duty, IsNextAmong, NextAmong, NextServed}
 use Rattle.strm_transmit.proofs.ServedLemmas.{same_stream, not_unused, ended_no, duty_known}
 
 -- ## The next stream that is served
@@ -80,7 +80,7 @@ module _ (state : State) (from : ℕ) (looked more : Looked) (side : Side) (m : 
           let few : s ≤ t = grind (arith, nat_tests) in
           is_last s e b (λ k n u x d a. omega (arith, few, h.least k n u x d a))
 
-  next_more : (o : Option ℕ) → NextAmong state looked from o → NextAmong state more from (next_of duty from o)
+  next_more : (o : Option ℕ) → NextAmong state looked from o → NextAmong state more from (next_for_duty duty from o)
   next_more o h = by_duty duty refl
     where
       by_test : (s : ℕ) (b : Bool) → duty ≡ Serves s → nat_le from s ≡ b → NextAmong state more from (cond b (least_of s o) o)
@@ -92,7 +92,7 @@ module _ (state : State) (from : ℕ) (looked more : Looked) (side : Side) (m : 
           past : (a b : ℕ) → a < from → a ≡ b → from ≤ b → ⊥
           past a b l e f = omega (arith, l, e, f)
 
-      by_duty : (d : Duty) → duty ≡ d → NextAmong state more from (next_of d from o)
+      by_duty : (d : Duty) → duty ≡ d → NextAmong state more from (next_for_duty d from o)
       by_duty Unused e = kept_on o h (λ t d a. absurd (not_unused duty t e d))
       by_duty Ended e = kept_on o h (λ t d a. absurd (ended_no duty t e d))
       by_duty (Serves s) e = by_test s (nat_le from s) e refl
@@ -130,9 +130,9 @@ module _ (state : State) (from k : ℕ) where
   reader_more Reading n l = ⊎_elim (λ a. inl a) (λ e. inr (refl, e)) (below_more n l)
 
   -- both host ends of one number more
-  pub next_both : (o : Option ℕ) → NextAmong state (below k) from o → NextAmong state (below (k + 1)) from (next_of (duty_of Reading state k) from (next_of (duty_of Writing state k) from o))
+  pub next_both : (o : Option ℕ) → NextAmong state (below k) from o → NextAmong state (below (k + 1)) from (next_for_duty (duty_of Reading state k) from (next_for_duty (duty_of Writing state k) from o))
   next_both o h =
-      next_more state from (below_and_writer k) (below (k + 1)) Reading k reader_still reader_more (next_of (duty_of Writing state k) from o)
+      next_more state from (below_and_writer k) (below (k + 1)) Reading k reader_still reader_more (next_for_duty (duty_of Writing state k) from o)
       (next_more state from (below k) (below_and_writer k) Writing k writer_still writer_more o h)
 
 -- and all of them

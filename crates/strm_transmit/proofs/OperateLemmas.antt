@@ -21,8 +21,8 @@ use Rattle.strm_machine.proofs.Shapes.{operating, begun_on}
 use Rattle.strm_host_machine.specs.World.{World}
 use Rattle.strm_host_machine.specs.Steps.{operates_by, reads_from, writes_to, performs_in, outcome, may_poll, touches}
 use Rattle.strm_host_machine.specs.Does.{world_of, Fits, Does, Answered}
-use Rattle.strm_transmit.specs.Meets.{replied}
-use Rattle.strm_transmit.specs.Hosted.{answered, lone, MayBeDone, Leaves, IsHandedOver, IsStop, ErrsByRecord, MeetsHosted}
+use Rattle.strm_transmit.specs.Meets.{as_reply}
+use Rattle.strm_transmit.specs.Hosted.{call_answered, lone, MayBeDone, Leaves, IsHandedOver, IsStop, ErrsByRecord, MeetsHosted}
 use Rattle.strm_transmit.specs.Inside.{AreServed}
 use Rattle.strm_transmit.specs.Turning.{turn_for, polls_for}
 use Rattle.strm_transmit.specs.WantsMemory.{WantsInPoll, WantsIn, InAPoll, IfWanting}
@@ -34,7 +34,7 @@ use Rattle.strm_machine.specs.Reactions.{Reaction, goes, tells as tells_end, wit
 use Rattle.strm_machine.specs.declared.replies.Reply.TheVariants as replies
 use Rattle.strm_machine.specs.declared.stops.Stop.{Stop}
 use Rattle.strm_machine.specs.declared.stops.Stop.TheVariants as stops
-use Rattle.strm_host_machine.specs.Settling.{answered as answers_at}
+use Rattle.strm_host_machine.specs.Settling.{turn_answered as answers_at}
 use Rattle.strm_host_machine.proofs.FitsLemmas.{KeepsKind, Fits-stream}
 use Rattle.strm_host_machine.proofs.ReadLemmas.{Does-read, Does-read_stop}
 use Rattle.strm_host_machine.proofs.WriteLemmas.{Does-write, Does-write_stop}
@@ -69,13 +69,13 @@ module _ (old new : State) (tells told : Tells) (act : Act) (polls : may_poll (l
   leaves_stop StoreTrapped s t w = absurd s
   leaves_stop OutOfMemory s t w = rw polls (record { trapped = t; wants = w })
 
-  leaves_if : {T : Type 0} (f : T → Reply) (result : Result T StoreError) → Halts result new → WantsSo result → IfErr (replied f result) (Leaves act old new tells told)
+  leaves_if : {T : Type 0} (f : T → Reply) (result : Result T StoreError) → Halts result new → WantsSo result → IfErr (as_reply f result) (Leaves act old new tells told)
   leaves_if f (Ok v) h w = tt
   leaves_if f (Err error) h w = leaves_stop error h.stop h.trapped w
 
   -- it did what the machine does
   abbrev pub DidSo : Result Reply StoreError → Type 0
-  DidSo result = Does old new tells told (answered result) (λ w. outcome w act)
+  DidSo result = Does old new tells told (call_answered result) (λ w. outcome w act)
 
   -- a host end that failed, or broke its rules, says so by its last record
   by_last_record : AreServing old → Fits old tells → (result : Result Reply StoreError) → DidSo result → IfErr result (ErrsByRecord tells told)
@@ -87,11 +87,11 @@ module _ (old new : State) (tells told : Tells) (act : Act) (polls : may_poll (l
   by_last_record served fits (Err StoreTrapped) does = tt
   by_last_record served fits (Err OutOfMemory) does = tt
 
-  pub hosted_polled : {T : Type 0} (f : T → Reply) (result : Result T StoreError) → DidSo (replied f result) → MayBeDone old tells act → FitStill old new tells told → Halts result new → WantsSo result → MeetsHosted old new tells told (replied f result) act
+  pub hosted_polled : {T : Type 0} (f : T → Reply) (result : Result T StoreError) → DidSo (as_reply f result) → MayBeDone old tells act → FitStill old new tells told → Halts result new → WantsSo result → MeetsHosted old new tells told (as_reply f result) act
   hosted_polled f result does may fits halts wants = record {
     does = does;
     fits = fits.after;
-    by_record = by_last_record fits.served.serves fits.before (replied f result) does;
+    by_record = by_last_record fits.served.serves fits.before (as_reply f result) does;
     alone = λ u. absurd (true≢false (sym polls ∙ unpolled (lone old) act u));
     err = leaves_if f result halts wants;
     wanting = λ w. may;
@@ -104,7 +104,7 @@ cause_of (HostBroke end) = Some (stops.HostBroke end)
 cause_of (BadItem stream) = Some (stops.BadItem stream)
 cause_of _ = None
 
-pub stop_is : (error : StoreError) → IsStop error → answered (Err error) ≡ Err (cause_of error)
+pub stop_is : (error : StoreError) → IsStop error → call_answered (Err error) ≡ Err (cause_of error)
 stop_is (Refused r) s = absurd s
 stop_is (HostFailed end) s = refl
 stop_is (HostBroke end) s = refl
@@ -157,7 +157,7 @@ module _ (old mid new : State) (tells told : Tells) (s n : ℕ) (operation : Ope
   stops_with Reading stop turn = Does-read_stop old new tells told s n operation stop turn
   stops_with Writing stop turn = Does-write_stop old new tells told s n operation stop turn
 
-  pub turn-stops : (side : Side) → mid ≡ opened_on side old s operation → (error : StoreError) → IsStop error → DoesTurn side mid new (answered (Err error)) → DoesWhole side (answered (Err error))
+  pub turn-stops : (side : Side) → mid ≡ opened_on side old s operation → (error : StoreError) → IsStop error → DoesTurn side mid new (call_answered (Err error)) → DoesWhole side (call_answered (Err error))
   turn-stops side e error stop turn =
       let same = stop_is error stop in
       subst (DoesWhole side) (sym same)
@@ -233,10 +233,10 @@ module _ (old new : State) (tells told : Tells) (side : Side) (end : NamedEnd) (
   abbrev pub WantsTurn : {T : Type 0} → Result T StoreError → Type 0
   WantsTurn result = IfErr result (λ error. IfWanting error (WantsInPoll old tells told (polls_for side s n operation)))
 
-  pub hosted_across : {T : Type 0} (f : T → Reply) (result : Result T StoreError) → Does old new tells told (answered (replied f result)) (polls_for side s n operation) → FitStill old new tells told → Halts result new → WantsTurn result → MeetsHosted old new tells told (replied f result) act
+  pub hosted_across : {T : Type 0} (f : T → Reply) (result : Result T StoreError) → Does old new tells told (call_answered (as_reply f result)) (polls_for side s n operation) → FitStill old new tells told → Halts result new → WantsTurn result → MeetsHosted old new tells told (as_reply f result) act
   hosted_across f result does fits halts wants =
       hosted_polled old new tells told act across f result
-      (does_admitted old new tells told act (answered (replied f result)) (polls_for side s n operation) may polls does) may fits halts
+      (does_admitted old new tells told act (call_answered (as_reply f result)) (polls_for side s n operation) may polls does) may fits halts
       (wanting_result result wants_across wants)
 
 -- items that the writer holds are those that are held for the read
@@ -254,7 +254,7 @@ ok_wants_none (Err error) k = cc k
 
 -- ## A read or write with no host end across
 
-pub settled_code : (result : Result ReturnCode StoreError) → Settles (replied replies.Code result)
+pub settled_code : (result : Result ReturnCode StoreError) → Settles (as_reply replies.Code result)
 settled_code (Ok code) = refl
 settled_code (Err error) = tt
 

@@ -14,7 +14,7 @@ use Rattle.strm_codes.specs.declared.codes.TransmitKind.TheVariants as kinds
 use Rattle.strm_codes.specs.declared.payloads.Payload.{Payload}
 use Rattle.strm_codes.specs.declared.refusals.Refusal.TheVariants as refusals
 use Rattle.strm_buffers.specs.Listing.{Item}
-use Rattle.strm_buffers.specs.Tells.{WriterTells, Tells, told_by, with_told, told_by_reader, closed_reader as closed_tells}
+use Rattle.strm_buffers.specs.Tells.{WriterTells, Tells, told_by, with_told, told_by_reader, reader_tells_closed as closed_tells}
 use Rattle.strm_machine.specs.State.{State, no_stream, no_consumer, producer_at, consumer_at, stream_at, is_live, is_held, is_host, is_loose}
 use Rattle.strm_machine.specs.Hosting.{duty_among}
 use Rattle.strm_machine.specs.Moves.{with_owner}
@@ -39,7 +39,7 @@ use Rattle.strm_machine.proofs.RefusalLemmas.{same_kind_is}
 use Rattle.strm_machine.proofs.SideLemmas.{StreamKeeps, with_end-keeps}
 use Rattle.strm_machine.proofs.SoundLemmas.{IsSound-set}
 use Rattle.strm_machine.proofs.TurnLemmas.{all_kept}
-use Rattle.strm_channels.specs.Guests.{seen}
+use Rattle.strm_channels.specs.Guests.{guests_of}
 use Rattle.strm_host_machine.specs.World.{World}
 use Rattle.strm_host_machine.specs.Attaching.{withdrawn, piped, has_items, is_dry, without_ends, pipes}
 use Rattle.strm_host_machine.specs.HostRefusals.{is_unknown_host, is_used}
@@ -373,7 +373,7 @@ pub record HandsTo (old new : Inside) (s r : ℕ) (c : Consumer) : Type 0 where
   pub same_kept : new.kept ≡ old.kept
   pub consumers : new.consumers ≡ set old.consumers r c
   pub loose : is_loose (stream_at (state_of old) s).reader.owner ≡ true
-  pub retold : Retells (seen new.guests.items) (with_owner Reading (stream_at (state_of old) s) (Host r)) old.ready.items new.ready.items
+  pub retold : Retells (guests_of new.guests.items) (with_owner Reading (stream_at (state_of old) s) (Host r)) old.ready.items new.ready.items
 
 module _ (old new : Inside) (s r : ℕ) (c : Consumer) (h : HandsTo old new s r c) (i : IsStore old) where
   abbrev given : Stream
@@ -400,13 +400,13 @@ module _ (old new : Inside) (s r : ℕ) (c : Consumer) (h : HandsTo old new s r 
   sound : IsSound (state_of new)
   sound =
       let stream = IsSound-set (state_of old) s Reading (record (end_of Reading (stream_at (state_of old) s)) { owner = Host r }) h.made (Unchanged refl) i.sound in
-      IsSound-same (record (state_of old) { streams = set old.streams.items s given }) (state_of new) (ap (λ (g : _). seen g.items) h.guests) h.streams h.contexts stream
+      IsSound-same (record (state_of old) { streams = set old.streams.items s given }) (state_of new) (ap (λ (g : _). guests_of g.items) h.guests) h.streams h.contexts stream
 
   agrees : Agrees new
   agrees =
-      let guests = seen old.guests.items in
+      let guests = guests_of old.guests.items in
       let more = set old.streams.items s given in
-      let same : seen new.guests.items ≡ guests = ap (λ (g : _). seen g.items) h.guests in
+      let same : guests_of new.guests.items ≡ guests = ap (λ (g : _). guests_of g.items) h.guests in
       let held : IsHeld guests more = IsHeld-set guests old.streams.items s given h.made owners i.held in
       let retold : Retells guests given old.ready.items new.ready.items = subst (λ (x : _). Retells x given old.ready.items new.ready.items) same h.retold in
       record {
@@ -427,6 +427,6 @@ module _ (old new : Inside) (s r : ℕ) (c : Consumer) (h : HandsTo old new s r 
   pub IsStore-handed : IsStore new
   IsStore-handed =
       IsStore-counted old new
-      (kept_tables old new (record { limits = h.limits; counter = h.counter; live_sets = h.live_sets; bytes = h.bytes; guests = rw h.guests (all_kept (seen old.guests.items)) }) i)
+      (kept_tables old new (record { limits = h.limits; counter = h.counter; live_sets = h.live_sets; bytes = h.bytes; guests = rw h.guests (all_kept (guests_of old.guests.items)) }) i)
       (record { live = h.counted; served = served; kept = places; few = rw (h.streams, length-set old.streams.items s given) i.few_streams })
       sound agrees i

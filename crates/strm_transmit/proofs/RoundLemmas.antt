@@ -6,7 +6,7 @@ use Rattle.std.proofs.lemmas.List.{length-set, get_or-set_same, set-get_or}
 use Rattle.strm_codes.specs.declared.codes.TransmitKind.{TransmitKind}
 use Rattle.strm_buffers.specs.declared.answers.Answer.{Answer}
 use Rattle.strm_buffers.specs.Listing.{Item}
-use Rattle.strm_buffers.specs.Tells.{WriterTells, ReaderTells, Tells, no_reader_tells, told_by, with_told, told_by_reader, with_told_reader, given, KeepsReader, closed_reader as closed_tells}
+use Rattle.strm_buffers.specs.Tells.{WriterTells, ReaderTells, Tells, no_reader_tells, told_by, with_told, told_by_reader, with_told_reader, writer_given, KeepsReader, reader_tells_closed as closed_tells}
 use Rattle.strm_machine.specs.State.{State, no_producer, no_stream, producer_at, kept_at, consumer_at, stream_at}
 use Rattle.strm_machine.specs.Reactions.{with_stream_at}
 use Rattle.strm_machine.specs.Sides.{end_of}
@@ -32,25 +32,25 @@ use Rattle.strm_host_machine.proofs.SettleLemmas.{AreBothLeft}
 use Rattle.strm_host_machine.proofs.PipeLemmas.{gathered_in, IsFetched, Does-fetches_none, Does-fetches, Does-fetches_failed, Does-fetches_broke, IsOffered, offered_tells, passed_in, Does-round, Does-round_stop}
 use Rattle.strm_host_machine.proofs.PipeRoundLemmas.{Does-offers_none, Does-offers, Does-offers_failed, Does-offers_bad, Does-offers_broke, Does-ends_not, Does-ends}
 use Rattle.strm_host_turns.specs.Piping.{Fetching, Fetches, Offering, offering, Ungathered, Unoffered, OfferWants, Offers}
-use Rattle.strm_host_turns.specs.declared.taking.TakeError.{TakeError}
-use Rattle.strm_host_turns.specs.declared.taking.TakeError.TheVariants as takes
-use Rattle.strm_host_turns.specs.declared.turns.TurnError.{TurnError}
-use Rattle.strm_host_turns.specs.declared.turns.TurnError.TheVariants.{Failed, OutOfMemory, Broke}
+use Rattle.strm_host_turns.specs.declared.reader_turns.ReaderStops.{ReaderStops}
+use Rattle.strm_host_turns.specs.declared.reader_turns.ReaderStops.TheVariants as reader_stops
+use Rattle.strm_host_turns.specs.declared.writer_turns.WriterStops.{WriterStops}
+use Rattle.strm_host_turns.specs.declared.writer_turns.WriterStops.TheVariants.{Failed, OutOfMemory, Broke}
 use Rattle.strm_host_turns.proofs.StepLemmas.{stop_of}
-use Rattle.strm_transmit.specs.Hosted.{answered, IsStop}
+use Rattle.strm_transmit.specs.Hosted.{call_answered, IsStop}
 use Rattle.strm_transmit.specs.Inside.{AreServed}
 use Rattle.strm_transmit.specs.Piping.{unread_in, reader_closed, WriterEnds, EndsPipe}
 use Rattle.strm_transmit.specs.Rounds.{ends_by, IsPipe, held_on, fetch_due, offer_due, end_due, FetchesStream, OffersStream, offer_part}
-use Rattle.strm_transmit.specs.Turning.{stops_by, stops_taking}
+use Rattle.strm_transmit.specs.Turning.{stop_of_writer, stop_of_reader}
 use Rattle.strm_transmit.proofs.FitsLemmas.{KeepsType, keeps-closed, KeepsReaderType, Fits-told, Fits-told_reader, Fits-producer, Fits-consumer, Fits-ended, Fits-reader_ended, though_trapped, IsReading, serving, reading}
 use Rattle.strm_transmit.proofs.HostStepLemmas.{Does-after, Fits-after}
 use Rattle.strm_transmit.specs.declared.errors.StoreError.{StoreError}
 use Rattle.strm_transmit.proofs.OperateLemmas.{cause_of as stop_cause, stop_is}
-use Rattle.strm_transmit.proofs.ProduceLemmas.{stop-is}
-use Rattle.strm_transmit.proofs.TakeLemmas.{cause_of, cause-is}
+use Rattle.strm_transmit.proofs.WriterTurnLemmas.{stop-is}
+use Rattle.strm_transmit.proofs.ReaderTurnLemmas.{cause_of, cause-is}
 use Rattle.strm_transmit.specs.WantsMemory.{writer_failed, reader_failed, FailsOnce, WantsInPoll, WantsAt, InPoll, BeforeOffer, WantsInOffer, Polled, Unpolled, IfWanting}
 use Rattle.strm_transmit.proofs.WantsLemmas.{set_again, none_from, none_to, fails_polled, fails_offered, fails_writer, fails_reader}
-use Rattle.strm_host_machine.proofs.TurnLemmas.{told-same}
+use Rattle.strm_host_machine.proofs.WriterTurnLemmas.{told-same}
 use Rattle.strm_machine.specs.declared.stops.Stop.TheVariants.{HostFailed}
 use Rattle.strm_machine.specs.declared.streams.HostEnd.TheVariants as ends
 
@@ -59,7 +59,7 @@ other_kept : (state : State) (kept : List (List Item)) (tells : Tells) → Fits 
 other_kept state kept tells fits = record { writers = fits.writers; readers = fits.readers }
 
 -- a fetch keeps the duty
-pub fetches_duty : (result : Result (Unit {0}) TurnError) (kind : TransmitKind) (old new : Fetching) → Fetches result kind old new → new.producer.duty ≡ old.producer.duty
+pub fetches_duty : (result : Result (Unit {0}) WriterStops) (kind : TransmitKind) (old new : Fetching) → Fetches result kind old new → new.producer.duty ≡ old.producer.duty
 fetches_duty (Ok v) kind old new f = ap (λ (x : Fetching). x.producer.duty) f.1.after
 fetches_duty (Err Failed) kind old new f = ap (λ (x : Fetching). x.producer.duty) f.1.after
 fetches_duty (Err Broke) kind old new f = ap (λ (x : Fetching). x.producer.duty) f.1.after
@@ -93,7 +93,7 @@ same_stream old new e f = record {
   duty = ap (λ (x : Consumer). x.duty) f;
 }
 
-pub offers_keep : (result : Result Answer TakeError) (old new : Offering) → Offers result old new → KeepsStream old new
+pub offers_keep : (result : Result Answer ReaderStops) (old new : Offering) → Offers result old new → KeepsStream old new
 offers_keep (Ok answer) old new f =
     let taken = f.0.taken in
     record {
@@ -102,10 +102,10 @@ offers_keep (Ok answer) old new f =
       ends = λ side. ap (λ (x : Offering). end_of side x.stream) f.1.after ∙ received-ends side (taken == 0) old.stream taken;
       duty = ap (λ (x : Offering). x.consumer.duty) f.1.after;
     }
-offers_keep (Err takes.Failed) old new f = same_stream old new (ap (λ (x : Offering). x.stream) f.1.after) (ap (λ (x : Offering). x.consumer) f.1.after)
-offers_keep (Err takes.BadItem) old new f = same_stream old new (ap (λ (x : Offering). x.stream) f.1.after) (ap (λ (x : Offering). x.consumer) f.1.after)
-offers_keep (Err takes.Broke) old new f = same_stream old new (ap (λ (x : Offering). x.stream) f.1.after) (ap (λ (x : Offering). x.consumer) f.1.after)
-offers_keep (Err takes.OutOfMemory) old new f = same_stream old new f.stream f.consumer
+offers_keep (Err reader_stops.Failed) old new f = same_stream old new (ap (λ (x : Offering). x.stream) f.1.after) (ap (λ (x : Offering). x.consumer) f.1.after)
+offers_keep (Err reader_stops.BadItem) old new f = same_stream old new (ap (λ (x : Offering). x.stream) f.1.after) (ap (λ (x : Offering). x.consumer) f.1.after)
+offers_keep (Err reader_stops.Broke) old new f = same_stream old new (ap (λ (x : Offering). x.stream) f.1.after) (ap (λ (x : Offering). x.consumer) f.1.after)
+offers_keep (Err reader_stops.OutOfMemory) old new f = same_stream old new f.stream f.consumer
 
 -- what an offer for which memory was wanting keeps of what its ends tell
 pub record SaysNothing (old new : Offering) : Type 0 where
@@ -201,13 +201,13 @@ module _ (old : State) (tells : Tells) (s n r : ℕ) (h : Rounds old tells s n r
   fetch-none e = Does-fetches_none old tells n s is_serving r e
 
   -- the types that a fetch keeps
-  fetch_type : (mid : State) (told : Tells) (result : Result (Unit {0}) TurnError) (t : FetchesStream old mid tells told s n result) → KeepsType (told_by tells n) t.after.tells
+  fetch_type : (mid : State) (told : Tells) (result : Result (Unit {0}) WriterStops) (t : FetchesStream old mid tells told s n result) → KeepsType (told_by tells n) t.after.tells
   fetch_type mid told (Ok v) t = record { kind = t.fetches.1.polled.polls.kind; payload = t.fetches.1.polled.polls.payload }
   fetch_type mid told (Err Failed) t = record { kind = t.fetches.1.polled.polls.kind; payload = t.fetches.1.polled.polls.payload }
   fetch_type mid told (Err Broke) t = record { kind = t.fetches.1.polled.polls.kind; payload = t.fetches.1.polled.polls.payload }
   fetch_type mid told (Err OutOfMemory) t = record { kind = t.fetches.tells.kind; payload = t.fetches.tells.payload }
 
-  module _ (mid : State) (told : Tells) (result : Result (Unit {0}) TurnError) (t : FetchesStream old mid tells told s n result) where
+  module _ (mid : State) (told : Tells) (result : Result (Unit {0}) WriterStops) (t : FetchesStream old mid tells told s n result) where
     streams_same : mid.streams ≡ old.streams
     streams_same = ap (λ (x : State). x.streams) t.state
 
@@ -243,7 +243,7 @@ module _ (old : State) (tells : Tells) (s n r : ℕ) (h : Rounds old tells s n r
     producers_then after e m =
         ap (λ (x : State). x.producers) is ∙ ap (λ (x : State). x.producers) m ∙ ap (set old.producers n) e ∙ set-get_or old.producers n no_producer
 
-    fetch_stops : (e : TurnError) → FetchesStream old mid tells told s n (Err e) → Does old new tells told (stop_of e n) (λ w. fetches w s n r)
+    fetch_stops : (e : WriterStops) → FetchesStream old mid tells told s n (Err e) → Does old new tells told (stop_of e n) (λ w. fetches w s n r)
     fetch_stops Failed t =
         let f = t.fetches in
         Does-after refl t.ends
@@ -259,14 +259,14 @@ module _ (old : State) (tells : Tells) (s n r : ℕ) (h : Rounds old tells s n r
         (Does-follows old new tells (with_told tells n t.after.tells) (Err None) (λ w. fetches w s n r)
         (follows-told tells n t.after.tells is_serving.there (grows-kept (told_by tells n) t.after.tells t.fetches.tells)) (λ logs x. tt) tt)
 
-    pub fetch-stops : (e : TurnError) → FetchesStream old mid tells told s n (Err e) → Does old new tells told (answered (Err (stops_by e n))) (λ w. fetches w s n r)
+    pub fetch-stops : (e : WriterStops) → FetchesStream old mid tells told s n (Err e) → Does old new tells told (call_answered (Err (stop_of_writer e n))) (λ w. fetches w s n r)
     fetch-stops e t = subst (λ (x : Answered). Does old new tells told x (λ w. fetches w s n r)) (stop-is e n) (fetch_stops e t)
 
-    pub fetch_stops-pipe : (e : TurnError) → FetchesStream old mid tells told s n (Err e) → IsPipe new told s n r
+    pub fetch_stops-pipe : (e : WriterStops) → FetchesStream old mid tells told s n (Err e) → IsPipe new told s n r
     fetch_stops-pipe e t = subst (λ (x : State). IsPipe x told s n r) (sym is) (trapped_pipe mid told s n r (fetched-pipe mid told (Err e) t))
 
     -- where memory was wanting
-    pub fetch-wants : (e : TurnError) → FetchesStream old mid tells told s n (Err e) → IfWanting (stops_by e n) (WantsInPoll old tells told (λ w. fetches w s n r))
+    pub fetch-wants : (e : WriterStops) → FetchesStream old mid tells told s n (Err e) → IfWanting (stop_of_writer e n) (WantsInPoll old tells told (λ w. fetches w s n r))
     fetch-wants Failed t = tt
     fetch-wants Broke t = tt
     fetch-wants OutOfMemory t =
@@ -281,7 +281,7 @@ module _ (old : State) (tells : Tells) (s n r : ℕ) (h : Rounds old tells s n r
           does = Does-fetches_failed old tells n s r said more polled old refl refl;
         }
 
-    pub fetch_stops-length : (e : TurnError) → FetchesStream old mid tells told s n (Err e) → length new.streams ≡ length old.streams
+    pub fetch_stops-length : (e : WriterStops) → FetchesStream old mid tells told s n (Err e) → length new.streams ≡ length old.streams
     fetch_stops-length e t = ap (λ (x : State). length x.streams) is ∙ fetched-length mid told (Err e) t
 
   -- ## Offering
@@ -295,27 +295,27 @@ module _ (old : State) (tells : Tells) (s n r : ℕ) (h : Rounds old tells s n r
     pub writer : KeepsType (told_by tells n) after.writer
     pub reader : KeepsReaderType (told_by_reader tells r) after.reader
 
-  given_keeps : (after : Offering) → after.writer ≡ given (told_by tells n) None → KeepsType (told_by tells n) after.writer
+  given_keeps : (after : Offering) → after.writer ≡ writer_given (told_by tells n) None → KeepsType (told_by tells n) after.writer
   given_keeps after e = record { kind = ap (λ (x : WriterTells). x.kind) e; payload = ap (λ (x : WriterTells). x.payload) e }
 
-  offer_type : (mid : State) (told : Tells) (result : Result Answer TakeError) (t : OffersStream old mid tells told s n r result) → OfferType t.after
+  offer_type : (mid : State) (told : Tells) (result : Result Answer ReaderStops) (t : OffersStream old mid tells told s n r result) → OfferType t.after
   offer_type mid told (Ok answer) t =
       let k = t.offers.1 in
       record { writer = given_keeps t.after (ap (λ (x : Offering). x.writer) k.after); reader = record { kind = k.polled.polls.kind; payload = k.polled.polls.payload } }
-  offer_type mid told (Err takes.Failed) t =
+  offer_type mid told (Err reader_stops.Failed) t =
       let k = t.offers.1 in
       record { writer = given_keeps t.after (ap (λ (x : Offering). x.writer) k.after); reader = record { kind = k.polled.polls.kind; payload = k.polled.polls.payload } }
-  offer_type mid told (Err takes.BadItem) t =
+  offer_type mid told (Err reader_stops.BadItem) t =
       let k = t.offers.1 in
       record { writer = given_keeps t.after (ap (λ (x : Offering). x.writer) k.after); reader = record { kind = k.polled.polls.kind; payload = k.polled.polls.payload } }
-  offer_type mid told (Err takes.Broke) t =
+  offer_type mid told (Err reader_stops.Broke) t =
       let k = t.offers.1 in
       record { writer = given_keeps t.after (ap (λ (x : Offering). x.writer) k.after); reader = record { kind = k.polled.polls.kind; payload = k.polled.polls.payload } }
-  offer_type mid told (Err takes.OutOfMemory) t =
+  offer_type mid told (Err reader_stops.OutOfMemory) t =
       let k = says_nothing _ t.after t.offers in
       record { writer = record { kind = k.kind; payload = k.payload }; reader = record { kind = k.reader.kind; payload = k.reader.payload } }
 
-  module _ (mid : State) (told : Tells) (result : Result Answer TakeError) (t : OffersStream old mid tells told s n r result) where
+  module _ (mid : State) (told : Tells) (result : Result Answer ReaderStops) (t : OffersStream old mid tells told s n r result) where
     here : stream_at mid s ≡ t.after.stream
     here = ap (λ (x : State). stream_at x s) t.state ∙ get_or-set_same old.streams s t.after.stream no_stream h.pipe.made
 
@@ -370,29 +370,29 @@ module _ (old : State) (tells : Tells) (s n r : ℕ) (h : Rounds old tells s n r
 
   -- one that stops, and the store is trapped
   module _ (mid new : State) (told : Tells) (due : offer_due old tells n r ≡ true) (is : new ≡ record mid { trapped = true }) where
-    same_producers : {result : Result Answer TakeError} → OffersStream old mid tells told s n r result → new.producers ≡ set old.producers n given_none
+    same_producers : {result : Result Answer ReaderStops} → OffersStream old mid tells told s n r result → new.producers ≡ set old.producers n given_none
     same_producers t = ap (λ (x : State). x.producers) is ∙ ap (λ (x : State). x.producers) t.state
 
-    ends_then : (after : Offering) → after.writer ≡ given (told_by tells n) None → told ≡ with_told_reader (with_told tells n after.writer) r after.reader → told ≡ with_told_reader (with_told tells n (given (told_by tells n) None)) r after.reader
+    ends_then : (after : Offering) → after.writer ≡ writer_given (told_by tells n) None → told ≡ with_told_reader (with_told tells n after.writer) r after.reader → told ≡ with_told_reader (with_told tells n (writer_given (told_by tells n) None)) r after.reader
     ends_then after e m = m ∙ ap (λ x. with_told_reader (with_told tells n x) r after.reader) e
 
-    offer_stops : (e : TakeError) → OffersStream old mid tells told s n r (Err e) → Does old new tells told (cause_of e r s) (offer_part s n r)
-    offer_stops takes.Failed t =
+    offer_stops : (e : ReaderStops) → OffersStream old mid tells told s n r (Err e) → Does old new tells told (cause_of e r s) (offer_part s n r)
+    offer_stops reader_stops.Failed t =
         let k = t.offers.1 in
         Does-after refl (ends_then t.after (ap (λ (x : Offering). x.writer) k.after) t.ends)
         (Does-offers_failed old tells n s r t.offers.0 t.after.reader (record { serving = is_serving; offers = due; there = is_reading.there; polls = k.polled.polls; offered = k.polled.offered; since = k.polled.after; finish = k.polled.finish; good = k.polled.good })
         new k.failed (same_producers t))
-    offer_stops takes.BadItem t =
+    offer_stops reader_stops.BadItem t =
         let k = t.offers.1 in
         Does-after refl (ends_then t.after (ap (λ (x : Offering). x.writer) k.after) t.ends)
         (Does-offers_bad old tells n s r t.offers.0 t.after.reader (record { serving = is_serving; offers = due; there = is_reading.there; polls = k.polled.polls; offered = k.polled.offered; since = k.polled.after; finish = k.polled.finish; good = k.polled.good })
         new k.failed k.bad (same_producers t))
-    offer_stops takes.Broke t =
+    offer_stops reader_stops.Broke t =
         let k = t.offers.1 in
         Does-after refl (ends_then t.after (ap (λ (x : Offering). x.writer) k.after) t.ends)
         (Does-offers_broke old tells n s r t.offers.0 t.after.reader (record { serving = is_serving; offers = due; there = is_reading.there; polls = k.polled.polls; offered = k.polled.offered; since = k.polled.after; finish = k.polled.finish; good = k.polled.good })
         new k.failed k.good k.broke (same_producers t))
-    offer_stops takes.OutOfMemory t =
+    offer_stops reader_stops.OutOfMemory t =
         let k = says_nothing _ t.after t.offers in
         let given_up = with_told tells n t.after.writer in
         Does-after refl t.ends
@@ -402,10 +402,10 @@ module _ (old : State) (tells : Tells) (s n r : ℕ) (h : Rounds old tells s n r
         (follows-told_reader given_up r t.after.reader is_reading.there (grows-same_reader (told_by_reader tells r) t.after.reader k.reader.said k.reader.faults)))
         (λ logs x. tt) tt)
 
-    pub offer-stops : (e : TakeError) → OffersStream old mid tells told s n r (Err e) → Does old new tells told (answered (Err (stops_taking e r s))) (offer_part s n r)
+    pub offer-stops : (e : ReaderStops) → OffersStream old mid tells told s n r (Err e) → Does old new tells told (call_answered (Err (stop_of_reader e r s))) (offer_part s n r)
     offer-stops e t = subst (λ (x : Answered). Does old new tells told x (offer_part s n r)) (cause-is e r s) (offer_stops e t)
 
-    pub offer_stops-fits : (e : TakeError) → OffersStream old mid tells told s n r (Err e) → Fits new told
+    pub offer_stops-fits : (e : ReaderStops) → OffersStream old mid tells told s n r (Err e) → Fits new told
     offer_stops-fits e t = subst (λ (x : State). Fits x told) (sym is) (though_trapped mid told (offered-pipe mid told (Err e) t).fits)
 
     -- what the offer began with
@@ -434,7 +434,7 @@ module _ (old : State) (tells : Tells) (s n r : ℕ) (h : Rounds old tells s n r
         let since = (consumer_at old r).since in
         let said = none_to offered since false in
         let more = reader_failed after.reader said in
-        let gave = with_told tells n (given (told_by tells n) None) in
+        let gave = with_told tells n (writer_given (told_by tells n) None) in
         let o : IsOffered old tells n s r said more = record {
           serving = is_serving;
           offers = due;
@@ -458,13 +458,13 @@ module _ (old : State) (tells : Tells) (s n r : ℕ) (h : Rounds old tells s n r
     offer_wants after e (inr u) = polled after e u
 
     -- where memory was wanting
-    pub offer-wants : (e : TakeError) → OffersStream old mid tells told s n r (Err e) → IfWanting (stops_taking e r s) (WantsInOffer n old tells told (offer_part s n r))
-    offer-wants takes.Failed t = tt
-    offer-wants takes.BadItem t = tt
-    offer-wants takes.Broke t = tt
-    offer-wants takes.OutOfMemory t = offer_wants t.after t.ends t.offers.ends
+    pub offer-wants : (e : ReaderStops) → OffersStream old mid tells told s n r (Err e) → IfWanting (stop_of_reader e r s) (WantsInOffer n old tells told (offer_part s n r))
+    offer-wants reader_stops.Failed t = tt
+    offer-wants reader_stops.BadItem t = tt
+    offer-wants reader_stops.Broke t = tt
+    offer-wants reader_stops.OutOfMemory t = offer_wants t.after t.ends t.offers.ends
 
-    pub offer_stops-length : (e : TakeError) → OffersStream old mid tells told s n r (Err e) → length new.streams ≡ length old.streams
+    pub offer_stops-length : (e : ReaderStops) → OffersStream old mid tells told s n r (Err e) → length new.streams ≡ length old.streams
     offer_stops-length e t = ap (λ (x : State). length x.streams) is ∙ offered-length mid told (Err e) t
 
   -- ## Ending
@@ -517,8 +517,8 @@ module _ (old : State) (tells : Tells) (s n r : ℕ) (h : Rounds old tells s n r
 -- ## The round
 
 -- a fetch that stops, stops it
-pub round-stops : (old new : State) (tells told : Tells) (s n r : ℕ) (error : StoreError) → IsStop error → Does old new tells told (answered (Err error)) (λ w. fetches w s n r)
-    → Does old new tells told (answered (Err error)) (λ w. pipe_round w s n r)
+pub round-stops : (old new : State) (tells told : Tells) (s n r : ℕ) (error : StoreError) → IsStop error → Does old new tells told (call_answered (Err error)) (λ w. fetches w s n r)
+    → Does old new tells told (call_answered (Err error)) (λ w. pipe_round w s n r)
 round-stops old new tells told s n r error stop d =
     let same = stop_is error stop in
     subst (λ (x : Answered). Does old new tells told x (λ w. pipe_round w s n r)) (sym same)

@@ -23,16 +23,16 @@ use Rattle.strm_machine.specs.declared.streams.Stream.{Stream}
 use Rattle.strm_machine.proofs.SoundLemmas.{type_of-same, IsSound-stream, placed_at}
 use Rattle.strm_machine.proofs.TableLemmas.{set-keeps}
 use Rattle.strm_machine.proofs.TurnLemmas.{all_kept}
-use Rattle.strm_channels.specs.Guests.{seen}
+use Rattle.strm_channels.specs.Guests.{guests_of}
 use Rattle.strm_host_machine.specs.Attaching.{has_items}
 use Rattle.strm_host_machine.specs.Does.{FitsWriter, FitsReader}
 use Rattle.strm_host_turns.specs.Piping.{fetching, Fetches, offering, Offers}
-use Rattle.strm_host_turns.specs.declared.taking.TakeError.{TakeError}
-use Rattle.strm_host_turns.specs.declared.turns.TurnError.{TurnError}
-use Rattle.strm_transmit.specs.Inside.{state_of, padded, nothing_kept, HasPlace, AreServed, HavePlaces, IsStore}
+use Rattle.strm_host_turns.specs.declared.reader_turns.ReaderStops.{ReaderStops}
+use Rattle.strm_host_turns.specs.declared.writer_turns.WriterStops.{WriterStops}
+use Rattle.strm_transmit.specs.Inside.{state_of, padded_items, nothing_kept, HasPlace, AreServed, HavePlaces, IsStore}
 use Rattle.strm_transmit.specs.Rounds.{IsPipe, FetchesStream, OffersStream}
 use Rattle.strm_transmit.specs.declared.store.Store.TheInside.{Inside}
-use Rattle.strm_transmit.proofs.KeptLemmas.{padded-at, padded-set, have_set, have_items}
+use Rattle.strm_transmit.proofs.KeptLemmas.{padded_items-at, padded_items-set, have_set, have_items}
 use Rattle.strm_transmit.proofs.SceneStoreLemmas.{number_kept, serving_fits, reader_kept, reading_fits}
 use Rattle.strm_transmit.proofs.ServedLemmas.{ComesNoHost, same_owners, not_unused, AreServed-set}
 use Rattle.strm_transmit.proofs.StoreLemmas.{live_weight, live_sum, CountsTables, kept_tables, Agrees, agrees_still, IsStore-counted, IsSound-same}
@@ -54,14 +54,14 @@ entry_type kept n x l e = ap (λ (k : TypedItems). k.payload) (entry_at kept n x
 
 -- a place is emptied
 pub given_up : (inside : Inside) (state : State) (n : ℕ) (x y : TypedItems) → state_of inside ≡ state → n < length inside.kept.items → y.items ≡ drop (length x.items) x.items
-    → record (state_of inside) { kept = padded (set inside.kept.items n y) } ≡ record state { kept = set state.kept n [] }
+    → record (state_of inside) { kept = padded_items (set inside.kept.items n y) } ≡ record state { kept = set state.kept n [] }
 given_up inside state n x y e l d =
-    ap (λ ks. record (state_of inside) { kept = ks }) (padded-set inside.kept.items n y l ∙ ap (set (padded inside.kept.items) n) (d ∙ drop-length x.items))
+    ap (λ ks. record (state_of inside) { kept = ks }) (padded_items-set inside.kept.items n y l ∙ ap (set (padded_items inside.kept.items) n) (d ∙ drop-length x.items))
     ∙ ap (λ (v : State). record v { kept = set v.kept n [] }) e
 
 -- what comes of a fetch
 abbrev pub Fetched : Type 0
-Fetched = Result (Unit {0}) TurnError
+Fetched = Result (Unit {0}) WriterStops
 
 -- ## A pipe of a store
 
@@ -94,7 +94,7 @@ module _ (inside : Inside) (state : State) (tells : Tells) (s n r : ℕ) (e : st
     entry = entry_at inside.kept.items n x place.there is
 
     pub entry_items : x.items ≡ kept_at state n
-    entry_items = ap (λ (k : TypedItems). k.items) entry ∙ sym (padded-at inside.kept.items n) ∙ ap (λ (v : State). kept_at v n) e
+    entry_items = ap (λ (k : TypedItems). k.items) entry ∙ sym (padded_items-at inside.kept.items n) ∙ ap (λ (v : State). kept_at v n) e
 
     pub entry_payload : x.payload ≡ (stream_at state s).payload
     entry_payload = ap (λ (k : TypedItems). k.payload) entry ∙ place.type
@@ -119,7 +119,7 @@ module _ (inside : Inside) (state : State) (tells : Tells) (s n r : ℕ) (e : st
 
     -- the state that it left
     abbrev pub fetch_left : FetchLeft → State
-    fetch_left left = record (state_of inside) { producers = set inside.producers n left.producer; kept = padded (set inside.kept.items n left.items) }
+    fetch_left left = record (state_of inside) { producers = set inside.producers n left.producer; kept = padded_items (set inside.kept.items n left.items) }
 
     pub fetches_in : (kind : TransmitKind) → kind ≡ (stream_at state s).kind → (result : Fetched) (left : FetchLeft) → FetchedFrom kind result left
         → (new : State) → new ≡ fetch_left left → (told : Tells) → told ≡ with_told tells n left.writer → FetchesStream state new tells told s n result
@@ -133,7 +133,7 @@ module _ (inside : Inside) (state : State) (tells : Tells) (s n r : ℕ) (e : st
               (subst (λ a. Fetches result a (fetching (producer_at (state_of inside) n) (kept_at state n) (told_by tells n)) (fetching q y.items w)) k
               (subst (λ xs. Fetches result kind (fetching (producer_at (state_of inside) n) xs (told_by tells n)) (fetching q y.items w)) (entry_items x is) f));
           state = m
-              ∙ ap (λ ks. record (state_of inside) { producers = set inside.producers n q; kept = ks }) (padded-set inside.kept.items n y place.there)
+              ∙ ap (λ ks. record (state_of inside) { producers = set inside.producers n q; kept = ks }) (padded_items-set inside.kept.items n y place.there)
               ∙ ap (λ (v : State). record v { producers = set v.producers n q; kept = set v.kept n y.items }) e;
           ends = t;
         }
@@ -147,7 +147,7 @@ module _ (inside : Inside) (state : State) (tells : Tells) (s n r : ℕ) (e : st
       pub reader : ReaderTells
 
     -- what it did to what it touches
-    abbrev pub OfferedFrom : Stream → Result Answer TakeError → OfferLeft → Type 0
+    abbrev pub OfferedFrom : Stream → Result Answer ReaderStops → OfferLeft → Type 0
     OfferedFrom v result left =
         Offers result (offering v (consumer_at (state_of inside) r) x.items (told_by tells n) (told_by_reader tells r))
         (offering left.stream left.consumer left.items.items left.writer left.reader)
@@ -157,7 +157,7 @@ module _ (inside : Inside) (state : State) (tells : Tells) (s n r : ℕ) (e : st
     offer_left left = record (state_of inside) {
       streams = set inside.streams.items s left.stream;
       producers = set inside.producers n (record (producer_at (state_of inside) n) { holding = false });
-      kept = padded (set inside.kept.items n left.items);
+      kept = padded_items (set inside.kept.items n left.items);
       consumers = set inside.consumers r left.consumer;
     }
 
@@ -165,7 +165,7 @@ module _ (inside : Inside) (state : State) (tells : Tells) (s n r : ℕ) (e : st
     abbrev pub offer_told : OfferLeft → Tells
     offer_told left = with_told_reader (with_told tells n left.writer) r left.reader
 
-    pub offers_in : (v : Stream) → v ≡ get_or inside.streams.items s v → (result : Result Answer TakeError) (left : OfferLeft) → OfferedFrom v result left
+    pub offers_in : (v : Stream) → v ≡ get_or inside.streams.items s v → (result : Result Answer ReaderStops) (left : OfferLeft) → OfferedFrom v result left
         → (new : State) → new ≡ offer_left left → (told : Tells) → told ≡ offer_told left → OffersStream state new tells told s n r result
     offers_in v there result left f new m told ends =
         let after = left.stream in
@@ -181,7 +181,7 @@ module _ (inside : Inside) (state : State) (tells : Tells) (s n r : ℕ) (e : st
               (subst (λ z. Offers result (offering z (consumer_at (state_of inside) r) (kept_at state n) (told_by tells n) (told_by_reader tells r)) (offering after c y.items w t)) (sym here)
               (subst (λ xs. Offers result (offering v (consumer_at (state_of inside) r) xs (told_by tells n) (told_by_reader tells r)) (offering after c y.items w t)) (entry_items x is) f));
           state = m
-              ∙ ap (λ ks. record (state_of inside) { streams = set inside.streams.items s after; producers = set inside.producers n (record (producer_at (state_of inside) n) { holding = false }); kept = ks; consumers = set inside.consumers r c }) (padded-set inside.kept.items n y place.there)
+              ∙ ap (λ ks. record (state_of inside) { streams = set inside.streams.items s after; producers = set inside.producers n (record (producer_at (state_of inside) n) { holding = false }); kept = ks; consumers = set inside.consumers r c }) (padded_items-set inside.kept.items n y place.there)
               ∙ ap (λ (z : State). record z { streams = set z.streams s after; producers = set z.producers n (record (producer_at z n) { holding = false }); kept = set z.kept n y.items; consumers = set z.consumers r c }) e;
           ends = ends;
         }
@@ -243,15 +243,15 @@ module _ (old new : Inside) (n s : ℕ) (x : TypedItems) (h : LeavesItems old ne
       })
 
   tables : CountsTables old new
-  tables = kept_tables old new (record { limits = h.limits; counter = h.counter; live_sets = h.live_sets; bytes = h.bytes; guests = rw h.guests (all_kept (seen old.guests.items)) }) i
+  tables = kept_tables old new (record { limits = h.limits; counter = h.counter; live_sets = h.live_sets; bytes = h.bytes; guests = rw h.guests (all_kept (guests_of old.guests.items)) }) i
 
   -- the streams are as they were
   pub IsStore-items : new.streams ≡ old.streams → new.live_streams ≡ old.live_streams → IsStore new
   IsStore-items streams live =
       IsStore-counted old new tables
       (record { live = rw (live, streams) i.streams; served = rw streams served; kept = rw streams places; few = rw streams i.few_streams })
-      (IsSound-same (state_of old) (state_of new) (ap (λ (g : _). seen g.items) h.guests) (ap (λ (v : _). v.items) streams) h.contexts i.sound)
-      (agrees_still old new (rw h.guests (all_kept (seen old.guests.items))) (ap (λ (v : _). v.items) streams) h.ready i) i
+      (IsSound-same (state_of old) (state_of new) (ap (λ (g : _). guests_of g.items) h.guests) (ap (λ (v : _). v.items) streams) h.contexts i.sound)
+      (agrees_still old new (rw h.guests (all_kept (guests_of old.guests.items))) (ap (λ (v : _). v.items) streams) h.ready i) i
 
   -- the stream is another
   module _ (after : Stream) (l : s < length old.streams.items) (k : SameEnds (stream_at (state_of old) s) after) (streams : new.streams.items ≡ set old.streams.items s after) where
@@ -267,7 +267,7 @@ module _ (old new : Inside) (n s : ℕ) (x : TypedItems) (h : LeavesItems old ne
         let sum = live_sum old.streams.items s after l in
         omega (arith, weights, sum)
 
-    placed : StreamIsPlaced (sizes_of (seen old.guests.items)) after
+    placed : StreamIsPlaced (sizes_of (guests_of old.guests.items)) after
     placed =
         let was = placed_at (state_of old) s l i.sound in
         rw (k.payload, k.writer, k.reader) (record { writer = was.writer; reader = was.reader })
@@ -275,7 +275,7 @@ module _ (old new : Inside) (n s : ℕ) (x : TypedItems) (h : LeavesItems old ne
     -- no guest has one of its ends
     agrees_passed : ((side : Side) → is_held (end_of side before).owner ≡ false) → Agrees new
     agrees_passed unheld =
-        let guests = seen old.guests.items in
+        let guests = guests_of old.guests.items in
         let more = set old.streams.items s after in
         let held : IsHeld guests more = IsHeld-set guests old.streams.items s after l (λ side. inl (same_owner side)) i.held in
         record {
@@ -299,7 +299,7 @@ module _ (old new : Inside) (n s : ℕ) (x : TypedItems) (h : LeavesItems old ne
           kept = rw streams (have_set new.producers new.kept.items old.streams.items places s after l k.payload);
           few = rw (streams, length-set old.streams.items s after) i.few_streams;
         })
-        (IsSound-same (record (state_of old) { streams = set old.streams.items s after }) (state_of new) (ap (λ (g : _). seen g.items) h.guests) streams h.contexts
+        (IsSound-same (record (state_of old) { streams = set old.streams.items s after }) (state_of new) (ap (λ (g : _). guests_of g.items) h.guests) streams h.contexts
         (IsSound-stream (state_of old) s after (type_of-same after before k.payload k.kind) placed i.sound)) (agrees_passed unheld) i
 
 -- what is kept of one host end keeps its duty

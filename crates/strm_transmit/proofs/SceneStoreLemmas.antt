@@ -15,16 +15,16 @@ use Rattle.strm_machine.specs.declared.streams.Side.TheVariants.{Writing, Readin
 use Rattle.strm_machine.specs.declared.streams.Stream.{Stream}
 use Rattle.strm_machine.proofs.SoundLemmas.{type_of-same, IsSound-guests, IsSound-stream}
 use Rattle.strm_buffers.specs.Tells.{WriterTells, ReaderTells, Tells}
-use Rattle.strm_channels.specs.Guests.{seen}
-use Rattle.strm_host_turns.specs.Turning.{Scene, scene}
-use Rattle.strm_host_turns.specs.Taking.{Taking, taking}
+use Rattle.strm_channels.specs.Guests.{guests_of}
+use Rattle.strm_host_turns.specs.WriterTurns.{WriterScene, writer_scene}
+use Rattle.strm_host_turns.specs.ReaderTurns.{ReaderScene, reader_scene}
 use Rattle.strm_transmit.specs.Inside.{state_of, AreServed, HavePlaces, IsStore}
 use Rattle.strm_transmit.specs.declared.store.Store.TheInside.{Inside}
 use Rattle.strm_host_machine.specs.Does.{FitsWriter, FitsReader, Fits}
 use Rattle.strm_transmit.proofs.ServedLemmas.{same_stream, same_host, not_unused, gone_no_host, serving_kept, reading_kept, duty_known, serves_only, keeps_readers, keeps_writers, writer_now, reader_now, AreServed-turned}
 use Rattle.strm_transmit.proofs.KeptLemmas.{have_set, have_producer}
 use Rattle.strm_transmit.proofs.SceneLemmas.{SceneKeeps}
-use Rattle.strm_transmit.proofs.TakeLemmas.{TakingKeeps}
+use Rattle.strm_transmit.proofs.ReaderTurnLemmas.{TakingKeeps}
 use Rattle.strm_machine.proofs.TurnLemmas.{GuestsKeep, all_kept}
 use Rattle.strm_transmit.proofs.StoreLemmas.{live_by, live_weight, live_sum, kept_tables, Agrees, IsStore-counted, IsSound-same}
 use Rattle.strm_transmit.specs.Telling.{Retells, member_of}
@@ -76,13 +76,13 @@ KeepsHandles old new = (g : ℕ) → (guest_in new g).handles ≡ (guest_in old 
 module _ (old new : Inside) (s : ℕ) (after : Stream) (l : s < length old.streams.items) where
   -- the guests before
   abbrev before : List Guest
-  before = seen old.guests.items
+  before = guests_of old.guests.items
 
   -- the streams then
   abbrev more : List Stream
   more = set old.streams.items s after
 
-  agrees_turned : (guests : List Guest) → seen new.guests.items ≡ guests → KeepsHandles before guests → SameMembers before guests
+  agrees_turned : (guests : List Guest) → guests_of new.guests.items ≡ guests → KeepsHandles before guests → SameMembers before guests
       → KeepsOwners (stream_at (state_of old) s) after → new.streams.items ≡ more
       → Retells guests after old.ready.items new.ready.items → IsStore old → Agrees new
   agrees_turned guests e handles members owners streams retold i =
@@ -102,7 +102,7 @@ keeps_sets : {before guests after : List Guest} → GuestsKeep before after → 
 keeps_sets {before} {guests} {after} k e g number handle = ap (λ (x : List Guest). member_of x g number handle) e ∙ members-sets before after k.sets g number handle
 
 -- what a turn left of a scene
-pub record TakesScene (old new : Inside) (s n : ℕ) (after : Scene) : Type 0 where
+pub record TakesScene (old new : Inside) (s n : ℕ) (after : WriterScene) : Type 0 where
   pub tag : new.tag ≡ old.tag
   pub limits : new.limits ≡ old.limits
   pub contexts : new.contexts ≡ old.contexts
@@ -110,18 +110,18 @@ pub record TakesScene (old new : Inside) (s n : ℕ) (after : Scene) : Type 0 wh
   pub live_sets : new.live_sets ≡ old.live_sets
   pub bytes : new.bytes ≡ old.bytes
   pub counted : new.live_streams ≡ count_by is_live new.streams.items
-  pub guests : seen new.guests.items ≡ after.guests
+  pub guests : guests_of new.guests.items ≡ after.guests
   pub streams : new.streams.items ≡ set old.streams.items s after.stream
   pub producers : new.producers ≡ set old.producers n after.producer
   pub kept : new.kept ≡ old.kept
   pub consumers : new.consumers ≡ old.consumers
-  pub retold : Retells (seen new.guests.items) after.stream old.ready.items new.ready.items
+  pub retold : Retells (guests_of new.guests.items) after.stream old.ready.items new.ready.items
 
 -- the scene of a turn in a store
-abbrev pub scene_of : Inside → ℕ → ℕ → WriterTells → Scene
-scene_of old s n tells = scene (seen old.guests.items) (stream_at (state_of old) s) (producer_at (state_of old) n) tells
+abbrev pub scene_of : Inside → ℕ → ℕ → WriterTells → WriterScene
+scene_of old s n tells = writer_scene (guests_of old.guests.items) (stream_at (state_of old) s) (producer_at (state_of old) n) tells
 
-module _ (old new : Inside) (s n : ℕ) (tells : WriterTells) (after : Scene) (l : s < length old.streams.items) (o : (stream_at (state_of old) s).writer.owner ≡ Host n) (k : SceneKeeps (scene_of old s n tells) after) (h : TakesScene old new s n after) (i : IsStore old) where
+module _ (old new : Inside) (s n : ℕ) (tells : WriterTells) (after : WriterScene) (l : s < length old.streams.items) (o : (stream_at (state_of old) s).writer.owner ≡ Host n) (k : SceneKeeps (scene_of old s n tells) after) (h : TakesScene old new s n after) (i : IsStore old) where
   serves : (producer_at (state_of old) n).duty ≡ Serves s
   serves = i.served.serves Writing n s o
 
@@ -165,7 +165,7 @@ module _ (old new : Inside) (s n : ℕ) (tells : WriterTells) (after : Scene) (l
       IsStore-counted old new
       (kept_tables old new (record { limits = h.limits; counter = h.counter; live_sets = h.live_sets; bytes = h.bytes; guests = rw h.guests k.guests }) i)
       (record { live = h.counted; served = served; kept = places; few = rw (h.streams, length-set old.streams.items s after.stream) i.few_streams })
-      sound (agrees_turned old new s after.stream l (seen new.guests.items) refl (keeps_handles k.guests h.guests) (keeps_sets k.guests h.guests) (moves_held Writing (stream_at (state_of old) s) after.stream k.stream.done k.stream.leaves k.stream.stays (ap is_held o)) h.streams h.retold i) i
+      sound (agrees_turned old new s after.stream l (guests_of new.guests.items) refl (keeps_handles k.guests h.guests) (keeps_sets k.guests h.guests) (moves_held Writing (stream_at (state_of old) s) after.stream k.stream.done k.stream.leaves k.stream.stays (ap is_held o)) h.streams h.retold i) i
 
 -- ## The host writer that serves a stream
 
@@ -184,7 +184,7 @@ module _ (inside : Inside) (state : State) (n s : ℕ) (e : state_of inside ≡ 
 -- ## The store after a host reader had its turn
 
 -- what a turn left
-pub record TakesTaking (old new : Inside) (s r : ℕ) (after : Taking) : Type 0 where
+pub record TakesTaking (old new : Inside) (s r : ℕ) (after : ReaderScene) : Type 0 where
   pub tag : new.tag ≡ old.tag
   pub limits : new.limits ≡ old.limits
   pub contexts : new.contexts ≡ old.contexts
@@ -192,18 +192,18 @@ pub record TakesTaking (old new : Inside) (s r : ℕ) (after : Taking) : Type 0 
   pub live_sets : new.live_sets ≡ old.live_sets
   pub bytes : new.bytes ≡ old.bytes
   pub counted : new.live_streams ≡ count_by is_live new.streams.items
-  pub guests : seen new.guests.items ≡ after.guests
+  pub guests : guests_of new.guests.items ≡ after.guests
   pub streams : new.streams.items ≡ set old.streams.items s after.stream
   pub producers : new.producers ≡ old.producers
   pub kept : new.kept ≡ old.kept
   pub consumers : new.consumers ≡ set old.consumers r after.consumer
-  pub retold : Retells (seen new.guests.items) after.stream old.ready.items new.ready.items
+  pub retold : Retells (guests_of new.guests.items) after.stream old.ready.items new.ready.items
 
 -- what a turn touches in a store
-abbrev pub taking_of : Inside → ℕ → ℕ → ReaderTells → Taking
-taking_of old s r tells = taking (seen old.guests.items) (stream_at (state_of old) s) (consumer_at (state_of old) r) tells
+abbrev pub taking_of : Inside → ℕ → ℕ → ReaderTells → ReaderScene
+taking_of old s r tells = reader_scene (guests_of old.guests.items) (stream_at (state_of old) s) (consumer_at (state_of old) r) tells
 
-module _ (old new : Inside) (s r : ℕ) (tells : ReaderTells) (after : Taking) (l : s < length old.streams.items) (o : (stream_at (state_of old) s).reader.owner ≡ Host r) (k : TakingKeeps (taking_of old s r tells) after) (h : TakesTaking old new s r after) (i : IsStore old) where
+module _ (old new : Inside) (s r : ℕ) (tells : ReaderTells) (after : ReaderScene) (l : s < length old.streams.items) (o : (stream_at (state_of old) s).reader.owner ≡ Host r) (k : TakingKeeps (taking_of old s r tells) after) (h : TakesTaking old new s r after) (i : IsStore old) where
   reads : (consumer_at (state_of old) r).duty ≡ Serves s
   reads = i.served.serves Reading r s o
 
@@ -238,15 +238,15 @@ module _ (old new : Inside) (s r : ℕ) (tells : ReaderTells) (after : Taking) (
       let streams = IsSound-stream (state_of old) s after.stream type k.stream.placed i.sound in
       IsSound-same (record (state_of old) { streams = set old.streams.items s after.stream }) (state_of new) (h.guests ∙ k.guests) h.streams h.contexts streams
 
-  same_guests : seen new.guests.items ≡ seen old.guests.items
+  same_guests : guests_of new.guests.items ≡ guests_of old.guests.items
   same_guests = h.guests ∙ k.guests
 
   pub IsStore-taking : IsStore new
   IsStore-taking =
       IsStore-counted old new
-      (kept_tables old new (record { limits = h.limits; counter = h.counter; live_sets = h.live_sets; bytes = h.bytes; guests = rw same_guests (all_kept (seen old.guests.items)) }) i)
+      (kept_tables old new (record { limits = h.limits; counter = h.counter; live_sets = h.live_sets; bytes = h.bytes; guests = rw same_guests (all_kept (guests_of old.guests.items)) }) i)
       (record { live = h.counted; served = taken_served; kept = places_then; few = rw (h.streams, length-set old.streams.items s after.stream) i.few_streams })
-      taken_sound (agrees_turned old new s after.stream l (seen new.guests.items) refl (λ g. ap (λ (x : _). (guest_in x g).handles) same_guests) (λ g number handle. ap (λ (x : _). member_of x g number handle) same_guests) (moves_held Reading (stream_at (state_of old) s) after.stream k.stream.done k.stream.leaves k.stream.stays (ap is_held o)) h.streams h.retold i) i
+      taken_sound (agrees_turned old new s after.stream l (guests_of new.guests.items) refl (λ g. ap (λ (x : _). (guest_in x g).handles) same_guests) (λ g number handle. ap (λ (x : _). member_of x g number handle) same_guests) (moves_held Reading (stream_at (state_of old) s) after.stream k.stream.done k.stream.leaves k.stream.stays (ap is_held o)) h.streams h.retold i) i
 
 -- ## The host reader that serves a stream
 

@@ -6,7 +6,7 @@ use Rattle.std.specs.Option.{option_map}
 use Rattle.strm_waitable_sets.specs.Ready.{is_in}
 use Rattle.strm_handles.specs.Counters.{counted, uncounted}
 use Rattle.strm_handles.specs.Handles.{entry_at}
-use Rattle.strm_waitable_sets.specs.Sets.{Sets, is_there, is_member, set_of, members, joined, left, HasNoMember, IsLeastReady, NoneReady}
+use Rattle.strm_waitable_sets.specs.Sets.{Sets, is_set_there, is_member, set_of, members, handle_joined, handle_left, HasNoMember, IsLeastReady, NoneReady}
 use Rattle.strm_waitable_sets.proofs.SetLemmas.{among_members}
 use Rattle.strm_waitable_sets.proofs.TieLemmas.{eq-other}
 use Rattle.strm_machine.specs.State.{Guest, State, no_guest, guest_in, sets_in, with_sets}
@@ -21,7 +21,7 @@ use Rattle.strm_machine.proofs.RefusalLemmas.{none_of_both}
 use Rattle.strm_machine.proofs.SoundLemmas.{sizes_of-with_table}
 use Rattle.strm_machine.proofs.SetStepLemmas.{set_fits, on_set_fits, set_found, set_drop_fits, ready_member-least, ready_member-none}
 use Rattle.strm_machine.proofs.SoundStepLemmas.{on_set-sound, with_set-sound}
-use Rattle.strm_channels.specs.Guests.{seen, live_in, sets_among, with_set_in, without_set_in}
+use Rattle.strm_channels.specs.Guests.{guests_of, live_in, sets_among, with_set_in, without_set_in}
 use Rattle.strm_transmit.specs.Inside.{state_of, IsStore}
 use Rattle.strm_transmit.specs.declared.store.Store.TheInside.{Inside}
 use Rattle.strm_transmit.proofs.StoreLemmas.{SameBut, how_many, sets-with_table, live-with_sets, kept_counted, more_counted, less_counted, fits_below, CountsTables, kept_streams, Agrees, IsStore-counted}
@@ -44,14 +44,14 @@ IsStore-tables old new k tables sound agrees i =
     IsStore-counted old new tables (kept_streams old new k.streams k.live_streams (record { producers = k.same.producers; kept = k.same.kept; consumers = k.same.consumers }) i) sound agrees i
 
 -- the state, where streams stay and guests are these
-state_with : (old new : Inside) → KeepsStreams old new → (guests : List Guest) → seen new.guests.items ≡ guests → state_of new ≡ record (state_of old) { guests = guests }
+state_with : (old new : Inside) → KeepsStreams old new → (guests : List Guest) → guests_of new.guests.items ≡ guests → state_of new ≡ record (state_of old) { guests = guests }
 state_with old new k guests e = rw (k.same.tag, k.same.limits, k.same.producers, k.same.kept, k.same.consumers, k.same.contexts, k.same.trapped, k.streams, e) refl
 
 -- handles and ends agree, and guests have the members that they had
-agrees_tables : (old new : Inside) → KeepsStreams old new → (guests : List Guest) → seen new.guests.items ≡ guests → new.ready ≡ old.ready → SameMembers (seen old.guests.items) guests → StateIsHeld (record (state_of old) { guests = guests }) → IsStore old → Agrees new
+agrees_tables : (old new : Inside) → KeepsStreams old new → (guests : List Guest) → guests_of new.guests.items ≡ guests → new.ready ≡ old.ready → SameMembers (guests_of old.guests.items) guests → StateIsHeld (record (state_of old) { guests = guests }) → IsStore old → Agrees new
 agrees_tables old new k guests e ready members held i = record {
   held = subst StateIsHeld (sym (state_with old new k guests e)) held;
-  told = rw (k.streams, ready, e) (told-same (seen old.guests.items) guests old.streams.items old.ready.items members i.told);
+  told = rw (k.streams, ready, e) (told-same (guests_of old.guests.items) guests old.streams.items old.ready.items members i.told);
 }
 
 -- ## A set more
@@ -59,10 +59,10 @@ agrees_tables old new k guests e ready members held i = record {
 -- a set and its handle are given and counted
 pub record GivesSet (old new : Inside) (g : ℕ) : Type 0 where
   pub counter : new.counter ≡ counted old.counter
-  pub live : live_in (seen new.guests.items) ≡ live_in (seen old.guests.items) + 1
-  pub sets : sets_among (seen new.guests.items) ≡ sets_among (seen old.guests.items) + 1
+  pub live : live_in (guests_of new.guests.items) ≡ live_in (guests_of old.guests.items) + 1
+  pub sets : sets_among (guests_of new.guests.items) ≡ sets_among (guests_of old.guests.items) + 1
   pub live_sets : new.live_sets ≡ old.live_sets + 1
-  pub guests : seen new.guests.items ≡ with_set_in (seen old.guests.items) g
+  pub guests : guests_of new.guests.items ≡ with_set_in (guests_of old.guests.items) g
   pub ready : new.ready ≡ old.ready
 
 pub IsStore-made_set : (old new : Inside) (g : ℕ) → KeepsStreams old new → GivesSet old new g → refusal (state_of old) (Make (Set g)) ≡ None → IsStore old → IsStore new
@@ -72,11 +72,11 @@ IsStore-made_set old new g k h e i =
     (record {
       handles = more_counted old new k.same.limits h.counter h.live (fits_below old i fits.handles) i;
       sets = omega (arith, h.live_sets, i.sets, h.sets);
-      sizes = ap sizes_of h.guests ∙ sizes_of-with_table (seen old.guests.items) g _ _;
+      sizes = ap sizes_of h.guests ∙ sizes_of-with_table (guests_of old.guests.items) g _ _;
       bytes = k.bytes;
     })
-    (subst IsSound (sym (state_with old new k (with_set_in (seen old.guests.items) g) h.guests)) (with_set-sound (state_of old) g i.sound e))
-    (agrees_tables old new k (with_set_in (seen old.guests.items) g) h.guests h.ready (members-with_table (seen old.guests.items) g _ _ (λ n q. refl)) (with_set-held (state_of old) g i.sound i.held e) i) i
+    (subst IsSound (sym (state_with old new k (with_set_in (guests_of old.guests.items) g) h.guests)) (with_set-sound (state_of old) g i.sound e))
+    (agrees_tables old new k (with_set_in (guests_of old.guests.items) g) h.guests h.ready (members-with_table (guests_of old.guests.items) g _ _ (λ n q. refl)) (with_set-held (state_of old) g i.sound i.held e) i) i
 
 -- ## A set joined or left
 
@@ -102,7 +102,7 @@ pub record KeepsCounts (old new : Inside) : Type 0 where
 
 module _ (old new : Inside) (k : KeepsStreams old new) (n : KeepsCounts old new) (i : IsStore old) where
   -- nothing joined
-  pub same_guests : seen new.guests.items ≡ seen old.guests.items → new.ready ≡ old.ready → IsStore new
+  pub same_guests : guests_of new.guests.items ≡ guests_of old.guests.items → new.ready ≡ old.ready → IsStore new
   same_guests e ready =
       IsStore-tables old new k
       (record {
@@ -111,52 +111,52 @@ module _ (old new : Inside) (k : KeepsStreams old new) (n : KeepsCounts old new)
         sizes = ap sizes_of e;
         bytes = k.bytes;
       })
-      (subst IsSound (sym (state_with old new k (seen old.guests.items) e)) i.sound)
-      (agrees_tables old new k (seen old.guests.items) e ready (λ _ _ _. refl) i.held i) i
+      (subst IsSound (sym (state_with old new k (guests_of old.guests.items) e)) i.sound)
+      (agrees_tables old new k (guests_of old.guests.items) e ready (λ _ _ _. refl) i.held i) i
 
   -- the guests with other sets in one of them
   abbrev with_sets_of : ℕ → Sets → List Guest
-  with_sets_of g sets = with_sets (seen old.guests.items) g sets
+  with_sets_of g sets = with_sets (guests_of old.guests.items) g sets
 
-  other_sets : (g : ℕ) (sets : Sets) → how_many sets ≡ how_many (sets_in (seen old.guests.items) g) → IsSound (sets_changed (state_of old) g sets) → seen new.guests.items ≡ with_sets_of g sets
+  other_sets : (g : ℕ) (sets : Sets) → how_many sets ≡ how_many (sets_in (guests_of old.guests.items) g) → IsSound (sets_changed (state_of old) g sets) → guests_of new.guests.items ≡ with_sets_of g sets
       → AreTold (with_sets_of g sets) old.streams.items new.ready.items → IsStore new
   other_sets g sets many sound e told =
-      let handles = (guest_in (seen old.guests.items) g).handles in
+      let handles = (guest_in (guests_of old.guests.items) g).handles in
       IsStore-tables old new k
       (record {
-        handles = kept_counted old new k.same.limits n.counter (ap live_in e ∙ live-with_sets (seen old.guests.items) g sets) i;
-        sets = n.live_sets ∙ i.sets ∙ sym (ap sets_among e ∙ sets-with_table (seen old.guests.items) g handles sets many);
-        sizes = ap sizes_of e ∙ sizes_of-with_table (seen old.guests.items) g handles sets;
+        handles = kept_counted old new k.same.limits n.counter (ap live_in e ∙ live-with_sets (guests_of old.guests.items) g sets) i;
+        sets = n.live_sets ∙ i.sets ∙ sym (ap sets_among e ∙ sets-with_table (guests_of old.guests.items) g handles sets many);
+        sizes = ap sizes_of e ∙ sizes_of-with_table (guests_of old.guests.items) g handles sets;
         bytes = k.bytes;
       })
-      (subst IsSound (sym (state_with old new k (with_sets (seen old.guests.items) g sets) e)) sound)
+      (subst IsSound (sym (state_with old new k (with_sets (guests_of old.guests.items) g sets) e)) sound)
       (record {
-        held = subst StateIsHeld (sym (state_with old new k (with_sets (seen old.guests.items) g sets) e)) (sets_held_still (seen old.guests.items) g sets old.streams.items i.held);
+        held = subst StateIsHeld (sym (state_with old new k (with_sets (guests_of old.guests.items) g sets) e)) (sets_held_still (guests_of old.guests.items) g sets old.streams.items i.held);
         told = rw (k.streams, e) told;
       }) i
 
   module _ (g set handle : ℕ) (may : refusal (state_of old) (OnSet g set (Join handle)) ≡ None) where
     abbrev sets : Sets
-    sets = sets_in (seen old.guests.items) g
+    sets = sets_in (guests_of old.guests.items) g
 
     -- the guest's sets became these
     abbrev SetsBecome : Sets → Type 0
-    SetsBecome after = seen new.guests.items ≡ with_sets (seen old.guests.items) g after
+    SetsBecome after = guests_of new.guests.items ≡ with_sets (guests_of old.guests.items) g after
 
-    joined_sound : (b : Bool) → (set == 0) ≡ b → IsSound (sets_changed (state_of old) g (cond b (left sets handle) (joined sets handle (number_named (set_named (state_of old) g set)))))
+    joined_sound : (b : Bool) → (set == 0) ≡ b → IsSound (sets_changed (state_of old) g (cond b (handle_left sets handle) (handle_joined sets handle (number_named (set_named (state_of old) g set)))))
     joined_sound b e =
-        subst (λ t. IsSound (sets_changed (state_of old) g (cond t (left sets handle) (joined sets handle (number_named (set_named (state_of old) g set)))))) e
+        subst (λ t. IsSound (sets_changed (state_of old) g (cond t (handle_left sets handle) (handle_joined sets handle (number_named (set_named (state_of old) g set)))))) e
         (on_set-sound (state_of old) g set (Join handle) i.sound may)
 
     -- the handle's guest is there
-    guest_there : g < length (seen old.guests.items)
+    guest_there : g < length (guests_of old.guests.items)
     guest_there = (on_set_fits (state_of old) g set (Join handle) may).0
 
-    pub IsStore-left : (home : Option ℕ) → set ≡ 0 → home ≡ set_of sets handle → Leaves g handle home old.ready.items new.ready.items → SetsBecome (left sets handle) → IsStore new
+    pub IsStore-left : (home : Option ℕ) → set ≡ 0 → home ≡ set_of sets handle → Leaves g handle home old.ready.items new.ready.items → SetsBecome (handle_left sets handle) → IsStore new
     IsStore-left home zero is leaves e =
-        other_sets g (left sets handle) refl (joined_sound true (rw zero refl)) e
-        (told-left (seen old.guests.items) _ old.streams.items g handle old.ready.items new.ready.items home
-        (leaves-left (seen old.guests.items) g _ handle guest_there) is leaves i.told)
+        other_sets g (handle_left sets handle) refl (joined_sound true (rw zero refl)) e
+        (told-left (guests_of old.guests.items) _ old.streams.items g handle old.ready.items new.ready.items home
+        (leaves-left (guests_of old.guests.items) g _ handle guest_there) is leaves i.told)
 
     -- what is said once the handle has joined
     pub record JoinsAt (number : ℕ) (alone says : Bool) : Type 0 where
@@ -168,26 +168,26 @@ module _ (old new : Inside) (k : KeepsStreams old new) (n : KeepsCounts old new)
       pub empty : alone ≡ not (has_member (state_of old) g number)
       pub ready : says ≡ is_ready (state_of old) g handle
 
-    none_before : (number : ℕ) (alone : Bool) → alone ≡ not (has_member (state_of old) g number) → alone ≡ true → (other : ℕ) → member_of (seen old.guests.items) g number other ≡ false
+    none_before : (number : ℕ) (alone : Bool) → alone ≡ not (has_member (state_of old) g number) → alone ≡ true → (other : ℕ) → member_of (guests_of old.guests.items) g number other ≡ false
     none_before number alone is e other =
         sym (among_members sets number other) ∙ no_members (members sets number) other (not_is (has_member (state_of old) g number) (sym is ∙ e))
 
-    pub IsStore-joined : (number : ℕ) (alone says : Bool) → set ≢ 0 → number ≡ number_named (set_named (state_of old) g set) → SetsBecome (joined sets handle number) → JoinsAt number alone says → IsStore new
+    pub IsStore-joined : (number : ℕ) (alone says : Bool) → set ≢ 0 → number ≡ number_named (set_named (state_of old) g set) → SetsBecome (handle_joined sets handle number) → JoinsAt number alone says → IsStore new
     IsStore-joined number alone says some is ok joins =
-        other_sets g (joined sets handle number) refl
-        (subst (λ m. IsSound (sets_changed (state_of old) g (joined sets handle m))) (sym is) (joined_sound false (eq-other set 0 some))) ok
-        (told-joined (seen old.guests.items) _ old.streams.items g handle number (joins-joined (seen old.guests.items) g _ handle number guest_there) joins.home joins.is alone says
+        other_sets g (handle_joined sets handle number) refl
+        (subst (λ m. IsSound (sets_changed (state_of old) g (handle_joined sets handle m))) (sym is) (joined_sound false (eq-other set 0 some))) ok
+        (told-joined (guests_of old.guests.items) _ old.streams.items g handle number (joins-joined (guests_of old.guests.items) g _ handle number guest_there) joins.home joins.is alone says
         old.ready.items joins.between new.ready.items joins.leaves joins.joins (none_before number alone joins.empty)
         (λ s side owner. joins.ready ∙ ready_is (state_of old) g number i.sound i.held old.ready.items i.told handle s side owner) i.told)
 
 -- the set that is joined is there
-pub joined_made : (state : State) (g set handle number : ℕ) → IsSound state → refusal state (OnSet g set (Join handle)) ≡ None → set ≢ 0 → number ≡ number_named (set_named state g set) → is_there (sets_in state.guests g) number ≡ true
+pub joined_made : (state : State) (g set handle number : ℕ) → IsSound state → refusal state (OnSet g set (Join handle)) ≡ None → set ≢ 0 → number ≡ number_named (set_named state g set) → is_set_there (sets_in state.guests g) number ≡ true
 joined_made state g set handle number h may some is =
     let fits = on_set_fits state g set (Join handle) may in
     let both = none_of_both (joined_reasons state g set) (slot_reasons (end_named state g handle)) fits.1 in
     by (set == 0) (eq-other set 0 some) both.0
   where
-    by : (b : Bool) → b ≡ false → first_of (cond b [] (slot_reasons (set_named state g set))) ≡ None → is_there (sets_in state.guests g) number ≡ true
+    by : (b : Bool) → b ≡ false → first_of (cond b [] (slot_reasons (set_named state g set))) ≡ None → is_set_there (sets_in state.guests g) number ≡ true
     by true e f = cc
     by false e f = (h.sets g).there set number (set_found (entry_at (guest_in state.guests g).handles set) f ∙ ap Ok (sym is))
 
@@ -197,7 +197,7 @@ joined_made state g set handle number h may some is =
 pub record DropsSet (state : State) (g set number : ℕ) : Type 0 where
   pub there : g < length state.guests
   pub named : set_named state g set ≡ Ok number
-  pub made : is_there (sets_in state.guests g) number ≡ true
+  pub made : is_set_there (sets_in state.guests g) number ≡ true
   pub empty : HasNoMember (sets_in state.guests g) number
 
 pub drops_set : (state : State) (g set number : ℕ) → IsSound state → refusal state (OnSet g set Drop) ≡ None → number ≡ number_named (set_named state g set) → DropsSet state g set number
@@ -215,10 +215,10 @@ drops_set state g set number h may is =
 -- a set and its handle are taken and counted off
 pub record TakesSet (old new : Inside) (g set number : ℕ) : Type 0 where
   pub counter : new.counter ≡ uncounted old.counter
-  pub live : live_in (seen new.guests.items) + 1 ≡ live_in (seen old.guests.items)
-  pub sets : sets_among (seen new.guests.items) + 1 ≡ sets_among (seen old.guests.items)
+  pub live : live_in (guests_of new.guests.items) + 1 ≡ live_in (guests_of old.guests.items)
+  pub sets : sets_among (guests_of new.guests.items) + 1 ≡ sets_among (guests_of old.guests.items)
   pub live_sets : new.live_sets ≡ old.live_sets - 1
-  pub guests : seen new.guests.items ≡ without_set_in (seen old.guests.items) g set number
+  pub guests : guests_of new.guests.items ≡ without_set_in (guests_of old.guests.items) g set number
   pub ready : new.ready ≡ old.ready
 
 pub IsStore-dropped_set : (old new : Inside) (g set number : ℕ) → KeepsStreams old new → TakesSet old new g set number → refusal (state_of old) (OnSet g set Drop) ≡ None → number ≡ number_named (set_named (state_of old) g set) → IsStore old → IsStore new
@@ -227,13 +227,13 @@ IsStore-dropped_set old new g set number k h may is i =
     (record {
       handles = less_counted old new k.same.limits h.counter h.live i;
       sets = omega (arith, h.live_sets, i.sets, h.sets);
-      sizes = ap sizes_of h.guests ∙ sizes_of-with_table (seen old.guests.items) g _ _;
+      sizes = ap sizes_of h.guests ∙ sizes_of-with_table (guests_of old.guests.items) g _ _;
       bytes = k.bytes;
     })
-    (subst IsSound (sym (state_with old new k (without_set_in (seen old.guests.items) g set (number_named (set_named (state_of old) g set))) (h.guests ∙ ap (without_set_in (seen old.guests.items) g set) is)))
+    (subst IsSound (sym (state_with old new k (without_set_in (guests_of old.guests.items) g set (number_named (set_named (state_of old) g set))) (h.guests ∙ ap (without_set_in (guests_of old.guests.items) g set) is)))
     (on_set-sound (state_of old) g set Drop i.sound may))
-    (agrees_tables old new k (without_set_in (seen old.guests.items) g set (number_named (set_named (state_of old) g set))) (h.guests ∙ ap (without_set_in (seen old.guests.items) g set) is) h.ready
-    (members-with_table (seen old.guests.items) g _ _ (λ n q. refl)) (on_set-held (state_of old) g set Drop i.sound i.held may) i) i
+    (agrees_tables old new k (without_set_in (guests_of old.guests.items) g set (number_named (set_named (state_of old) g set))) (h.guests ∙ ap (without_set_in (guests_of old.guests.items) g set) is) h.ready
+    (members-with_table (guests_of old.guests.items) g _ _ (λ n q. refl)) (on_set-held (state_of old) g set Drop i.sound i.held may) i) i
 
 -- ## The member that a poll finds, by what a look at each member says
 

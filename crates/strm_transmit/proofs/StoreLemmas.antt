@@ -39,7 +39,7 @@ use Rattle.strm_machine.proofs.TurnLemmas.{GuestsKeep, TurnKeeps, all_kept, with
 use Rattle.strm_codes.specs.declared.codes.TransmitIndex.{TransmitIndex}
 use Rattle.strm_machine.specs.Making.{with_read_end, with_ends, made_stream, made_pair, with_stream}
 use Rattle.strm_machine.specs.declared.replies.Pair.{Pair}
-use Rattle.strm_channels.specs.Guests.{guest_of, seen, live_in, sets_among}
+use Rattle.strm_channels.specs.Guests.{guest_of, guests_of, live_in, sets_among}
 use Rattle.strm_transmit.specs.Inside.{state_of, AreServed, HavePlaces, IsStore}
 use Rattle.strm_channels.specs.declared.guests.Guest as ours
 use Rattle.strm_transmit.specs.declared.store.Store.TheInside.{Inside}
@@ -60,8 +60,8 @@ pub record SameBut (old new : Inside) : Type 0 where
   pub contexts : new.contexts ≡ old.contexts
   pub trapped : new.is_trapped ≡ old.is_trapped
 
-seen-push : (guests : List ours.Guest) (g : ours.Guest) → seen (guests ++ g ∷ []) ≡ seen guests ++ guest_of g ∷ []
-seen-push guests g = map-append guest_of guests (g ∷ [])
+guests_of-push : (guests : List ours.Guest) (g : ours.Guest) → guests_of (guests ++ g ∷ []) ≡ guests_of guests ++ guest_of g ∷ []
+guests_of-push guests g = map-append guest_of guests (g ∷ [])
 
 -- ## One guest more
 
@@ -79,9 +79,9 @@ pub record AddsGuest (old new : Inside) (g : ours.Guest) (size : ℕ) : Type 0 w
   pub sets : g.sets ≡ no_sets
   pub ready : new.ready ≡ old.ready
 
-state_of-guest : (old new : Inside) (g : ours.Guest) (size : ℕ) → AddsGuest old new g size → state_of new ≡ record (state_of old) { guests = seen old.guests.items ++ guest_of g ∷ [] }
+state_of-guest : (old new : Inside) (g : ours.Guest) (size : ℕ) → AddsGuest old new g size → state_of new ≡ record (state_of old) { guests = guests_of old.guests.items ++ guest_of g ∷ [] }
 state_of-guest old new g size h =
-    rw (h.same.tag, h.same.limits, h.same.producers, h.same.kept, h.same.consumers, h.same.contexts, h.same.trapped, h.streams, h.guests, seen-push old.guests.items g) refl
+    rw (h.same.tag, h.same.limits, h.same.producers, h.same.kept, h.same.consumers, h.same.contexts, h.same.trapped, h.streams, h.guests, guests_of-push old.guests.items g) refl
 
 -- how many sets are there
 abbrev pub how_many : Sets → ℕ
@@ -95,18 +95,18 @@ pub IsStore-guest : (old new : Inside) (g : ours.Guest) (size : ℕ) → AddsGue
 IsStore-guest old new g size h e s =
     let fits = guest_fits (state_of old) size e in
     let many : length g.memory.bytes ≡ size = rw h.memory (length-replicate size 0) in
-    let total : sum (sizes_of (seen old.guests.items)) ≡ bytes_in_use (state_of old) = sum-map (λ k. length k.memory) (seen old.guests.items) in
+    let total : sum (sizes_of (guests_of old.guests.items)) ≡ bytes_in_use (state_of old) = sum-map (λ k. length k.memory) (guests_of old.guests.items) in
     let sound = IsSound-guest (state_of old) (guest_of g) h.handles h.sets (omega (arith, total, many, fits.bytes)) s.sound in
     let after = state_of-guest old new g size h in
     let none : live_of g.table.handles ≡ 0 = rw h.handles live_of-no_handles in
-    let live : handles_in_use (state_of old) ≡ handles_in_use (state_of new) = added _ _ _ (sum_by_push (λ k. live_of k.handles) (seen old.guests.items) (guest_of g)) none ∙ sym (ap handles_in_use after) in
+    let live : handles_in_use (state_of old) ≡ handles_in_use (state_of new) = added _ _ _ (sum_by_push (λ k. live_of k.handles) (guests_of old.guests.items) (guest_of g)) none ∙ sym (ap handles_in_use after) in
     let no_set : sets_held (guest_of g) ≡ 0 = ap how_many h.sets in
-    let sets : sets_in_use (state_of old) ≡ sets_in_use (state_of new) = added _ _ _ (sum_by_push sets_held (seen old.guests.items) (guest_of g)) no_set ∙ sym (ap sets_in_use after) in
-    let bytes : bytes_in_use (state_of old) + length g.memory.bytes ≡ bytes_in_use (state_of new) = sym (sum_by_push (λ k. length k.memory) (seen old.guests.items) (guest_of g)) ∙ sym (ap bytes_in_use after) in
+    let sets : sets_in_use (state_of old) ≡ sets_in_use (state_of new) = added _ _ _ (sum_by_push sets_held (guests_of old.guests.items) (guest_of g)) no_set ∙ sym (ap sets_in_use after) in
+    let bytes : bytes_in_use (state_of old) + length g.memory.bytes ≡ bytes_in_use (state_of new) = sym (sum_by_push (λ k. length k.memory) (guests_of old.guests.items) (guest_of g)) ∙ sym (ap bytes_in_use after) in
     record {
       sound = rw after sound;
-      held = subst StateIsHeld (sym after) (IsHeld-same (seen old.guests.items) (seen old.guests.items ++ guest_of g ∷ []) old.streams.items old.streams.items (λ k. handles-more (seen old.guests.items) (guest_of g) k h.handles) (λ k side. refl) s.held);
-      told = rw (h.streams, h.ready, h.guests, seen-push old.guests.items g) (told-same (seen old.guests.items) (seen old.guests.items ++ guest_of g ∷ []) old.streams.items old.ready.items (λ k number handle. ap (λ (x : Sets). is_member x number handle) (sets-more (seen old.guests.items) (guest_of g) k h.sets)) s.told);
+      held = subst StateIsHeld (sym after) (IsHeld-same (guests_of old.guests.items) (guests_of old.guests.items ++ guest_of g ∷ []) old.streams.items old.streams.items (λ k. handles-more (guests_of old.guests.items) (guest_of g) k h.handles) (λ k side. refl) s.held);
+      told = rw (h.streams, h.ready, h.guests, guests_of-push old.guests.items g) (told-same (guests_of old.guests.items) (guests_of old.guests.items ++ guest_of g ∷ []) old.streams.items old.ready.items (λ k number handle. ap (λ (x : Sets). is_member x number handle) (sets-more (guests_of old.guests.items) (guest_of g) k h.sets)) s.told);
       limit = rw (h.counter, h.same.limits) s.limit;
       live = ap (λ (c : Counter). c.live) h.counter ∙ s.live ∙ live;
       within = rw h.counter s.within;
@@ -157,12 +157,12 @@ same_count old new e = sym (length-map new (λ (g : machine.Guest). length g.mem
 -- the handles' counter agrees with the handles
 pub record IsCounted (new : Inside) : Type 0 where
   pub limit : new.counter.limit ≡ new.limits.handles
-  pub live : new.counter.live ≡ live_in (seen new.guests.items)
+  pub live : new.counter.live ≡ live_in (guests_of new.guests.items)
   pub within : new.counter.live ≤ new.counter.limit
 
 module _ (old new : Inside) (limits : new.limits ≡ old.limits) where
   -- as many handles
-  pub kept_counted : new.counter ≡ old.counter → live_in (seen new.guests.items) ≡ live_in (seen old.guests.items) → IsStore old → IsCounted new
+  pub kept_counted : new.counter ≡ old.counter → live_in (guests_of new.guests.items) ≡ live_in (guests_of old.guests.items) → IsStore old → IsCounted new
   kept_counted c live i = record {
     limit = rw (c, limits) i.limit;
     live = ap (λ (k : Counter). k.live) c ∙ i.live ∙ sym live;
@@ -170,14 +170,14 @@ module _ (old new : Inside) (limits : new.limits ≡ old.limits) where
   }
 
   -- one more, or one less, and counted
-  pub more_counted : new.counter ≡ counted old.counter → live_in (seen new.guests.items) ≡ live_in (seen old.guests.items) + 1 → old.counter.live < old.counter.limit → IsStore old → IsCounted new
+  pub more_counted : new.counter ≡ counted old.counter → live_in (guests_of new.guests.items) ≡ live_in (guests_of old.guests.items) + 1 → old.counter.live < old.counter.limit → IsStore old → IsCounted new
   more_counted c live below i = record {
     limit = rw (c, limits) i.limit;
     live = omega (arith, ap (λ (k : Counter). k.live) c, i.live, live);
     within = rw c (omega (arith, below));
   }
 
-  pub less_counted : new.counter ≡ uncounted old.counter → live_in (seen new.guests.items) + 1 ≡ live_in (seen old.guests.items) → IsStore old → IsCounted new
+  pub less_counted : new.counter ≡ uncounted old.counter → live_in (guests_of new.guests.items) + 1 ≡ live_in (guests_of old.guests.items) → IsStore old → IsCounted new
   less_counted c live i = record {
     limit = rw (c, limits) i.limit;
     live = omega (arith, ap (λ (k : Counter). k.live) c, i.live, live);
@@ -185,14 +185,14 @@ module _ (old new : Inside) (limits : new.limits ≡ old.limits) where
   }
 
 -- a handle more is below the limit
-pub fits_below : (s : Inside) → IsStore s → live_in (seen s.guests.items) + 1 ≤ s.limits.handles → s.counter.live < s.counter.limit
+pub fits_below : (s : Inside) → IsStore s → live_in (guests_of s.guests.items) + 1 ≤ s.limits.handles → s.counter.live < s.counter.limit
 fits_below s i h = omega (arith, h, i.limit, i.live)
 
 -- handles and sets are counted, and each memory has its length
 pub record CountsTables (old new : Inside) : Type 0 where
   pub handles : IsCounted new
   pub sets : new.live_sets ≡ sets_in_use (state_of new)
-  pub sizes : sizes_of (seen new.guests.items) ≡ sizes_of (seen old.guests.items)
+  pub sizes : sizes_of (guests_of new.guests.items) ≡ sizes_of (guests_of old.guests.items)
   pub bytes : new.bytes ≡ old.bytes
 
 -- guests with the handles, the sets and the memory lengths of those before
@@ -201,12 +201,12 @@ pub record KeepsGuests (old new : Inside) : Type 0 where
   pub counter : new.counter ≡ old.counter
   pub live_sets : new.live_sets ≡ old.live_sets
   pub bytes : new.bytes ≡ old.bytes
-  pub guests : GuestsKeep (seen old.guests.items) (seen new.guests.items)
+  pub guests : GuestsKeep (guests_of old.guests.items) (guests_of new.guests.items)
 
 pub kept_tables : (old new : Inside) → KeepsGuests old new → IsStore old → CountsTables old new
 kept_tables old new k i = record {
-  handles = kept_counted old new k.limits k.counter (same_handles (seen old.guests.items) (seen new.guests.items) k.guests.handles) i;
-  sets = k.live_sets ∙ i.sets ∙ sym (same_sets (seen old.guests.items) (seen new.guests.items) k.guests.sets);
+  handles = kept_counted old new k.limits k.counter (same_handles (guests_of old.guests.items) (guests_of new.guests.items) k.guests.handles) i;
+  sets = k.live_sets ∙ i.sets ∙ sym (same_sets (guests_of old.guests.items) (guests_of new.guests.items) k.guests.sets);
   sizes = k.guests.sizes;
   bytes = k.bytes;
 }
@@ -235,19 +235,19 @@ kept_streams old new streams live same i = record {
 -- handles and ends agree, and what is known of ready members is so
 pub record Agrees (new : Inside) : Type 0 where
   pub held : StateIsHeld (state_of new)
-  pub told : AreTold (seen new.guests.items) new.streams.items new.ready.items
+  pub told : AreTold (guests_of new.guests.items) new.streams.items new.ready.items
 
 -- guests that keep their handles and sets, beside the same streams
-pub agrees_still : (old new : Inside) → GuestsKeep (seen old.guests.items) (seen new.guests.items) → new.streams.items ≡ old.streams.items → new.ready ≡ old.ready → IsStore old → Agrees new
+pub agrees_still : (old new : Inside) → GuestsKeep (guests_of old.guests.items) (guests_of new.guests.items) → new.streams.items ≡ old.streams.items → new.ready ≡ old.ready → IsStore old → Agrees new
 agrees_still old new guests streams ready i = record {
-  held = rw streams (IsHeld-same (seen old.guests.items) (seen new.guests.items) old.streams.items old.streams.items (λ k. handles-same (seen old.guests.items) (seen new.guests.items) k guests.handles) (λ k side. refl) i.held);
-  told = rw (streams, ready) (told-same (seen old.guests.items) (seen new.guests.items) old.streams.items old.ready.items (members-sets (seen old.guests.items) (seen new.guests.items) guests.sets) i.told);
+  held = rw streams (IsHeld-same (guests_of old.guests.items) (guests_of new.guests.items) old.streams.items old.streams.items (λ k. handles-same (guests_of old.guests.items) (guests_of new.guests.items) k guests.handles) (λ k side. refl) i.held);
+  told = rw (streams, ready) (told-same (guests_of old.guests.items) (guests_of new.guests.items) old.streams.items old.ready.items (members-sets (guests_of old.guests.items) (guests_of new.guests.items) guests.sets) i.told);
 }
 
 -- the parts are the whole
 pub IsStore-counted : (old new : Inside) → CountsTables old new → CountsStreams new → IsSound (state_of new) → Agrees new → IsStore old → IsStore new
 IsStore-counted old new tables streams sound agrees i =
-    let count = same_count (seen old.guests.items) (seen new.guests.items) tables.sizes in
+    let count = same_count (guests_of old.guests.items) (guests_of new.guests.items) tables.sizes in
     record {
       sound = sound;
       held = agrees.held;
@@ -259,7 +259,7 @@ IsStore-counted old new tables streams sound agrees i =
       served = streams.served;
       kept = streams.kept;
       sets = tables.sets;
-      bytes = tables.bytes ∙ i.bytes ∙ sym (same_bytes (seen old.guests.items) (seen new.guests.items) tables.sizes);
+      bytes = tables.bytes ∙ i.bytes ∙ sym (same_bytes (guests_of old.guests.items) (guests_of new.guests.items) tables.sizes);
       few_guests = omega (arith, count, i.few_guests, length-map old.guests.items guest_of, length-map new.guests.items guest_of);
       few_streams = streams.few;
     }
@@ -285,20 +285,20 @@ pub record PutsGuests (old new : Inside) (put : List machine.Guest) : Type 0 whe
   pub live_sets : new.live_sets ≡ old.live_sets
   pub count : new.bytes ≡ old.bytes
   pub ready : new.ready ≡ old.ready
-  pub guests : seen new.guests.items ≡ put
+  pub guests : guests_of new.guests.items ≡ put
 
 -- other bytes in the memory of a guest
 abbrev pub PutsMemory : Inside → Inside → ℕ → List ℕ → Type 0
-PutsMemory old new g memory = PutsGuests old new (with_memory (seen old.guests.items) g memory)
+PutsMemory old new g memory = PutsGuests old new (with_memory (guests_of old.guests.items) g memory)
 
 -- the state then
-pub puts-state : (old new : Inside) (g : ℕ) (memory : List ℕ) → PutsMemory old new g memory → state_of new ≡ record (state_of old) { guests = with_memory (seen old.guests.items) g memory }
+pub puts-state : (old new : Inside) (g : ℕ) (memory : List ℕ) → PutsMemory old new g memory → state_of new ≡ record (state_of old) { guests = with_memory (guests_of old.guests.items) g memory }
 puts-state old new g memory h =
     rw (h.same.tag, h.same.limits, h.same.producers, h.same.kept, h.same.consumers, h.same.contexts, h.same.trapped, h.streams, h.guests) refl
 
 -- somebody was told where the memory of a guest lies
 abbrev pub TellsBase : Inside → Inside → ℕ → Ptr → Type 0
-TellsBase old new g base = PutsGuests old new (with_base (seen old.guests.items) g base)
+TellsBase old new g base = PutsGuests old new (with_base (guests_of old.guests.items) g base)
 
 -- the state then
 pub tells-state : (old new : Inside) (g : ℕ) (base : Ptr) → TellsBase old new g base → state_of new ≡ with_base_in (state_of old) g base
@@ -306,26 +306,26 @@ tells-state old new g base h =
     rw (h.same.tag, h.same.limits, h.same.producers, h.same.kept, h.same.consumers, h.same.contexts, h.same.trapped, h.streams, h.guests) refl
 
 -- guests with the memory lengths, the handles and the sets of those before
-IsStore-guests : (old new : Inside) (guests : List machine.Guest) → PutsGuests old new guests → GuestsKeep (seen old.guests.items) guests → IsStore old → IsStore new
+IsStore-guests : (old new : Inside) (guests : List machine.Guest) → PutsGuests old new guests → GuestsKeep (guests_of old.guests.items) guests → IsStore old → IsStore new
 IsStore-guests old new guests h keeps i =
-    let kept : GuestsKeep (seen old.guests.items) (seen new.guests.items) = rw h.guests keeps in
-    let state : state_of new ≡ record (state_of old) { guests = seen new.guests.items } = rw (h.same.tag, h.same.limits, h.same.producers, h.same.kept, h.same.consumers, h.same.contexts, h.same.trapped, h.streams) refl in
+    let kept : GuestsKeep (guests_of old.guests.items) (guests_of new.guests.items) = rw h.guests keeps in
+    let state : state_of new ≡ record (state_of old) { guests = guests_of new.guests.items } = rw (h.same.tag, h.same.limits, h.same.producers, h.same.kept, h.same.consumers, h.same.contexts, h.same.trapped, h.streams) refl in
     IsStore-counted old new
     (kept_tables old new (record { limits = h.same.limits; counter = h.counter; live_sets = h.live_sets; bytes = h.count; guests = kept }) i)
     (kept_streams old new h.streams h.live_streams (record { producers = h.same.producers; kept = h.same.kept; consumers = h.same.consumers }) i)
-    (rw state (IsSound-guests (state_of old) (seen new.guests.items) kept i.sound))
+    (rw state (IsSound-guests (state_of old) (guests_of new.guests.items) kept i.sound))
     (agrees_still old new kept (ap (λ (v : _). v.items) h.streams) h.ready i) i
 
 pub IsStore-base : (old new : Inside) (g : ℕ) (base : Ptr) → TellsBase old new g base → IsStore old → IsStore new
-IsStore-base old new g base h i = IsStore-guests old new _ h (with_base-keeps (seen old.guests.items) g base) i
+IsStore-base old new g base h i = IsStore-guests old new _ h (with_base-keeps (guests_of old.guests.items) g base) i
 
 -- bytes as many as before
-pub IsStore-memory : (old new : Inside) (g : ℕ) (memory : List ℕ) → PutsMemory old new g memory → length memory ≡ length (memory_in (seen old.guests.items) g) → IsStore old → IsStore new
-IsStore-memory old new g memory h size i = IsStore-guests old new _ h (with_memory-keeps (seen old.guests.items) g memory size) i
+pub IsStore-memory : (old new : Inside) (g : ℕ) (memory : List ℕ) → PutsMemory old new g memory → length memory ≡ length (memory_in (guests_of old.guests.items) g) → IsStore old → IsStore new
+IsStore-memory old new g memory h size i = IsStore-guests old new _ h (with_memory-keeps (guests_of old.guests.items) g memory size) i
 
 -- bytes put into a guest's memory
 abbrev pub PutsBytes : Inside → Inside → ℕ → ℕ → List ℕ → Type 0
-PutsBytes old new g address bytes = PutsMemory old new g (put_at (memory_in (seen old.guests.items) g) address bytes)
+PutsBytes old new g address bytes = PutsMemory old new g (put_at (memory_in (guests_of old.guests.items) g) address bytes)
 
 pub performs-poke : (old new : Inside) (g address : ℕ) (bytes : List ℕ) → PutsBytes old new g address bytes → performs (state_of old) (OnMemory g (Poke address bytes)) ≡ goes replies.Done (state_of new)
 unfolding performs
@@ -333,7 +333,7 @@ performs-poke old new g address bytes h = ap (goes replies.Done) (sym (puts-stat
 
 pub IsStore-put : (old new : Inside) (g address : ℕ) (bytes : List ℕ) → PutsBytes old new g address bytes → BytesFit (state_of old) g address (length bytes) → IsStore old → IsStore new
 IsStore-put old new g address bytes h fits i =
-    IsStore-memory old new g _ h (length-poked (memory_in (seen old.guests.items) g) address bytes fits.inside) i
+    IsStore-memory old new g _ h (length-poked (memory_in (guests_of old.guests.items) g) address bytes fits.inside) i
 
 pub IsStore-poke : (old new : Inside) (g address : ℕ) (bytes : List ℕ) → PutsBytes old new g address bytes → refusal (state_of old) (OnMemory g (Poke address bytes)) ≡ None → IsStore old → IsStore new
 IsStore-poke old new g address bytes h e s =
@@ -353,7 +353,7 @@ pub record TakesTurn (old new : Inside) (s : ℕ) (t : Turn) : Type 0 where
   pub live_streams : new.live_streams ≡ old.live_streams
   pub live_sets : new.live_sets ≡ old.live_sets
   pub bytes : new.bytes ≡ old.bytes
-  pub guests : seen new.guests.items ≡ t.guests
+  pub guests : guests_of new.guests.items ≡ t.guests
   pub streams : new.streams.items ≡ set old.streams.items s t.stream
   pub retold : Retells t.guests t.stream old.ready.items new.ready.items
 
@@ -368,9 +368,9 @@ pub live_sum : (streams : List Stream) (s : ℕ) (stream : Stream) → s < lengt
 live_sum streams s stream l = sum_by-set live_weight streams s stream no_stream l
 
 -- what is known of the ends of the stream is as the turn left them
-agrees_turned : (old new : Inside) (s : ℕ) (t : Turn) → s < length old.streams.items → TurnKeeps (seen old.guests.items) (stream_at (state_of old) s) t → TakesTurn old new s t → IsStore old → Agrees new
+agrees_turned : (old new : Inside) (s : ℕ) (t : Turn) → s < length old.streams.items → TurnKeeps (guests_of old.guests.items) (stream_at (state_of old) s) t → TakesTurn old new s t → IsStore old → Agrees new
 agrees_turned old new s t l keeps h i =
-    let before = seen old.guests.items in
+    let before = guests_of old.guests.items in
     let held : IsHeld t.guests (set old.streams.items s t.stream) = IsHeld-same before t.guests old.streams.items (set old.streams.items s t.stream)
     (λ k. handles-same before t.guests k keeps.guests.handles)
     (λ k side. owner-set_stays old.streams.items s t.stream k side (record { writer = keeps.stream.writer; reader = keeps.stream.reader })) i.held in
@@ -383,7 +383,7 @@ agrees_turned old new s t l keeps h i =
     }
 
 -- guests and one stream as a turn left them, which keeps handles, memory lengths, type and owners
-pub IsStore-turn : (old new : Inside) (s : ℕ) (t : Turn) → s < length old.streams.items → TurnKeeps (seen old.guests.items) (stream_at (state_of old) s) t → TakesTurn old new s t → IsStore old → IsStore new
+pub IsStore-turn : (old new : Inside) (s : ℕ) (t : Turn) → s < length old.streams.items → TurnKeeps (guests_of old.guests.items) (stream_at (state_of old) s) t → TakesTurn old new s t → IsStore old → IsStore new
 IsStore-turn old new s t l keeps h i =
     let before = stream_at (state_of old) s in
     let owners : is_live t.stream ≡ is_live before = rw (keeps.stream.writer, keeps.stream.reader) refl in
@@ -407,10 +407,10 @@ pub IsStore-kept : (s : Inside) (producers : List Producer) (consumers : List Co
 IsStore-kept s producers consumers h k i =
     let new = record s { producers = producers; consumers = consumers } in
     IsStore-counted s new
-    (kept_tables s new (record { limits = refl; counter = refl; live_sets = refl; bytes = refl; guests = all_kept (seen s.guests.items) }) i)
+    (kept_tables s new (record { limits = refl; counter = refl; live_sets = refl; bytes = refl; guests = all_kept (guests_of s.guests.items) }) i)
     (record { live = i.streams; served = h; kept = k; few = i.few_streams })
     (IsSound-same (state_of s) (state_of new) refl refl refl i.sound)
-    (agrees_still s new (all_kept (seen s.guests.items)) refl refl i) i
+    (agrees_still s new (all_kept (guests_of s.guests.items)) refl refl i) i
 
 pub stream_at-there : (s : Inside) (stream : ℕ) (x : Stream) → stream < length s.streams.items → x ≡ get_or s.streams.items stream x → stream_at (state_of s) stream ≡ x
 stream_at-there s stream x l e = get_or_default s.streams.items stream no_stream x l ∙ sym e
@@ -435,13 +435,13 @@ stream_made old writer reader ty =
 pub record MakesStream (old new : Inside) (writer reader : ℕ) (ty : TransmitIndex) : Type 0 where
   pub same : SameBut old new
   pub counter : new.counter ≡ counted (counted old.counter)
-  pub live : live_in (seen new.guests.items) ≡ live_in (seen old.guests.items) + 2
+  pub live : live_in (guests_of new.guests.items) ≡ live_in (guests_of old.guests.items) + 2
   pub live_streams : new.live_streams ≡ old.live_streams + 1
   pub live_sets : new.live_sets ≡ old.live_sets
   pub bytes : new.bytes ≡ old.bytes
-  pub guests : seen new.guests.items ≡ with_ends (seen old.guests.items) writer reader ty (length old.streams.items)
+  pub guests : guests_of new.guests.items ≡ with_ends (guests_of old.guests.items) writer reader ty (length old.streams.items)
   pub streams : new.streams.items ≡ old.streams.items ++ stream_made old writer reader ty ∷ []
-  pub retold : Retells (seen new.guests.items) (stream_made old writer reader ty) old.ready.items new.ready.items
+  pub retold : Retells (guests_of new.guests.items) (stream_made old writer reader ty) old.ready.items new.ready.items
 
 state_of-made : (old new : Inside) (writer reader : ℕ) (ty : TransmitIndex) → MakesStream old new writer reader ty → state_of new ≡ with_stream (state_of old) writer reader ty
 unfolding with_stream
@@ -470,22 +470,22 @@ members-made guests writer reader ty s k number handle =
 -- what is known of the ends of the stream is as they were made
 agrees_made : (old new : Inside) (writer reader : ℕ) (ty : TransmitIndex) → MakesStream old new writer reader ty → PairFits (state_of old) writer reader ty → IsStore old → Agrees new
 agrees_made old new writer reader ty h fits i =
-    let guests = seen old.guests.items in
+    let guests = guests_of old.guests.items in
     let stream = stream_made old writer reader ty in
     let s = length old.streams.items in
     let held : StateIsHeld (state_of new) = subst StateIsHeld (sym (state_of-made old new writer reader ty h)) (between_held (state_of old) writer reader ty fits i.held) in
     record {
       held = held;
       told = rw h.streams
-          (told-retold (seen new.guests.items) (old.streams.items ++ stream ∷ []) s (rw h.streams at held) old.ready.items new.ready.items stream (get_or_push old.streams.items stream no_stream s refl)
-          (but-besides guests (seen new.guests.items) old.streams.items (old.streams.items ++ stream ∷ []) s old.ready.items (λ k number handle. ap (λ (x : _). member_of x k number handle) h.guests ∙ members-made guests writer reader ty s k number handle) (besides-push old.streams.items stream) i.told)
+          (told-retold (guests_of new.guests.items) (old.streams.items ++ stream ∷ []) s (rw h.streams at held) old.ready.items new.ready.items stream (get_or_push old.streams.items stream no_stream s refl)
+          (but-besides guests (guests_of new.guests.items) old.streams.items (old.streams.items ++ stream ∷ []) s old.ready.items (λ k number handle. ap (λ (x : _). member_of x k number handle) h.guests ∙ members-made guests writer reader ty s k number handle) (besides-push old.streams.items stream) i.told)
           h.retold);
     }
 
 pub IsStore-made : (old new : Inside) (writer reader : ℕ) (ty : TransmitIndex) → MakesStream old new writer reader ty → refusal (state_of old) (Make (Between writer reader ty)) ≡ None → IsStore old → IsStore new
 IsStore-made old new writer reader ty h e i =
     let fits = pair_fits (state_of old) writer reader ty e in
-    let guests = seen old.guests.items in
+    let guests = guests_of old.guests.items in
     let stream = stream_made old writer reader ty in
     let live : count_by is_live new.streams.items ≡ count_by is_live old.streams.items + 1 = ap (count_by is_live) h.streams ∙ sum_by_push live_weight old.streams.items stream in
     IsStore-counted old new
@@ -511,7 +511,7 @@ IsStore-made old new writer reader ty h e i =
 -- the numbers that the two handles got
 abbrev pub numbers_of : Inside → ℕ → ℕ → TransmitIndex → ℕ → ℕ × ℕ
 numbers_of old writer reader ty stream =
-    (next_index (guest_in (seen old.guests.items) reader).handles, next_index (guest_in (with_read_end (seen old.guests.items) reader ty stream) writer).handles)
+    (next_index (guest_in (guests_of old.guests.items) reader).handles, next_index (guest_in (with_read_end (guests_of old.guests.items) reader ty stream) writer).handles)
 
 pub joined_is : (old : Inside) (writer reader : ℕ) (ty : TransmitIndex) (numbers : ℕ × ℕ) (joined : Stream) → numbers ≡ numbers_of old writer reader ty (length old.streams.items) → joined ≡ made_stream ty writer numbers.1 reader numbers.0 → joined ≡ stream_made old writer reader ty
 joined_is old writer reader ty numbers joined n j =

@@ -24,7 +24,7 @@ use Rattle.strm_machine.proofs.TableLemmas.{owner_in, set-keeps, at_push, owner-
 use Rattle.strm_machine.proofs.TurnLemmas.{sets_of}
 use Rattle.strm_machine.specs.State.{no_guest}
 use Rattle.std.proofs.Math.ListN.{get_or-map}
-use Rattle.strm_waitable_sets.specs.Sets.{no_sets, set_of, left, joined}
+use Rattle.strm_waitable_sets.specs.Sets.{no_sets, set_of, handle_left, handle_joined}
 use Rattle.strm_waitable_sets.proofs.SetLemmas.{is_member-left_same, is_member-left_other, is_member-joined_same, is_member-joined_other}
 use Rattle.strm_waitable_sets.proofs.TieLemmas.{eq-other}
 use Rattle.strm_transmit.specs.Telling.{Ready, SaysOf, member_of, has_report, AreTold, Retells, Leaves}
@@ -159,16 +159,16 @@ module _ (guests others : List Guest) (streams : List Stream) (s g handle : ℕ)
       never (sym member ∙ ap (λ n. member_of others n number other) here ∙ ap (member_of others g number) same ∙ leaves.gone number)
 
   pub but-left : (old new : Ready) (home : Option ℕ) → home ≡ set_of (sets_in guests g) handle → Leaves g handle home old new → ToldBut guests streams s old → ToldBut others streams s new
-  but-left old new home is left but = record {
+  but-left old new home is handle_left but = record {
     told = λ k number other n side ne owner member.
         let apart = beside k number other member in
-        left.others k number other (has_report side (get_or streams n no_stream)) (but.told k number other n side ne owner (sym (leaves.rest k number other apart) ∙ member)) apart;
+        handle_left.others k number other (has_report side (get_or streams n no_stream)) (but.told k number other n side ne owner (sym (leaves.rest k number other apart) ∙ member)) apart;
     within = λ k number other none.
         ⊎_elim
         (λ same.
-        let says = left.gone number (λ ne. but.within g number handle (ap (λ o. is_number o number) (sym is) ∙ no_member home number ne)) in
+        let says = handle_left.gone number (λ ne. but.within g number handle (ap (λ o. is_number o number) (sym is) ∙ no_member home number ne)) in
         subst (λ n. SaysOf new n number other false) (sym same.0) (subst (λ h. SaysOf new g number h false) (sym same.1) says))
-        (λ apart. left.others k number other false (but.within k number other (sym (leaves.rest k number other apart) ∙ none)) apart)
+        (λ apart. handle_left.others k number other false (but.within k number other (sym (leaves.rest k number other apart) ∙ none)) apart)
         (one_pair k g other handle);
   }
 
@@ -177,10 +177,10 @@ pub as_but : (guests : List Guest) (streams : List Stream) (s : ℕ) (ready : Re
 as_but guests streams s ready h = record { told = λ g number handle k side ne. h.told g number handle k side; within = h.within }
 
 -- a table with the sets that the handle left
-pub leaves-left : (guests : List Guest) (g : ℕ) (handles : Handles) (handle : ℕ) → g < length guests → LeavesSet guests (with_table guests g handles (left (sets_in guests g) handle)) g handle
+pub leaves-left : (guests : List Guest) (g : ℕ) (handles : Handles) (handle : ℕ) → g < length guests → LeavesSet guests (with_table guests g handles (handle_left (sets_in guests g) handle)) g handle
 leaves-left guests g handles handle l =
-    let after = with_table guests g handles (left (sets_in guests g) handle) in
-    let here : ◌≡◌ {A = Sets} (sets_in after g) (left (sets_in guests g) handle) = ap (λ (x : Guest). x.sets) (get_or-set_same guests g (record (guest_in guests g) { handles = handles; sets = left (sets_in guests g) handle }) no_guest l) in
+    let after = with_table guests g handles (handle_left (sets_in guests g) handle) in
+    let here : ◌≡◌ {A = Sets} (sets_in after g) (handle_left (sets_in guests g) handle) = ap (λ (x : Guest). x.sets) (get_or-set_same guests g (record (guest_in guests g) { handles = handles; sets = handle_left (sets_in guests g) handle }) no_guest l) in
     record {
       gone = λ number. ap (λ (x : Sets). is_member x number handle) here ∙ is_member-left_same (sets_in guests g) handle number;
       rest = λ k number other apart.
@@ -188,16 +188,16 @@ leaves-left guests g handles handle l =
           (λ e.
           ap (λ n. member_of after n number other) e ∙ ap (λ (x : Sets). is_member x number other) here
           ∙ is_member-left_other (sets_in guests g) handle number other (apart e) ∙ ap (λ n. member_of guests n number other) (sym e))
-          (λ ne. ap (λ (x : Guest). is_member x.sets number other) (get_or-set_other guests g k (record (guest_in guests g) { handles = handles; sets = left (sets_in guests g) handle }) no_guest ne))
+          (λ ne. ap (λ (x : Guest). is_member x.sets number other) (get_or-set_other guests g k (record (guest_in guests g) { handles = handles; sets = handle_left (sets_in guests g) handle }) no_guest ne))
           (cases_eq k g);
     }
 
 -- of a store whose streams stay
 pub told-left : (guests others : List Guest) (streams : List Stream) (g handle : ℕ) (old new : Ready) (home : Option ℕ) → LeavesSet guests others g handle → home ≡ set_of (sets_in guests g) handle → Leaves g handle home old new → AreTold guests streams old → AreTold others streams new
-told-left guests others streams g handle old new home leaves is left h = record {
+told-left guests others streams g handle old new home leaves is handle_left h = record {
   told = λ k number other n side owner member.
-      (but-left guests others streams (suc n) g handle leaves old new home is left (as_but guests streams (suc n) old h)).told k number other n side (λ e. let no : n ≡ suc n = e in omega (arith, no)) owner member;
-  within = (but-left guests others streams 0 g handle leaves old new home is left (as_but guests streams 0 old h)).within;
+      (but-left guests others streams (suc n) g handle leaves old new home is handle_left (as_but guests streams (suc n) old h)).told k number other n side (λ e. let no : n ≡ suc n = e in omega (arith, no)) owner member;
+  within = (but-left guests others streams 0 g handle leaves old new home is handle_left (as_but guests streams 0 old h)).within;
 }
 
 -- ## A handle that joins a set
@@ -207,10 +207,10 @@ pub record JoinsSet (guests others : List Guest) (g handle set : ℕ) : Type 0 w
   pub here : (number : ℕ) → member_of others g number handle ≡ nat_eq set number
   pub rest : (k number other : ℕ) → (k ≡ g → other ≢ handle) → member_of others k number other ≡ member_of guests k number other
 
-pub joins-joined : (guests : List Guest) (g : ℕ) (handles : Handles) (handle number : ℕ) → g < length guests → JoinsSet guests (with_table guests g handles (joined (sets_in guests g) handle number)) g handle number
+pub joins-joined : (guests : List Guest) (g : ℕ) (handles : Handles) (handle number : ℕ) → g < length guests → JoinsSet guests (with_table guests g handles (handle_joined (sets_in guests g) handle number)) g handle number
 joins-joined guests g handles handle set l =
-    let after = with_table guests g handles (joined (sets_in guests g) handle set) in
-    let here : ◌≡◌ {A = Sets} (sets_in after g) (joined (sets_in guests g) handle set) = ap (λ (x : Guest). x.sets) (get_or-set_same guests g (record (guest_in guests g) { handles = handles; sets = joined (sets_in guests g) handle set }) no_guest l) in
+    let after = with_table guests g handles (handle_joined (sets_in guests g) handle set) in
+    let here : ◌≡◌ {A = Sets} (sets_in after g) (handle_joined (sets_in guests g) handle set) = ap (λ (x : Guest). x.sets) (get_or-set_same guests g (record (guest_in guests g) { handles = handles; sets = handle_joined (sets_in guests g) handle set }) no_guest l) in
     record {
       here = λ number. ap (λ (x : Sets). is_member x number handle) here ∙ is_member-joined_same (sets_in guests g) handle set number;
       rest = λ k number other apart.
@@ -218,7 +218,7 @@ joins-joined guests g handles handle set l =
           (λ e.
           ap (λ n. member_of after n number other) e ∙ ap (λ (x : Sets). is_member x number other) here
           ∙ is_member-joined_other (sets_in guests g) handle set number other (apart e) ∙ ap (λ n. member_of guests n number other) (sym e))
-          (λ ne. ap (λ (x : Guest). is_member x.sets number other) (get_or-set_other guests g k (record (guest_in guests g) { handles = handles; sets = joined (sets_in guests g) handle set }) no_guest ne))
+          (λ ne. ap (λ (x : Guest). is_member x.sets number other) (get_or-set_other guests g k (record (guest_in guests g) { handles = handles; sets = handle_joined (sets_in guests g) handle set }) no_guest ne))
           (cases_eq k g);
     }
 
@@ -239,7 +239,7 @@ module _ (guests others : List Guest) (streams : List Stream) (g handle set : �
   pub told-joined : (old between new : Ready) → Leaves g handle home old between → Joins g set handle is_empty is_ready between new
       → (is_empty ≡ true → (other : ℕ) → member_of guests g set other ≡ false)
       → SaysReport → AreTold guests streams old → AreTold others streams new
-  told-joined old between new left joined empty ready h = record {
+  told-joined old between new handle_left handle_joined empty ready h = record {
     told = λ k number other s side owner member.
         ⊎_elim
         (λ same.
@@ -247,11 +247,11 @@ module _ (guests others : List Guest) (streams : List Stream) (g handle set : �
         let member_is : member_of others g number handle ≡ true = sym (ap (λ n. member_of others n number other) same.0 ∙ ap (member_of others g number) same.1) ∙ member in
         let number_is : set ≡ number = eqb_is set number (sym (joins.here number) ∙ member_is) in
         let says : SaysOf new g number handle (has_report side (get_or streams s no_stream)) =
-        subst (λ n. SaysOf new g n handle (has_report side (get_or streams s no_stream))) number_is (subst (SaysOf new g set handle) (ready s side owner_is) joined.told) in
+        subst (λ n. SaysOf new g n handle (has_report side (get_or streams s no_stream))) number_is (subst (SaysOf new g set handle) (ready s side owner_is) handle_joined.told) in
         subst (λ n. SaysOf new n number other (has_report side (get_or streams s no_stream))) (sym same.0) (subst (λ q. SaysOf new g number q (has_report side (get_or streams s no_stream))) (sym same.1) says))
         (λ apart.
         let was : member_of guests k number other ≡ true = sym (joins.rest k number other apart) ∙ member in
-        joined.others k number other _ (left.others k number other _ (h.told k number other s side owner was) apart) (λ e _. apart e)
+        handle_joined.others k number other _ (handle_left.others k number other _ (h.told k number other s side owner was) apart) (λ e _. apart e)
         (λ e f t. absurd (never (sym was ∙ ap (λ n. member_of guests n number other) e ∙ ap (λ n. member_of guests g n other) f ∙ empty t other))))
         (one_pair k g other handle);
     within = λ k number other none.
@@ -259,10 +259,10 @@ module _ (guests others : List Guest) (streams : List Stream) (g handle set : �
         (λ same.
         let none_is : member_of others g number handle ≡ false = sym (ap (λ n. member_of others n number other) same.0 ∙ ap (member_of others g number) same.1) ∙ none in
         let apart : number ≢ set = λ e. never (sym (ap (nat_eq set) e ∙ nat_eq_equiv.refl set) ∙ sym (joins.here number) ∙ none_is) in
-        let gone = left.gone number (λ ne. h.within g number handle (ap (λ o. is_number o number) (sym is) ∙ no_member home number ne)) in
-        let says = joined.others g number handle false gone (λ _ f. absurd (apart f)) (λ _ _ _. refl) in
+        let gone = handle_left.gone number (λ ne. h.within g number handle (ap (λ o. is_number o number) (sym is) ∙ no_member home number ne)) in
+        let says = handle_joined.others g number handle false gone (λ _ f. absurd (apart f)) (λ _ _ _. refl) in
         subst (λ n. SaysOf new n number other false) (sym same.0) (subst (λ q. SaysOf new g number q false) (sym same.1) says))
-        (λ apart. joined.others k number other false (left.others k number other false (h.within k number other (sym (joins.rest k number other apart) ∙ none)) apart) (λ e _. apart e) (λ _ _ _. refl))
+        (λ apart. handle_joined.others k number other false (handle_left.others k number other false (h.within k number other (sym (joins.rest k number other apart) ∙ none)) apart) (λ e _. apart e) (λ _ _ _. refl))
         (one_pair k g other handle);
   }
 

@@ -15,18 +15,18 @@ use Rattle.strm_machine.specs.declared.streams.HostEnd.TheVariants as ends
 use Rattle.strm_machine.specs.declared.streams.Operation.{Operation}
 use Rattle.strm_host_machine.specs.World.{World}
 use Rattle.strm_host_machine.specs.Outcomes.{Outcome}
-use Rattle.strm_host_machine.specs.Producing.{producer_turn}
-use Rattle.strm_host_machine.specs.Consuming.{consumer_turn}
+use Rattle.strm_host_machine.specs.WriterTurn.{writer_turn}
+use Rattle.strm_host_machine.specs.ReaderTurn.{reader_turn}
 use Rattle.strm_host_machine.specs.Does.{Logs, world_of}
-use Rattle.strm_host_machine.proofs.ConsumeLemmas.{IsPolledWith, turn-reader_failed}
+use Rattle.strm_host_machine.proofs.ReaderTurnLemmas.{IsPolledWith, turn-reader_failed}
 use Rattle.strm_host_machine.proofs.DoesLemmas.{rose_more, Does-as}
 use Rattle.strm_host_machine.proofs.PollLemmas.{IsServing}
-use Rattle.strm_host_machine.proofs.TurnLemmas.{IsPolledFor, turn-failed}
-use Rattle.strm_host_turns.specs.Turning.{Scene, Wants, TurnsEmpty, TurnsHolding, Turns}
-use Rattle.strm_host_turns.specs.declared.turns.TurnError.{TurnError}
-use Rattle.strm_host_turns.specs.declared.turns.TurnError.TheVariants.{Failed, OutOfMemory, Broke}
+use Rattle.strm_host_machine.proofs.WriterTurnLemmas.{IsPolledFor, turn-failed}
+use Rattle.strm_host_turns.specs.WriterTurns.{WriterScene, WriterWants, IsEmptyWriterTurn, IsHoldingWriterTurn, IsWriterTurn}
+use Rattle.strm_host_turns.specs.declared.writer_turns.WriterStops.{WriterStops}
+use Rattle.strm_host_turns.specs.declared.writer_turns.WriterStops.TheVariants.{Failed, OutOfMemory, Broke}
 use Rattle.strm_host_turns.proofs.StepLemmas.{scene_in, told_in}
-use Rattle.strm_transmit.specs.Turning.{stops_by}
+use Rattle.strm_transmit.specs.Turning.{stop_of_writer}
 use Rattle.strm_transmit.specs.WantsMemory.{ProducesNone, TakesNone, writer_failed, reader_failed, FailsOnce, WantsInPoll, IfWanting}
 use Rattle.strm_transmit.specs.declared.errors.StoreError.{StoreError}
 use Rattle.strm_transmit.specs.declared.errors.StoreError.TheVariants as errors
@@ -93,11 +93,11 @@ fails_reader tells r t said p = (said, p, ap (λ rs. record tells { readers = rs
 
 -- ## A turn
 
-module _ (old : State) (tells told : Tells) (n s : ℕ) (read : Operation) (i : IsServing old tells n s) (new : Scene) (ends_so : told ≡ told_in tells n new) where
+module _ (old : State) (tells told : Tells) (n s : ℕ) (read : Operation) (i : IsServing old tells n s) (new : WriterScene) (ends_so : told ≡ told_in tells n new) where
   abbrev TurnWants : Type 0
-  TurnWants = WantsInPoll old tells told (λ w. producer_turn w s n read)
+  TurnWants = WantsInPoll old tells told (λ w. writer_turn w s n read)
 
-  polled_wants : (told_by tells n).holds ≡ [] → (producer_at old n).over ≡ false → (items : List Item) → Wants (scene_in old tells n s) new read items → TurnWants
+  polled_wants : (told_by tells n).holds ≡ [] → (producer_at old n).over ≡ false → (items : List Item) → WriterWants (scene_in old tells n s) new read items → TurnWants
   polled_wants e over items w =
       let said = none_from new.tells (Some read.left) read.asked in
       let after = writer_failed new.tells said in
@@ -110,23 +110,23 @@ module _ (old : State) (tells told : Tells) (n s : ℕ) (read : Operation) (i : 
         does = turn-failed old tells n s read i said after polled old refl refl;
       }
 
-  empty_wants : (over : Bool) → (told_by tells n).holds ≡ [] → (producer_at old n).over ≡ over → TurnsEmpty over (Err OutOfMemory) (scene_in old tells n s) new read → TurnWants
+  empty_wants : (over : Bool) → (told_by tells n).holds ≡ [] → (producer_at old n).over ≡ over → IsEmptyWriterTurn over (Err OutOfMemory) (scene_in old tells n s) new read → TurnWants
   empty_wants true e o t = cc (t.0)
   empty_wants false e o t = polled_wants e o t.0 t.1
 
-  holding_wants : (held : List Item) → (told_by tells n).holds ≡ held → TurnsHolding held (Err OutOfMemory) (scene_in old tells n s) new read → TurnWants
+  holding_wants : (held : List Item) → (told_by tells n).holds ≡ held → IsHoldingWriterTurn held (Err OutOfMemory) (scene_in old tells n s) new read → TurnWants
   holding_wants (item ∷ items) e t = cc (t.0)
   holding_wants [] e t = empty_wants (producer_at old n).over e refl t
 
   -- of a host writer
-  pub turn_wants : (e : TurnError) → Turns (Err e) (scene_in old tells n s) new read → IfWanting (stops_by e n) TurnWants
+  pub turn_wants : (e : WriterStops) → IsWriterTurn (Err e) (scene_in old tells n s) new read → IfWanting (stop_of_writer e n) TurnWants
   turn_wants Failed t = tt
   turn_wants Broke t = tt
   turn_wants OutOfMemory t = holding_wants (told_by tells n).holds refl t
 
 -- of a host reader, which is there
 module _ (old : State) (tells told : Tells) (r s : ℕ) (write : Operation) (there : r < length tells.readers) (t : ReaderTells) (ends_so : told ≡ with_told_reader tells r t) where
-  pub taking_wants : KeepsReader (told_by_reader tells r) t → WantsInPoll old tells told (λ w. consumer_turn w s r write)
+  pub taking_wants : KeepsReader (told_by_reader tells r) t → WantsInPoll old tells told (λ w. reader_turn w s r write)
   unfolding items
   taking_wants k =
       let said = none_to write.left (consumer_at old r).since write.asked in

@@ -23,20 +23,20 @@ use Rattle.strm_host_machine.specs.HostRefusals.{refusal_in}
 use Rattle.strm_host_machine.specs.LastRecord.{HaltsByRecord}
 use Rattle.strm_host_machine.specs.Steps.{outcome, may_poll, touches}
 use Rattle.strm_host_machine.specs.Does.{Logs, world_of, Answered, FitsWriter, FitsReader, Fits, Does}
-use Rattle.strm_transmit.specs.Meets.{Meets, replied, act_takes_memory}
+use Rattle.strm_transmit.specs.Meets.{Meets, as_reply, act_takes_memory}
 use Rattle.strm_transmit.specs.WantsMemory.{WantsIn, IfWanting}
 use Rattle.strm_transmit.specs.declared.errors.StoreError.{StoreError}
 use Rattle.strm_transmit.specs.declared.errors.StoreError.TheVariants.{Refused, HostFailed, HostBroke, BadItem, StoreTrapped, OutOfMemory}
 
 -- an answer, a refusal among them, or the cause of a stop; none for want of memory
-abbrev pub answered : Result Reply StoreError → Answered
-answered (Ok reply) = Ok reply
-answered (Err (Refused refusal)) = Ok (replies.Refused refusal)
-answered (Err (HostFailed end)) = Err (Some (stops.HostFailed end))
-answered (Err (HostBroke end)) = Err (Some (stops.HostBroke end))
-answered (Err (BadItem stream)) = Err (Some (stops.BadItem stream))
-answered (Err StoreTrapped) = Err (Some stops.StoreTrapped)
-answered (Err OutOfMemory) = Err None
+abbrev pub call_answered : Result Reply StoreError → Answered
+call_answered (Ok reply) = Ok reply
+call_answered (Err (Refused refusal)) = Ok (replies.Refused refusal)
+call_answered (Err (HostFailed end)) = Err (Some (stops.HostFailed end))
+call_answered (Err (HostBroke end)) = Err (Some (stops.HostBroke end))
+call_answered (Err (BadItem stream)) = Err (Some (stops.BadItem stream))
+call_answered (Err StoreTrapped) = Err (Some stops.StoreTrapped)
+call_answered (Err OutOfMemory) = Err None
 
 -- if host end n is in use, it is there, with its stream's kind and payload: on the writing side a host
 -- writer, on the reading side a host reader
@@ -71,7 +71,7 @@ pub record MayBeDone (state : State) (tells : Tells) (act : Act) : Type 0 where
   pub none : (logs : Logs) → refusal_in (world_of state tells logs) act ≡ None
 
 -- store and host ends are as they were
-pub record Stays (old new : State) (tells told : Tells) : Type 0 where
+pub record StoreStays (old new : State) (tells told : Tells) : Type 0 where
   pub same : new ≡ old
   pub ends : told ≡ tells
 
@@ -83,13 +83,13 @@ pub record TrapsWanting (act : Act) (old new : State) (tells told : Tells) : Typ
 -- what it leaves: that where a host end may be polled; anywhere else nothing has changed
 abbrev pub Wanting : Bool → Act → State → State → Tells → Tells → Type 0
 Wanting true act old new tells told = TrapsWanting act old new tells told
-Wanting false act old new tells told = Stays old new tells told
+Wanting false act old new tells told = StoreStays old new tells told
 
 -- what an error leaves: a refusal and a store that was trapped change nothing, and a stop traps the
 -- store
 abbrev pub Leaves : Act → State → State → Tells → Tells → StoreError → Type 0
-Leaves act old new tells told (Refused refusal) = Stays old new tells told
-Leaves act old new tells told StoreTrapped = Stays old new tells told
+Leaves act old new tells told (Refused refusal) = StoreStays old new tells told
+Leaves act old new tells told StoreTrapped = StoreStays old new tells told
 Leaves act old new tells told OutOfMemory = Wanting (may_poll (lone old) act) act old new tells told
 Leaves act old new tells told _ = new.trapped ≡ true
 
@@ -132,7 +132,7 @@ IsStop _ = Unit {0}
 -- a part of a step among host ends, and its answer: the machine does the same, and the store needs these host ends
 -- still; an error is a stop, and traps the store; for want of memory host ends tell what `Wants` says
 pub record IsPartAs {T : Type 0} (reply : T → Reply) (old new : State) (tells told : Tells) (result : Result T StoreError) (part : World → Outcome) (Wants : (World → Outcome) → State → Tells → Tells → Type 0) : Type 0 where
-  pub does : Does old new tells told (answered (replied reply result)) part
+  pub does : Does old new tells told (call_answered (as_reply reply result)) part
   pub fits : Fits new told
   pub stop : IfErr result IsStop
   pub trapped : IfErr result (λ _. new.trapped ≡ true)
@@ -151,7 +151,7 @@ pub record MeetsAlone (old new : State) (tells told : Tells) (result : Result Re
 -- failed, or broke its rules, says so by its last record. Memory is wanting only where the step may be done, so
 -- never in place of a refusal
 pub record MeetsHosted (old new : State) (tells told : Tells) (result : Result Reply StoreError) (act : Act) : Type 0 where
-  pub does : Does old new tells told (answered result) (λ world. outcome world act)
+  pub does : Does old new tells told (call_answered result) (λ world. outcome world act)
   pub fits : Fits new told
   pub alone : touches (lone old) act ≡ false → MeetsAlone old new tells told result act
   pub err : IfErr result (Leaves act old new tells told)

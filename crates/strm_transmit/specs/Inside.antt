@@ -14,23 +14,23 @@ use Rattle.strm_machine.specs.declared.streams.Producer.{Producer}
 use Rattle.strm_machine.specs.declared.streams.Side.{Side}
 use Rattle.strm_machine.specs.declared.streams.Stream.{Stream}
 use Rattle.strm_machine.proofs.HeldLemmas.{StateIsHeld}
-use Rattle.strm_channels.specs.Guests.{seen}
+use Rattle.strm_channels.specs.Guests.{guests_of}
 use Rattle.strm_transmit.specs.Telling.{AreTold}
 use Rattle.strm_transmit.specs.declared.store.Store.TheInside.{Inside}
 
 -- of host writers for which the store has no place yet nothing is kept
-abbrev pub padded : List TypedItems → List (List Item)
-padded kept = map (λ k. k.items) kept ++ replicate (host_limit - length kept) []
+abbrev pub padded_items : List TypedItems → List (List Item)
+padded_items kept = map (λ k. k.items) kept ++ replicate (host_limit - length kept) []
 
 -- the machine's state, of which counters and room are no part
 abbrev pub state_of : Inside → State
 state_of s = record {
   tag = s.tag;
   limits = s.limits;
-  guests = seen s.guests.items;
+  guests = guests_of s.guests.items;
   streams = s.streams.items;
   producers = s.producers;
-  kept = padded s.kept.items;
+  kept = padded_items s.kept.items;
   consumers = s.consumers;
   contexts = s.contexts;
   trapped = s.is_trapped;
@@ -67,7 +67,7 @@ pub record HavePlaces (producers : List Producer) (kept : List TypedItems) (stre
 pub record IsStore (s : Inside) : Type 0 where
   pub sound : IsSound (state_of s)
   pub held : StateIsHeld (state_of s)
-  pub told : AreTold (seen s.guests.items) s.streams.items s.ready.items
+  pub told : AreTold (guests_of s.guests.items) s.streams.items s.ready.items
   pub limit : s.counter.limit ≡ s.limits.handles
   pub live : s.counter.live ≡ handles_in_use (state_of s)
   pub within : s.counter.live ≤ s.counter.limit

@@ -37,9 +37,9 @@ Meets old new (Err StoreTrapped) reaction = (reaction ≡ goes replies.StoreTrap
 Meets old new (Err OutOfMemory) reaction = (is_done reaction.reply ≡ true) × (new ≡ old)
 
 -- an answer as the reply that it is
-abbrev pub replied : {T : Type 0} → (T → Reply) → Result T StoreError → Result Reply StoreError
-replied f (Ok value) = Ok (f value)
-replied f (Err error) = Err error
+abbrev pub as_reply : {T : Type 0} → (T → Reply) → Result T StoreError → Result Reply StoreError
+as_reply f (Ok value) = Ok (f value)
+as_reply f (Err error) = Err error
 
 -- what was looked for, or why it may not be had, as an answer
 abbrev pub as_answer : {T : Type 0} → Result T Refusal → Result T StoreError

@@ -1,7 +1,7 @@
 -- How the loose read end of a stream goes to a host reader in a store. Ours.
 use Rattle.std.specs.Prelude.{◌≡◌, ℕ, ◌<◌, true, length, slice_set}
 use Rattle.std.specs.Option.{option_map}
-use Rattle.strm_buffers.specs.Tells.{Tells, told_by, with_told, told_by_reader, with_told_reader, ClosesWriter, closed_reader}
+use Rattle.strm_buffers.specs.Tells.{Tells, told_by, with_told, told_by_reader, with_told_reader, ClosesWriter, reader_tells_closed}
 use Rattle.strm_machine.specs.State.{State, host_limit, no_consumer, producer_at, consumer_at, stream_at, is_loose}
 use Rattle.strm_machine.specs.Moves.{with_owner}
 use Rattle.strm_machine.specs.Reactions.{with_stream_at}
@@ -40,7 +40,7 @@ unread_in state s r =
 
 -- host reader r was closed
 abbrev pub reader_closed : Tells → ℕ → Tells
-reader_closed tells r = with_told_reader tells r (closed_reader (told_by_reader tells r))
+reader_closed tells r = with_told_reader tells r (reader_tells_closed (told_by_reader tells r))
 
 -- and so was host writer n, whose stream has no write end any more
 pub record WriterEnds (old new : State) (tells told : Tells) (n : ℕ) : Type 0 where

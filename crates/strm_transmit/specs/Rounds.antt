@@ -13,8 +13,8 @@ use Rattle.strm_host_machine.specs.Attaching.{has_items}
 use Rattle.strm_host_machine.specs.Piping.{offers, is_done_with, ends_if_done}
 use Rattle.strm_host_machine.specs.Does.{Fits}
 use Rattle.strm_host_turns.specs.Piping.{Fetching, fetching, Fetches, Offering, offering, Offers}
-use Rattle.strm_host_turns.specs.declared.taking.TakeError.{TakeError}
-use Rattle.strm_host_turns.specs.declared.turns.TurnError.{TurnError}
+use Rattle.strm_host_turns.specs.declared.reader_turns.ReaderStops.{ReaderStops}
+use Rattle.strm_host_turns.specs.declared.writer_turns.WriterStops.{WriterStops}
 
 -- the host writer and the host reader of a stream from one to the other
 abbrev pub ends_by : Owner → Owner → Option (ℕ × ℕ)
@@ -52,7 +52,7 @@ end_due state tells s n r answer =
     || ((producer_at state n).over && (not (has_items (held_on state tells n)) && not (consumer_at state r).resting))
 
 -- host writer n was polled for stream s
-pub record FetchesStream (old new : State) (tells told : Tells) (s n : ℕ) (result : Result (Unit {0}) TurnError) : Type 0 where
+pub record FetchesStream (old new : State) (tells told : Tells) (s n : ℕ) (result : Result (Unit {0}) WriterStops) : Type 0 where
   pub after : Fetching
   pub fetches : Fetches result (stream_at old s).kind (fetching (producer_at old n) (kept_at old n) (told_by tells n)) after
   pub state : new ≡ record old {
@@ -62,7 +62,7 @@ pub record FetchesStream (old new : State) (tells told : Tells) (s n : ℕ) (res
   pub ends : told ≡ with_told tells n after.tells
 
 -- host reader r was polled for stream s with all that is held
-pub record OffersStream (old new : State) (tells told : Tells) (s n r : ℕ) (result : Result Answer TakeError) : Type 0 where
+pub record OffersStream (old new : State) (tells told : Tells) (s n r : ℕ) (result : Result Answer ReaderStops) : Type 0 where
   pub after : Offering
   pub offers : Offers result
       (offering (stream_at old s) (consumer_at old r) (kept_at old n) (told_by tells n) (told_by_reader tells r)) after

@@ -17,15 +17,15 @@ use Rattle.strm_machine.specs.declared.streams.Stream.{Stream}
 use Rattle.strm_machine.specs.declared.streams.Owner.TheVariants.{Host}
 use Rattle.strm_host_machine.specs.World.{World}
 use Rattle.strm_host_machine.specs.Outcomes.{Outcome}
-use Rattle.strm_host_machine.specs.Producing.{producer_turn}
-use Rattle.strm_host_machine.specs.Consuming.{consumer_turn}
+use Rattle.strm_host_machine.specs.WriterTurn.{writer_turn}
+use Rattle.strm_host_machine.specs.ReaderTurn.{reader_turn}
 use Rattle.strm_host_machine.specs.Steps.{reads_from, writes_to}
-use Rattle.strm_host_turns.specs.Turning.{Scene, scene, Turns}
-use Rattle.strm_host_turns.specs.Taking.{Taking, taking, Takes}
-use Rattle.strm_host_turns.specs.declared.taking.TakeError.{TakeError}
-use Rattle.strm_host_turns.specs.declared.taking.TakeError.TheVariants as takes
-use Rattle.strm_host_turns.specs.declared.turns.TurnError.{TurnError}
-use Rattle.strm_host_turns.specs.declared.turns.TurnError.TheVariants.{Failed, OutOfMemory, Broke}
+use Rattle.strm_host_turns.specs.WriterTurns.{WriterScene, writer_scene, IsWriterTurn}
+use Rattle.strm_host_turns.specs.ReaderTurns.{ReaderScene, reader_scene, IsReaderTurn}
+use Rattle.strm_host_turns.specs.declared.reader_turns.ReaderStops.{ReaderStops}
+use Rattle.strm_host_turns.specs.declared.reader_turns.ReaderStops.TheVariants as reader_stops
+use Rattle.strm_host_turns.specs.declared.writer_turns.WriterStops.{WriterStops}
+use Rattle.strm_host_turns.specs.declared.writer_turns.WriterStops.TheVariants.{Failed, OutOfMemory, Broke}
 use Rattle.strm_transmit.specs.declared.errors.StoreError.{StoreError}
 use Rattle.strm_transmit.specs.declared.errors.StoreError.TheVariants as errors
 use Rattle.strm_machine.specs.declared.streams.End.{End}
@@ -55,23 +55,23 @@ pub record IsAcross (state : State) (tells : Tells) (side : Side) (s n : ℕ) (o
   pub fits : Fits state tells
 
 -- why a turn of host writer n stops a call
-abbrev pub stops_by : TurnError → ℕ → StoreError
-stops_by Failed n = errors.HostFailed (ends.Writer n)
-stops_by Broke n = errors.HostBroke (ends.Writer n)
-stops_by OutOfMemory n = errors.OutOfMemory
+abbrev pub stop_of_writer : WriterStops → ℕ → StoreError
+stop_of_writer Failed n = errors.HostFailed (ends.Writer n)
+stop_of_writer Broke n = errors.HostBroke (ends.Writer n)
+stop_of_writer OutOfMemory n = errors.OutOfMemory
 
 -- why a turn of host reader r for a write on stream s does
-abbrev pub stops_taking : TakeError → ℕ → ℕ → StoreError
-stops_taking takes.Failed r s = errors.HostFailed (ends.Reader r)
-stops_taking takes.Broke r s = errors.HostBroke (ends.Reader r)
-stops_taking takes.BadItem r s = errors.BadItem s
-stops_taking takes.OutOfMemory r s = errors.OutOfMemory
+abbrev pub stop_of_reader : ReaderStops → ℕ → ℕ → StoreError
+stop_of_reader reader_stops.Failed r s = errors.HostFailed (ends.Reader r)
+stop_of_reader reader_stops.Broke r s = errors.HostBroke (ends.Reader r)
+stop_of_reader reader_stops.BadItem r s = errors.BadItem s
+stop_of_reader reader_stops.OutOfMemory r s = errors.OutOfMemory
 
 -- host writer n had its turn for a read on stream s: what a turn touches is as the turn left it, and
 -- nothing else changed
-pub record TurnsStream (old new : State) (tells told : Tells) (n s : ℕ) (read : Operation) (result : Result (Unit {0}) TurnError) : Type 0 where
-  pub after : Scene
-  pub turns : Turns result (scene old.guests (stream_at old s) (producer_at old n) (told_by tells n)) after read
+pub record HasWriterTurn (old new : State) (tells told : Tells) (n s : ℕ) (read : Operation) (result : Result (Unit {0}) WriterStops) : Type 0 where
+  pub after : WriterScene
+  pub turns : IsWriterTurn result (writer_scene old.guests (stream_at old s) (producer_at old n) (told_by tells n)) after read
   pub state : new ≡ record old {
     guests = after.guests;
     streams = slice_set old.streams s after.stream;
@@ -80,9 +80,9 @@ pub record TurnsStream (old new : State) (tells told : Tells) (n s : ℕ) (read 
   pub ends : told ≡ with_told tells n after.tells
 
 -- host reader r had its turn for a write on stream s: the same
-pub record TakesStream (old new : State) (tells told : Tells) (r s : ℕ) (write : Operation) (result : Result (Unit {0}) TakeError) : Type 0 where
-  pub after : Taking
-  pub takes : Takes result (taking old.guests (stream_at old s) (consumer_at old r) (told_by_reader tells r)) after write
+pub record HasReaderTurn (old new : State) (tells told : Tells) (r s : ℕ) (write : Operation) (result : Result (Unit {0}) ReaderStops) : Type 0 where
+  pub after : ReaderScene
+  pub takes : IsReaderTurn result (reader_scene old.guests (stream_at old s) (consumer_at old r) (told_by_reader tells r)) after write
   pub state : new ≡ record old {
     guests = after.guests;
     streams = slice_set old.streams s after.stream;
@@ -92,8 +92,8 @@ pub record TakesStream (old new : State) (tells told : Tells) (r s : ℕ) (write
 
 -- the turn of the host end across an operation on a side of stream s
 abbrev pub turn_for : Side → ℕ → ℕ → Operation → World → Outcome
-turn_for Reading s n read world = producer_turn world s n read
-turn_for Writing s r write world = consumer_turn world s r write
+turn_for Reading s n read world = writer_turn world s n read
+turn_for Writing s r write world = reader_turn world s r write
 
 -- an operation opens on a side of stream s, and the host end across has its turn at once
 abbrev pub polls_for : Side → ℕ → ℕ → Operation → World → Outcome
@@ -118,9 +118,9 @@ least_of s None = Some s
 least_of s (Some other) = if nat_le other s then Some other else Some s
 
 -- the least of some streams from a number on, and of the one that this duty is for
-abbrev pub next_of : Duty → ℕ → Option ℕ → Option ℕ
-next_of (Serves s) from least = if nat_le from s then least_of s least else least
-next_of _ from least = least
+abbrev pub next_for_duty : Duty → ℕ → Option ℕ → Option ℕ
+next_for_duty (Serves s) from least = if nat_le from s then least_of s least else least
+next_for_duty _ from least = least
 
 -- the least stream from a number on that a host end serves, of those that are looked at
 pub record IsNextAmong (state : State) (looked : Side → ℕ → Type 0) (from s : ℕ) : Type 0 where

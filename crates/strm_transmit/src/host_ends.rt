@@ -6,9 +6,9 @@
 ghost use Rattle.std.specs.Prelude.{◌≡◌, ◌<◌, ◌≤◌, [], true, All, length, sum, Some, OnOk, OnErr};
 ghost use Rattle.strm_buffers.specs.Tells.{Tells, HoldsItems, told_by, ClosesWriter, told_by_reader};
 ghost use Rattle.strm_machine.specs.Soundness.{sizes_of, IsPlaced};
-ghost use Rattle.strm_channels.specs.Guests.{seen};
-ghost use Rattle.strm_host_turns.specs.Turning.{scene, Turns};
-ghost use Rattle.strm_host_turns.specs.Taking.{taking, Takes};
+ghost use Rattle.strm_channels.specs.Guests.{guests_of};
+ghost use Rattle.strm_host_turns.specs.WriterTurns.{writer_scene, IsWriterTurn};
+ghost use Rattle.strm_host_turns.specs.ReaderTurns.{reader_scene, IsReaderTurn};
 ghost use Rattle.strm_host_turns.specs.Piping.{fetching, Fetches, offering, Offers};
 ghost use Rattle.strm_transmit.specs.HostEnds.{OnlyWriter, OnlyReader, OnlyPipe, fed_at, granted_at, closed_at};
 
@@ -24,8 +24,8 @@ use strm_codes::codes::TransmitKind;
 use strm_codes::counts::OutOfMemory;
 use strm_codes::payloads::Payload;
 use strm_host_turns::pipes::{fetch, offer};
-use strm_host_turns::taking::{TakeError, consumer_turn};
-use strm_host_turns::turns::{TurnError, producer_turn};
+use strm_host_turns::reader_turns::{ReaderStops, reader_turn};
+use strm_host_turns::writer_turns::{WriterStops, writer_turn};
 use strm_machine::streams::{Consumer, Operation, Producer};
 
 /// Host writers and host readers, each named by its place: what a store asks of them.
@@ -96,8 +96,8 @@ pub trait HostEnds {
         requires { number < length (tells self.old).readers }
         ensures { tells self.new ≡ closed_at (tells self.old) number };
 
-    /// The turn of a host writer for the open read on its stream: `producer_turn` of `strm_host_turns`.
-    fn turn_of(
+    /// The turn of a host writer for the open read on its stream: `writer_turn` of `strm_host_turns`.
+    fn writer_turn_at(
         &mut self,
         alloc: Global,
         guests: &mut Vec<Guest>,
@@ -105,20 +105,20 @@ pub trait HostEnds {
         producer: &mut Producer,
         number: usize,
         read: &Operation,
-    ) -> Result<(), TurnError>
+    ) -> Result<(), WriterStops>
         requires waiting { stream.old.reader.operation ≡ Some read.now }
         requires open { read.now.is_open ≡ true }
-        requires placed { IsPlaced (sizes_of (seen guests.old.items)) stream.old.payload read.now }
-        requires sizes { sum (sizes_of (seen guests.old.items)) ≤ 268435456 }
+        requires placed { IsPlaced (sizes_of (guests_of guests.old.items)) stream.old.payload read.now }
+        requires sizes { sum (sizes_of (guests_of guests.old.items)) ≤ 268435456 }
         requires there { number < length (tells self.old).writers }
         requires payload { (told_by (tells self.old) number).payload ≡ stream.old.payload }
-        ensures turns { Turns result (scene (seen guests.old.items) stream.old producer.old
-            (told_by (tells self.old) number)) (scene (seen guests.new.items) stream.new
+        ensures turns { IsWriterTurn result (writer_scene (guests_of guests.old.items) stream.old producer.old
+            (told_by (tells self.old) number)) (writer_scene (guests_of guests.new.items) stream.new
             producer.new (told_by (tells self.new) number)) read.now }
         ensures others { OnlyWriter number (tells self.old) (tells self.new) };
 
-    /// The turn of a host reader for the open write on its stream: `consumer_turn` of `strm_host_turns`.
-    fn take_of(
+    /// The turn of a host reader for the open write on its stream: `reader_turn` of `strm_host_turns`.
+    fn reader_turn_at(
         &mut self,
         alloc: Global,
         guests: &mut Vec<Guest>,
@@ -126,15 +126,15 @@ pub trait HostEnds {
         consumer: &mut Consumer,
         number: usize,
         write: &Operation,
-    ) -> Result<(), TakeError>
+    ) -> Result<(), ReaderStops>
         requires waiting { stream.old.writer.operation ≡ Some write.now }
         requires open { write.now.is_open ≡ true }
-        requires placed { IsPlaced (sizes_of (seen guests.old.items)) stream.old.payload write.now }
-        requires sizes { sum (sizes_of (seen guests.old.items)) ≤ 268435456 }
+        requires placed { IsPlaced (sizes_of (guests_of guests.old.items)) stream.old.payload write.now }
+        requires sizes { sum (sizes_of (guests_of guests.old.items)) ≤ 268435456 }
         requires there { number < length (tells self.old).readers }
         requires payload { (told_by_reader (tells self.old) number).payload ≡ stream.old.payload }
-        ensures takes { Takes result (taking (seen guests.old.items) stream.old consumer.old
-            (told_by_reader (tells self.old) number)) (taking (seen guests.new.items) stream.new
+        ensures takes { IsReaderTurn result (reader_scene (guests_of guests.old.items) stream.old consumer.old
+            (told_by_reader (tells self.old) number)) (reader_scene (guests_of guests.new.items) stream.new
             consumer.new (told_by_reader (tells self.new) number)) write.now }
         ensures others { OnlyReader number (tells self.old) (tells self.new) };
 
@@ -146,7 +146,7 @@ pub trait HostEnds {
         producer: &mut Producer,
         kept: &mut Items,
         number: usize,
-    ) -> Result<(), TurnError>
+    ) -> Result<(), WriterStops>
         requires there { number < length (tells self.old).writers }
         requires payload { (told_by (tells self.old) number).payload ≡ kept.old.payload }
         requires nothing_held { (told_by (tells self.old) number).holds ≡ [] }
@@ -165,7 +165,7 @@ pub trait HostEnds {
         kept: &mut Items,
         writer: usize,
         reader: usize,
-    ) -> Result<Answer, TakeError>
+    ) -> Result<Answer, ReaderStops>
         requires writer_there { writer < length (tells self.old).writers }
         requires reader_there { reader < length (tells self.old).readers }
         requires writer { (told_by (tells self.old) writer).payload ≡ kept.old.payload }
@@ -240,7 +240,7 @@ impl HostEnds for Hosts {
     }
 
     #[inline(always)]
-    fn turn_of(
+    fn writer_turn_at(
         &mut self,
         alloc: Global,
         guests: &mut Vec<Guest>,
@@ -248,13 +248,13 @@ impl HostEnds for Hosts {
         producer: &mut Producer,
         number: usize,
         read: &Operation,
-    ) -> Result<(), TurnError> {
+    ) -> Result<(), WriterStops> {
         let writer = &mut self.writers[number];
-        producer_turn(alloc, guests, stream, producer, writer, read)
+        writer_turn(alloc, guests, stream, producer, writer, read)
     }
 
     #[inline(always)]
-    fn take_of(
+    fn reader_turn_at(
         &mut self,
         alloc: Global,
         guests: &mut Vec<Guest>,
@@ -262,9 +262,9 @@ impl HostEnds for Hosts {
         consumer: &mut Consumer,
         number: usize,
         write: &Operation,
-    ) -> Result<(), TakeError> {
+    ) -> Result<(), ReaderStops> {
         let reader = &mut self.readers[number];
-        consumer_turn(alloc, guests, stream, consumer, reader, write)
+        reader_turn(alloc, guests, stream, consumer, reader, write)
     }
 
     fn fetch_of(
@@ -274,7 +274,7 @@ impl HostEnds for Hosts {
         producer: &mut Producer,
         kept: &mut Items,
         number: usize,
-    ) -> Result<(), TurnError> {
+    ) -> Result<(), WriterStops> {
         fetch(alloc, kind, producer, kept, &mut self.writers[number])
     }
 
@@ -286,7 +286,7 @@ impl HostEnds for Hosts {
         kept: &mut Items,
         writer: usize,
         reader: usize,
-    ) -> Result<Answer, TakeError> {
+    ) -> Result<Answer, ReaderStops> {
         let (from, to) = (&mut self.writers[writer], &mut self.readers[reader]);
         offer(alloc, stream, consumer, kept, from, to)
     }

@@ -12,10 +12,10 @@ ghost use Rattle.strm_machine.specs.declared.acts.SetAct.TheVariants as set_acts
 ghost use Rattle.strm_machine.specs.declared.replies.Reply.TheVariants as replies;
 ghost use Rattle.strm_machine.specs.declared.acts.EndAct.TheVariants as end_acts;
 ghost use Rattle.strm_machine.specs.declared.acts.LooseAct.TheVariants as loose_acts;
-ghost use Rattle.strm_host_machine.specs.Steps.{step_of, touches};
+ghost use Rattle.strm_host_machine.specs.Steps.{outcome_of_step, touches};
 ghost use Rattle.strm_host_machine.specs.Does.{Fits, Does};
-ghost use Rattle.strm_transmit.specs.Meets.{Meets, replied, refused_too, is_settled, act_takes_memory};
-ghost use Rattle.strm_transmit.specs.Hosted.{answered, lone, MayBeDone, Leaves, MeetsAlone, MeetsHosted, WantsOnlyTaking, WantsNoneHeld};
+ghost use Rattle.strm_transmit.specs.Meets.{Meets, as_reply, refused_too, is_settled, act_takes_memory};
+ghost use Rattle.strm_transmit.specs.Hosted.{call_answered, lone, MayBeDone, Leaves, MeetsAlone, MeetsHosted, WantsOnlyTaking, WantsNoneHeld};
 
 use crate::errors::StoreError;
 use crate::host_ends::HostEnds;
@@ -39,7 +39,7 @@ pub fn apply<H: HostEnds>(
 ) -> Result<Reply, StoreError>
     requires fits { Fits store.old (H.tells hosts.old) }
     ensures does { Does store.old store.new (H.tells hosts.old) (H.tells hosts.new)
-        (answered result) (λ world. step_of world step.now) }
+        (call_answered result) (λ world. outcome_of_step world step.now) }
     ensures fits { Fits store.new (H.tells hosts.new) }
     ensures alone { touches (lone store.old) (act_of step.now) ≡ false → MeetsAlone store.old
         store.new (H.tells hosts.old) (H.tells hosts.new) result (act_of step.now) }
@@ -202,7 +202,7 @@ fn reply(answer: Result<Reply, StoreError>) -> Result<Reply, StoreError>
 // A code is a reply, and so is a refusal.
 #[inline(always)]
 fn code_reply(answer: Result<ReturnCode, StoreError>) -> Result<Reply, StoreError>
-    ensures { result ≡ refused_too (replied replies.Code answer) }
+    ensures { result ≡ refused_too (as_reply replies.Code answer) }
 {
     match answer {
         Ok(code) => Ok(Reply::Code(code)),

@@ -9,7 +9,7 @@ ghost use Rattle.strm_waitable_sets.specs.Sets.{set_of};
 ghost use Rattle.strm_machine.specs.State.{sets_in};
 ghost use Rattle.strm_machine.specs.Sides.{end_of};
 ghost use Rattle.strm_machine.specs.declared.streams.Owner.TheVariants.{Held};
-ghost use Rattle.strm_channels.specs.Guests.{seen};
+ghost use Rattle.strm_channels.specs.Guests.{guests_of};
 ghost use Rattle.strm_transmit.specs.Telling.{SaysOf, member_of, has_report, Retells, Leaves};
 
 use std::alloc::Global;
@@ -21,7 +21,7 @@ use strm_waitable_sets::ready::ReadySets;
 // The set that a guest's handle is in.
 pub(crate) fn home_of(guests: &Vec<Guest>, guest: usize, handle: u32) -> Option<u32>
     requires { guest < length guests.now.items }
-    ensures { result ≡ set_of (sets_in (seen guests.now.items) guest) handle }
+    ensures { result ≡ set_of (sets_in (guests_of guests.now.items) guest) handle }
 {
     guests[guest].sets.set_of(handle)
 }
@@ -48,10 +48,10 @@ fn retell_held(
     handle: u32,
     is_ready: bool,
 )
-    ensures told { (number : ℕ) → member_of (seen guests.now.items) guest number handle ≡ true
+    ensures told { (number : ℕ) → member_of (guests_of guests.now.items) guest number handle ≡ true
         → SaysOf ready.new.items guest number handle is_ready }
     ensures others { (g number other : ℕ) (b : Bool) → SaysOf ready.old.items g number other b → (g
-        ≡ guest → other ≡ handle → member_of (seen guests.now.items) g number other ≡ true → b
+        ≡ guest → other ≡ handle → member_of (guests_of guests.now.items) g number other ≡ true → b
         ≡ is_ready) → SaysOf ready.new.items g number other b }
 {
     if guest >= guests.len() {
@@ -74,11 +74,11 @@ fn knows_nothing(ready: &Vec<ReadySets>, guest: usize) -> bool
 #[inline(always)]
 fn retell_end(ready: &mut Vec<ReadySets>, guests: &Vec<Guest>, stream: &Channel, side: Side)
     ensures told { (g number handle : ℕ) → (end_of side stream.now).owner ≡ Held g handle
-        → member_of (seen guests.now.items) g number handle ≡ true
+        → member_of (guests_of guests.now.items) g number handle ≡ true
         → SaysOf ready.new.items g number handle (has_report side stream.now) }
     ensures others { (g number handle : ℕ) (b : Bool) → SaysOf ready.old.items g number handle b
         → ((end_of side stream.now).owner ≡ Held g handle
-        → member_of (seen guests.now.items) g number handle ≡ true → b ≡ has_report side stream.now)
+        → member_of (guests_of guests.now.items) g number handle ≡ true → b ≡ has_report side stream.now)
         → SaysOf ready.new.items g number handle b }
 {
     let Owner::Held { guest, handle } = stream.owner(side) else {
@@ -94,7 +94,7 @@ fn retell_end(ready: &mut Vec<ReadySets>, guests: &Vec<Guest>, stream: &Channel,
 /// What is known of the ends of a stream is as it is now. It takes no memory.
 #[inline(always)]
 pub(crate) fn retell(ready: &mut Vec<ReadySets>, guests: &Vec<Guest>, stream: &Channel)
-    ensures { Retells (seen guests.now.items) stream.now ready.old.items ready.new.items }
+    ensures { Retells (guests_of guests.now.items) stream.now ready.old.items ready.new.items }
 {
     if !ready.is_empty() {
         retell_ends(ready, guests, stream);
@@ -104,7 +104,7 @@ pub(crate) fn retell(ready: &mut Vec<ReadySets>, guests: &Vec<Guest>, stream: &C
 // The same where some guest knows of a set, apart from the code for none.
 #[inline(never)]
 fn retell_ends(ready: &mut Vec<ReadySets>, guests: &Vec<Guest>, stream: &Channel)
-    ensures { Retells (seen guests.now.items) stream.now ready.old.items ready.new.items }
+    ensures { Retells (guests_of guests.now.items) stream.now ready.old.items ready.new.items }
 {
     retell_end(ready, guests, stream, Side::Writing);
     retell_end(ready, guests, stream, Side::Reading);

@@ -4,8 +4,8 @@ use std::alloc::Global;
 use std::fmt::Display;
 use std::process::Abort;
 use strm_codes::refusals::Refusal;
-use strm_host_turns::taking::TakeError;
-use strm_host_turns::turns::TurnError;
+use strm_host_turns::reader_turns::ReaderStops;
+use strm_host_turns::writer_turns::WriterStops;
 use strm_machine::streams::HostEnd;
 use strm_transmit::errors::StoreError;
 
@@ -41,22 +41,22 @@ fn errors_of_the_store_print(rt: HostRuntime) {
 #[test]
 fn errors_of_turns_print(rt: HostRuntime) {
     let alloc = rt.alloc();
-    prints(&rt, alloc, &TurnError::Failed, "the host writer failed");
-    prints(&rt, alloc, &TurnError::OutOfMemory, "out of memory");
+    prints(&rt, alloc, &WriterStops::Failed, "the host writer failed");
+    prints(&rt, alloc, &WriterStops::OutOfMemory, "out of memory");
     prints(
         &rt,
         alloc,
-        &TurnError::Broke,
+        &WriterStops::Broke,
         "the host writer broke its rules",
     );
-    prints(&rt, alloc, &TakeError::Failed, "the host reader failed");
-    prints(&rt, alloc, &TakeError::OutOfMemory, "out of memory");
+    prints(&rt, alloc, &ReaderStops::Failed, "the host reader failed");
+    prints(&rt, alloc, &ReaderStops::OutOfMemory, "out of memory");
     let bad = "the host reader asked for an item that is no Unicode scalar value";
-    prints(&rt, alloc, &TakeError::BadItem, bad);
+    prints(&rt, alloc, &ReaderStops::BadItem, bad);
     prints(
         &rt,
         alloc,
-        &TakeError::Broke,
+        &ReaderStops::Broke,
         "the host reader broke its rules",
     );
 }

@@ -1,8 +1,8 @@
 -- What two lanes of one stream tell, however it is cut.
 use Rattle.std.proofs.Common.{◌≡◌, ℕ, ◌<◌, Bool, true, false, List, [], ◌∷◌, ◌++◌, slice_index_or, take, drop, append-nil, take-append-drop, refl, sym, ap, ◌∙◌, arith}
-use Rattle.strm_frames.specs.Demuxes.{Heard, IsFed}
-use Rattle.strm_frames.specs.Frames.{Frame, Data, End, spelling, lane_in, ends}
-use Rattle.strm_frames.specs.Muxes.{Written, Carries}
+use Rattle.strm_frames.specs.Demuxes.{LanesHeard, IsDemuxFed}
+use Rattle.strm_frames.specs.Frames.{Frame, Data, End, encoding, lane_in, ends}
+use Rattle.strm_frames.specs.Muxes.{Written, MuxCarries}
 use Rattle.strm_frames.specs.Streams.{IsPartOfFrame, Splits}
 
 -- no bytes are the front of a frame
@@ -14,14 +14,14 @@ abbrev pub OneReading : Type 0
 OneReading = (bytes : List ℕ) (frames others : List Frame) (rest left : List ℕ) → Splits bytes frames rest → Splits bytes others left → (frames ≡ others) × (rest ≡ left)
 
 -- a demux that was fed what a mux wrote has the lanes and ends that the mux was given, and no rest
-pub record Told (heard : Heard) (given : List Frame) : Type 0 where
+pub record Told (heard : LanesHeard) (given : List Frame) : Type 0 where
   pub lanes : (lane : ℕ) → lane < 256 → slice_index_or heard.lanes lane [] ≡ lane_in lane given
   pub ended : (lane : ℕ) → lane < 256 → slice_index_or heard.ended lane false ≡ ends lane given
   pub rest : heard.rest ≡ []
 
-pub told : (heard : Heard) (written : Written) (given : List Frame) (bytes : List ℕ) → OneReading → Carries written given → bytes ≡ written.bytes → IsFed heard bytes → Told heard given
+pub told : (heard : LanesHeard) (written : Written) (given : List Frame) (bytes : List ℕ) → OneReading → MuxCarries written given → bytes ≡ written.bytes → IsDemuxFed heard bytes → Told heard given
 told heard written given bytes one c e f =
-    let all : Splits bytes c.frames [] = record { whole = e ∙ c.spelled ∙ sym (append-nil (spelling c.frames)); are = c.are; part = no_part } in
+    let all : Splits bytes c.frames [] = record { whole = e ∙ c.spelled ∙ sym (append-nil (encoding c.frames)); are = c.are; part = no_part } in
     let s : (f.frames ≡ c.frames) × (heard.rest ≡ []) = one bytes f.frames c.frames heard.rest [] f.splits all in
     record {
       lanes = λ lane h. f.lanes lane h ∙ ap (lane_in lane) s.0 ∙ c.lanes lane;
@@ -48,14 +48,14 @@ unfolding ends
 open_of first second = refl
 
 -- what the two lanes have then
-pub record TwoTold (heard : Heard) (one other : List ℕ) : Type 0 where
+pub record TwoTold (heard : LanesHeard) (one other : List ℕ) : Type 0 where
   pub first : slice_index_or heard.lanes 0 [] ≡ one
   pub second : slice_index_or heard.lanes 1 [] ≡ other
   pub ended : slice_index_or heard.ended 0 false ≡ true
   pub unended : slice_index_or heard.ended 1 false ≡ false
   pub rest : heard.rest ≡ []
 
-pub two_told : (heard : Heard) (written : Written) (first second front back bytes : List ℕ) (n : ℕ) → OneReading → Carries written (two first second) → IsFed heard (front ++ back) → front ≡ take n bytes → back ≡ drop n bytes → bytes ≡ written.bytes → TwoTold heard first second
+pub two_told : (heard : LanesHeard) (written : Written) (first second front back bytes : List ℕ) (n : ℕ) → OneReading → MuxCarries written (two first second) → IsDemuxFed heard (front ++ back) → front ≡ take n bytes → back ≡ drop n bytes → bytes ≡ written.bytes → TwoTold heard first second
 two_told heard written first second front back bytes n one c f a b e =
     let whole : front ++ back ≡ written.bytes = ap (λ (l : List ℕ). l ++ back) a ∙ ap (λ (l : List ℕ). take n bytes ++ l) b ∙ take-append-drop n bytes ∙ e in
     let t : Told heard (two first second) = told heard written (two first second) (front ++ back) one c whole f in

@@ -4,6 +4,6 @@ use Rattle.strm_uses.specs.declared.resources.Place.{Place}
 use Rattle.strm_uses.specs.declared.resources.Place.TheVariants.{File, Folder}
 
 -- files are of the first kind, folders of the second
-abbrev pub kind_of : Place → ℕ
-kind_of (File number) = 1
-kind_of (Folder number) = 2
+abbrev pub place_kind : Place → ℕ
+place_kind (File number) = 1
+place_kind (Folder number) = 2

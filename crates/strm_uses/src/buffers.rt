@@ -4,7 +4,7 @@ ghost use Rattle.std.specs.Prelude.{◌≡◌, ℕ, ◌+◌, ◌*◌, ◌≤◌,
 ghost use Rattle.strm_codes.specs.Layout.{scalars_of, item_size};
 ghost use Rattle.strm_memory.specs.Bytes.{bytes_at, IsApart};
 ghost use Rattle.strm_buffers.specs.Said.{IfAnswered, IfNoMemory};
-ghost use Rattle.strm_uses.specs.Polled.{Fetches, Delivers};
+ghost use Rattle.strm_uses.specs.Polled.{FetchesItems, DeliversItems};
 
 use std::alloc::Global;
 use std::mem;
@@ -29,7 +29,7 @@ pub fn fetch(
     requires inside { address + item_size (scalars_of (writer_tells writer.old).payload) * room
         ≤ length memory.old.bytes }
     requires nothing_held { (writer_tells writer.old).holds ≡ [] }
-    ensures fetched { IfAnswered result (Fetches (writer_tells writer.old) (writer_tells writer.new)
+    ensures fetched { IfAnswered result (FetchesItems (writer_tells writer.old) (writer_tells writer.new)
         memory.old.bytes memory.new.bytes address room finish) }
     ensures no_record { IfNoMemory result
         ((writer_tells writer.new).said ≡ (writer_tells writer.old).said) }
@@ -65,7 +65,7 @@ pub fn deliver(
 ) -> (HostTurn, u32)
     requires inside { address + item_size (scalars_of (reader_tells reader.old).payload) * count
         ≤ length memory.old.bytes }
-    ensures delivered { IfAnswered result.0 (Delivers (reader_tells reader.old)
+    ensures delivered { IfAnswered result.0 (DeliversItems (reader_tells reader.old)
         (reader_tells reader.new) memory.old.bytes address count finish result.1) }
     ensures no_record { IfNoMemory result.0
         ((reader_tells reader.new).said ≡ (reader_tells reader.old).said) }

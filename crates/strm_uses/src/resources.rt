@@ -17,9 +17,9 @@ pub enum Place {
 }
 
 impl Resident for Place {
-    ghost use Rattle.strm_uses.specs.Places.{kind_of};
+    ghost use Rattle.strm_uses.specs.Places.{place_kind};
 
-    ghost kind = { kind_of };
+    ghost kind = { place_kind };
 
     fn kind(&self) -> u32 {
         match self {

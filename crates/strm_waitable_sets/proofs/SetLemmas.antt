@@ -13,25 +13,25 @@ use Rattle.std.specs.List.Sorted.{IsStrictlySortedBy}
 use Rattle.std.specs.Ordering.{eq_by_cmp, is_lt, nat_cmp}
 use Rattle.std.specs.Prelude.{nat_eq, ◌⊎◌}
 use Rattle.std.proofs.lemmas.Grind.{get_or_tail}
-use Rattle.strm_waitable_sets.specs.Sets.{Sets, is_there, set_of, is_number, is_member, members, least_free, placed, with_new_set, joined, left, without_set, IsLeastReady, NoneReady, Lists}
+use Rattle.strm_waitable_sets.specs.Sets.{Sets, is_set_there, set_of, is_number, is_member, members, least_free, set_placed, with_new_set, handle_joined, handle_left, without_set, IsLeastReady, NoneReady, ListsHandles}
 use Rattle.strm_waitable_sets.proofs.HomeLemmas.{by_eq}
-use Rattle.strm_waitable_sets.proofs.TieLemmas.{eq-other, placed-at}
+use Rattle.strm_waitable_sets.proofs.TieLemmas.{eq-other, set_placed-at}
 
 -- ## Members after a change
 
-pub is_member-left_same : (sets : Sets) (handle number : ℕ) → is_member (left sets handle) number handle ≡ false
+pub is_member-left_same : (sets : Sets) (handle number : ℕ) → is_member (handle_left sets handle) number handle ≡ false
 is_member-left_same sets handle number =
     ap (λ o. is_number o number) (map.get-remove nat_cmp_total sets.homes handle handle ∙ ap (λ b. cond b None (set_of sets handle)) (unsigned_tied handle handle ∙ nat_eq_equiv.refl handle))
 
-pub is_member-left_other : (sets : Sets) (handle number other : ℕ) → other ≢ handle → is_member (left sets handle) number other ≡ is_member sets number other
+pub is_member-left_other : (sets : Sets) (handle number other : ℕ) → other ≢ handle → is_member (handle_left sets handle) number other ≡ is_member sets number other
 is_member-left_other sets handle number other ne =
     ap (λ o. is_number o number) (map.get-remove nat_cmp_total sets.homes handle other ∙ ap (λ b. cond b None (set_of sets other)) (unsigned_tied other handle ∙ eq-other other handle ne))
 
-pub is_member-joined_same : (sets : Sets) (handle number other : ℕ) → is_member (joined sets handle number) other handle ≡ nat_eq number other
+pub is_member-joined_same : (sets : Sets) (handle number other : ℕ) → is_member (handle_joined sets handle number) other handle ≡ nat_eq number other
 is_member-joined_same sets handle number other =
     ap (λ o. is_number o other) (map.get-insert nat_cmp_total sets.homes handle number handle ∙ ap (λ b. cond b (Some number) (set_of sets handle)) (unsigned_tied handle handle ∙ nat_eq_equiv.refl handle))
 
-pub is_member-joined_other : (sets : Sets) (handle number home other : ℕ) → other ≢ handle → is_member (joined sets handle number) home other ≡ is_member sets home other
+pub is_member-joined_other : (sets : Sets) (handle number home other : ℕ) → other ≢ handle → is_member (handle_joined sets handle number) home other ≡ is_member sets home other
 is_member-joined_other sets handle number home other ne =
     ap (λ o. is_number o home) (map.get-insert nat_cmp_total sets.homes handle number other ∙ ap (λ b. cond b (Some number) (set_of sets other)) (unsigned_tied other handle ∙ eq-other other handle ne))
 
@@ -51,12 +51,12 @@ free_most (false ∷ flags) = omega arith
 free_most (true ∷ flags) = let more = free_most flags in omega (arith, more)
 
 -- the least number that no set has, has none
-pub is_there-free : (sets : Sets) → is_there sets (least_free sets) ≡ false
-is_there-free sets = free_none sets.there
+pub is_set_there-free : (sets : Sets) → is_set_there sets (least_free sets) ≡ false
+is_set_there-free sets = free_none sets.there
 
-pub is_there-new : (sets : Sets) → is_there (with_new_set sets) (least_free sets) ≡ true
-is_there-new sets =
-    let n = least_free sets in placed-at sets.there n n (free_most sets.there) (λ below. absurd (omega arith)) (omega arith)
+pub is_set_there-new : (sets : Sets) → is_set_there (with_new_set sets) (least_free sets) ≡ true
+is_set_there-new sets =
+    let n = least_free sets in set_placed-at sets.there n n (free_most sets.there) (λ below. absurd (omega arith)) (omega arith)
 
 strictly : (a b : ℕ) → a ≤ b → b ≢ a → a < b
 strictly a b l ne = elim (cases_lt a b) [
@@ -64,7 +64,7 @@ strictly a b l ne = elim (cases_lt a b) [
   | inr h ↦ absurd (ne (omega arith))
 ]
 
-placed_other : (flags : List Bool) (number other : ℕ) → number ≤ length flags → other ≢ number → get_or (placed flags number) other false ≡ get_or flags other false
+placed_other : (flags : List Bool) (number other : ℕ) → number ≤ length flags → other ≢ number → get_or (set_placed flags number) other false ≡ get_or flags other false
 placed_other flags number other inside ne =
     elim (cases_lt number (length flags)) [
       | inl lower ↦ rw (lt-ltb number (length flags) lower) (get_or-set_other flags number other true false ne)
@@ -78,18 +78,18 @@ placed_other flags number other inside ne =
         let longer : length (flags ++ true ∷ []) ≤ other = let more = strictly (length flags) other past (λ e. ne (e ∙ sym last)) in omega (arith, length-append flags (true ∷ []), more) in
         get_or_past (flags ++ true ∷ []) other false longer ∙ sym (get_or_past flags other false past)
 
-pub is_there-new_other : (sets : Sets) (number : ℕ) → number ≢ least_free sets → is_there (with_new_set sets) number ≡ is_there sets number
-is_there-new_other sets number ne = placed_other sets.there (least_free sets) number (free_most sets.there) ne
+pub is_set_there-new_other : (sets : Sets) (number : ℕ) → number ≢ least_free sets → is_set_there (with_new_set sets) number ≡ is_set_there sets number
+is_set_there-new_other sets number ne = placed_other sets.there (least_free sets) number (free_most sets.there) ne
 
-pub is_there-without_same : (sets : Sets) (number : ℕ) → is_there (without_set sets number) number ≡ false
-is_there-without_same sets number =
+pub is_set_there-without_same : (sets : Sets) (number : ℕ) → is_set_there (without_set sets number) number ≡ false
+is_set_there-without_same sets number =
     elim (cases_lt number (length sets.there)) [
       | inl l ↦ get_or-set_same sets.there number false false l
       | inr l ↦ get_or_past (set sets.there number false) number false (omega (arith, l, length-set sets.there number false))
     ]
 
-pub is_there-without_other : (sets : Sets) (number other : ℕ) → other ≢ number → is_there (without_set sets number) other ≡ is_there sets other
-is_there-without_other sets number other ne = get_or-set_other sets.there number other false false ne
+pub is_set_there-without_other : (sets : Sets) (number other : ℕ) → other ≢ number → is_set_there (without_set sets number) other ≡ is_set_there sets other
+is_set_there-without_other sets number other ne = get_or-set_other sets.there number other false false ne
 
 -- ## Members, listed
 
@@ -135,7 +135,7 @@ module _ (sets : Sets) (number : ℕ) where
       let its = map.retain_keys sets.homes (is_member sets number) in
       among handle (map.keys its) ∙ sym (map.contains_key-keys its handle) ∙ ap is_some (map.get-retain_keys sets.homes (is_member sets number) handle (λ x e. ap (is_member sets number) (is_it handle x e))) ∙ in_it (set_of sets handle) number
 
-  pub lists_members : Lists sets number (members sets number)
+  pub lists_members : ListsHandles sets number (members sets number)
   lists_members = record { ascending = IsStrictlyIncreasing-from_sorted (members sets number) members_sorted; same = among_members }
 
 -- ## The first that passes a test
@@ -216,12 +216,12 @@ count-new sets =
     let flags = sets.there in
     let number = least_free sets in
     elim (cases_lt number (length flags)) [
-      | inl lower ↦ rw (lt-ltb number (length flags) lower) (let sum = sum_by-set counted flags number true false lower in let was : counted (get_or flags number false) ≡ 0 = ap counted (is_there-free sets) in omega (arith, sum, was))
+      | inl lower ↦ rw (lt-ltb number (length flags) lower) (let sum = sum_by-set counted flags number true false lower in let was : counted (get_or flags number false) ≡ 0 = ap counted (is_set_there-free sets) in omega (arith, sum, was))
       | inr above ↦ rw (le-ltb number (length flags) above) (sum_by_push counted flags true)
     ]
 
 -- and one less
-pub count-without : (sets : Sets) (number : ℕ) → is_there sets number ≡ true → count_by (λ there. there) (without_set sets number).there + 1 ≡ count_by (λ there. there) sets.there
+pub count-without : (sets : Sets) (number : ℕ) → is_set_there sets number ≡ true → count_by (λ there. there) (without_set sets number).there + 1 ≡ count_by (λ there. there) sets.there
 count-without sets number there =
     let flags = sets.there in
     let sum = sum_by-set counted flags number false false (flag_inside flags number there) in

@@ -13,8 +13,8 @@ use Rattle.std.proofs.lemmas.Map.Keys.{sorted_head}
 use Rattle.std.specs.List.{position_or_len, list_any, AllByRecursion}
 use Rattle.std.specs.List.Sorted.{IsStrictlySortedBy}
 use Rattle.std.specs.Prelude.{nat_eq}
-use Rattle.strm_waitable_sets.specs.Sets.{Sets, is_number, is_member, placed, AreKept}
-use Rattle.strm_waitable_sets.specs.Slots.{Slot, has, slot_at, AreTied}
+use Rattle.strm_waitable_sets.specs.Sets.{Sets, is_number, is_member, set_placed, AreSetsKept}
+use Rattle.strm_waitable_sets.specs.Slots.{Slot, has, slot_at, AreSlotsTied}
 use Rattle.strm_waitable_sets.proofs.HomeLemmas.{by_eq, get-seen, get-updated}
 
 -- ---- numbers
@@ -69,7 +69,7 @@ flag-at (slot ∷ slots) (suc number) = flag-at slots number
 abbrev pub seen : List Slot → BTreeMap ℕ ℕ → Sets
 seen slots homes = record { there = map is_some slots; homes = finmap.from_entries homes.entries }
 
-pub is_member-has : (slots : List Slot) (homes : BTreeMap ℕ ℕ) (hint : ℕ) → AreTied slots homes hint → (number handle : ℕ) → is_member (seen slots homes) number handle ≡ has (slot_at slots number) handle
+pub is_member-has : (slots : List Slot) (homes : BTreeMap ℕ ℕ) (hint : ℕ) → AreSlotsTied slots homes hint → (number handle : ℕ) → is_member (seen slots homes) number handle ≡ has (slot_at slots number) handle
 is_member-has slots homes hint are number handle = ap (λ o. is_number o number) (get-seen homes handle) ∙ sym (are.tied number handle)
 
 pub flags-set : (slots : List Slot) (at : ℕ) (slot : Slot) → is_some slot ≡ is_some (slot_at slots at) → map is_some (set slots at slot) ≡ map is_some slots
@@ -102,7 +102,7 @@ has-taken slots at handle slot inside is number other =
     (λ apart. refl)
 
 -- where the same numbers have sets, the hint stands
-pub still_tied : (slots new : List Slot) (homes to : BTreeMap ℕ ℕ) (hint : ℕ) → AreTied slots homes hint → map is_some new ≡ map is_some slots → ((number handle : ℕ) → has (slot_at new number) handle ≡ is_number (tree.get nat_cmp to handle) number) → AreTied new to hint
+pub still_tied : (slots new : List Slot) (homes to : BTreeMap ℕ ℕ) (hint : ℕ) → AreSlotsTied slots homes hint → map is_some new ≡ map is_some slots → ((number handle : ℕ) → has (slot_at new number) handle ≡ is_number (tree.get nat_cmp to handle) number) → AreSlotsTied new to hint
 still_tied slots new homes to hint are flags tied = record {
   tied = tied;
   inside = let same : length new ≡ length slots = sym (length-map new is_some) ∙ ap length flags ∙ length-map slots is_some in rw same are.inside;
@@ -147,7 +147,7 @@ module _ (h : ℕ → ℕ → Bool) (g : ℕ → Option ℕ) (tied : (number han
       ∙ by_eq number home (λ t. (not (t && true) && nat_eq home number) ≡ false) (λ here. refl) (λ there. eq-other home number (λ e. there (sym e))))
       (λ apart. ap (λ b. not b && h number other) (and-false (nat_eq number home)) ∙ tied number other)
 
-module _ (slots : List Slot) (homes : BTreeMap ℕ ℕ) (hint : ℕ) (are : AreTied slots homes hint) where
+module _ (slots : List Slot) (homes : BTreeMap ℕ ℕ) (hint : ℕ) (are : AreSlotsTied slots homes hint) where
   -- the set of a handle has it, so it is there
   home_there : (handle home : ℕ) → tree.get nat_cmp homes handle ≡ Some home → is_some (slot_at slots home) ≡ true
   home_there handle home is = has_there _ handle (are.tied home handle ∙ ap (λ o. is_number o home) is ∙ nat_eq_equiv.refl home)
@@ -156,7 +156,7 @@ module _ (slots : List Slot) (homes : BTreeMap ℕ ℕ) (hint : ℕ) (are : AreT
   home_inside handle home is = some_inside slots home (home_there handle home is)
 
   -- a handle leaves its set
-  pub tied-left : (to : BTreeMap ℕ ℕ) (handle home : ℕ) (slot : Slot) → tree.get nat_cmp homes handle ≡ Some home → Updates nat_cmp homes to handle None → is_some slot ≡ is_some (slot_at slots home) → Takes (slot_at slots home) slot handle → AreTied (set slots home slot) to hint
+  pub tied-left : (to : BTreeMap ℕ ℕ) (handle home : ℕ) (slot : Slot) → tree.get nat_cmp homes handle ≡ Some home → Updates nat_cmp homes to handle None → is_some slot ≡ is_some (slot_at slots home) → Takes (slot_at slots home) slot handle → AreSlotsTied (set slots home slot) to hint
   tied-left to handle home slot is updates same taken =
       still_tied slots _ homes to hint are (flags-set slots home slot same) (λ number other.
       has-taken slots home handle slot (home_inside handle home is) taken number other
@@ -172,7 +172,7 @@ module _ (slots : List Slot) (homes : BTreeMap ℕ ℕ) (hint : ℕ) (are : AreT
     flags-joined = flags-set slots at slot (same ∙ sym there)
 
     -- a handle of no set joins one
-    pub tied-joined : (to : BTreeMap ℕ ℕ) → tree.get nat_cmp homes handle ≡ None → Updates nat_cmp homes to handle (Some at) → AreTied (set slots at slot) to hint
+    pub tied-joined : (to : BTreeMap ℕ ℕ) → tree.get nat_cmp homes handle ≡ None → Updates nat_cmp homes to handle (Some at) → AreSlotsTied (set slots at slot) to hint
     tied-joined to none updates =
         still_tied slots _ homes to hint are flags-joined (λ number other.
         has-added slots at handle slot (some_inside slots at there) added number other
@@ -190,7 +190,7 @@ module _ (slots : List Slot) (homes : BTreeMap ℕ ℕ) (hint : ℕ) (are : AreT
       flags-two = flags-set more home last last_same ∙ flags-joined
 
       -- a handle leaves one set for another
-      pub tied-moved : (to : BTreeMap ℕ ℕ) → tree.get nat_cmp homes handle ≡ Some home → at ≢ home → Updates nat_cmp homes to handle (Some at) → AreTied (set more home last) to hint
+      pub tied-moved : (to : BTreeMap ℕ ℕ) → tree.get nat_cmp homes handle ≡ Some home → at ≢ home → Updates nat_cmp homes to handle (Some at) → AreSlotsTied (set more home last) to hint
       tied-moved to is apart updates =
           still_tied slots _ homes to hint are flags-two (λ number other.
           two (home_inside handle home is) number other
@@ -198,7 +198,7 @@ module _ (slots : List Slot) (homes : BTreeMap ℕ ℕ) (hint : ℕ) (are : AreT
           ∙ ap (λ o. is_number o number) (sym (get-updated homes to handle (Some at) updates other)))
 
     -- a handle that was no member is put in and taken out
-    pub tied-undone : (to : BTreeMap ℕ ℕ) (last : Slot) → is_number (tree.get nat_cmp homes handle) at ≡ false → to.entries ≡ homes.entries → is_some last ≡ is_some (slot_at more at) → Takes (slot_at more at) last handle → AreTied (set more at last) to hint
+    pub tied-undone : (to : BTreeMap ℕ ℕ) (last : Slot) → is_number (tree.get nat_cmp homes handle) at ≡ false → to.entries ≡ homes.entries → is_some last ≡ is_some (slot_at more at) → Takes (slot_at more at) last handle → AreSlotsTied (set more at last) to hint
     tied-undone to last none unchanged last_same taken =
         still_tied slots _ homes to hint are (flags-two at last last_same taken) (λ number other.
         two at last last_same taken (some_inside slots at there) number other
@@ -214,7 +214,7 @@ free_first (slot ∷ slots) (suc number) inside all none =
     rw (all 0 (omega arith)) (omega (arith, rest))
 
 -- a set without members goes
-pub tied-emptied : (slots : List Slot) (homes : BTreeMap ℕ ℕ) (hint at to : ℕ) → AreTied slots homes hint → at < length slots → to ≤ hint → to ≤ at → ((handle : ℕ) → has (slot_at slots at) handle ≡ false) → AreTied (set slots at None) homes to
+pub tied-emptied : (slots : List Slot) (homes : BTreeMap ℕ ℕ) (hint at to : ℕ) → AreSlotsTied slots homes hint → at < length slots → to ≤ hint → to ≤ at → ((handle : ℕ) → has (slot_at slots at) handle ≡ false) → AreSlotsTied (set slots at None) homes to
 tied-emptied slots homes hint at to are inside less below none = record {
   tied = λ number handle. has-set slots at number handle None inside ∙ by_eq number at (λ t. cond t false (has (slot_at slots number) handle) ≡ is_number (tree.get nat_cmp homes handle) number) (λ same. sym (sym (are.tied number handle) ∙ ap (λ n. has (slot_at slots n) handle) same ∙ none handle)) (λ apart. are.tied number handle);
   inside = omega (arith, length-set slots at None, are.inside);
@@ -222,38 +222,38 @@ tied-emptied slots homes hint at to are inside less below none = record {
 }
 
 -- the flags up to one that was placed
-pub placed-length : (flags : List Bool) (number : ℕ) → number ≤ length flags → number < length (placed flags number)
-placed-length flags number inside =
+pub set_placed-length : (flags : List Bool) (number : ℕ) → number ≤ length flags → number < length (set_placed flags number)
+set_placed-length flags number inside =
     elim (cases_lt number (length flags)) [
       | inl below ↦ rw (lt-ltb number (length flags) below) (omega (arith, length-set flags number true))
       | inr above ↦ rw (le-ltb number (length flags) above) (omega (arith, length_push flags true))
     ]
 
-pub placed-at : (flags : List Bool) (number before : ℕ) → number ≤ length flags → (before < number → get_or flags before false ≡ true) → before < number + 1 → get_or (placed flags number) before false ≡ true
-placed-at flags number before inside was below =
+pub set_placed-at : (flags : List Bool) (number before : ℕ) → number ≤ length flags → (before < number → get_or flags before false ≡ true) → before < number + 1 → get_or (set_placed flags number) before false ≡ true
+set_placed-at flags number before inside was below =
     elim (cases_lt number (length flags)) [
       | inl lower ↦ rw (lt-ltb number (length flags) lower) (by_eq before number (λ t. get_or (set flags number true) before false ≡ true) (λ same. rw same (get_or-set_same flags number true false lower)) (λ apart. get_or-set_other flags number before true false apart ∙ was (omega arith)))
       | inr above ↦ rw (le-ltb number (length flags) above) (by_eq before number (λ t. get_or (flags ++ true ∷ []) before false ≡ true) (λ same. get_or_push flags true false before (omega arith)) (λ apart. get_or_append_left flags (true ∷ []) false before (omega arith) ∙ was (omega arith)))
     ]
 
-module _ (slots new : List Slot) (homes : BTreeMap ℕ ℕ) (hint number : ℕ) (are : AreTied slots homes hint) where
+module _ (slots new : List Slot) (homes : BTreeMap ℕ ℕ) (hint number : ℕ) (are : AreSlotsTied slots homes hint) where
   -- a set more, without members
-  pub tied-placed : number ≤ length slots → ((before : ℕ) → before < number → is_some (slot_at slots before) ≡ true) → map is_some new ≡ placed (map is_some slots) number → ((at handle : ℕ) → has (slot_at new at) handle ≡ has (slot_at slots at) handle) → AreTied new homes (number + 1)
+  pub tied-placed : number ≤ length slots → ((before : ℕ) → before < number → is_some (slot_at slots before) ≡ true) → map is_some new ≡ set_placed (map is_some slots) number → ((at handle : ℕ) → has (slot_at new at) handle ≡ has (slot_at slots at) handle) → AreSlotsTied new homes (number + 1)
   tied-placed inside all flags same =
       let long : number ≤ length (map is_some slots) = omega (arith, length-map slots is_some) in
-      let more = placed-length (map is_some slots) number long in
-      let new_long : length new ≡ length (placed (map is_some slots) number) = sym (length-map new is_some) ∙ ap length flags in
+      let more = set_placed-length (map is_some slots) number long in
+      let new_long : length new ≡ length (set_placed (map is_some slots) number) = sym (length-map new is_some) ∙ ap length flags in
       record {
         tied = λ at handle. same at handle ∙ are.tied at handle;
         inside = omega (arith, more, new_long);
-        taken = λ before below. sym (flag-at new before) ∙ ap (λ bs. get_or bs before false) flags ∙ placed-at (map is_some slots) number before long (λ lower. flag-at slots before ∙ all before lower) below;
+        taken = λ before below. sym (flag-at new before) ∙ ap (λ bs. get_or bs before false) flags ∙ set_placed-at (map is_some slots) number before long (λ lower. flag-at slots before ∙ all before lower) below;
       }
 
 some_same : {a b : ℕ} → Some a ≡ Some b → a ≡ b
 some_same e = cc e
 
 -- the sets are kept
-pub kept : (slots : List Slot) (homes : BTreeMap ℕ ℕ) (hint : ℕ) → AreTied slots homes hint → AreKept (seen slots homes)
+pub kept : (slots : List Slot) (homes : BTreeMap ℕ ℕ) (hint : ℕ) → AreSlotsTied slots homes hint → AreSetsKept (seen slots homes)
 kept slots homes hint are = record {
   one = λ handle a b in_a in_b. some_same (sym (is_number-is _ a in_a) ∙ is_number-is _ b in_b);
   there = λ handle number in_it. flag-at slots number ∙ has_there (slot_at slots number) handle (sym (is_member-has slots homes hint are number handle) ∙ in_it);

@@ -29,8 +29,8 @@ abbrev pub no_sets : Sets
 no_sets = record { there = []; homes = map.empty }
 
 -- a set has this number
-abbrev pub is_there : Sets → ℕ → Bool
-is_there sets number = slice_index_or sets.there number false
+abbrev pub is_set_there : Sets → ℕ → Bool
+is_set_there sets number = slice_index_or sets.there number false
 
 -- the set that a handle is in
 abbrev pub set_of : Sets → ℕ → Option ℕ
@@ -54,21 +54,21 @@ abbrev pub least_free : Sets → ℕ
 least_free sets = position_or_len not sets.there
 
 -- the flags with one set at this place, which is one of them or the next one
-abbrev pub placed : List Bool → ℕ → List Bool
-placed there number =
+abbrev pub set_placed : List Bool → ℕ → List Bool
+set_placed there number =
     if nat_lt number (length there) then slice_set there number true else (there ++ true ∷ [])
 
 -- a set more, of the least number that none has, without members
 abbrev pub with_new_set : Sets → Sets
-with_new_set sets = record sets { there = placed sets.there (least_free sets) }
+with_new_set sets = record sets { there = set_placed sets.there (least_free sets) }
 
 -- the handle is in this set, and in no other
-abbrev pub joined : Sets → ℕ → ℕ → Sets
-joined sets handle number = record sets { homes = map.insert sets.homes handle number }
+abbrev pub handle_joined : Sets → ℕ → ℕ → Sets
+handle_joined sets handle number = record sets { homes = map.insert sets.homes handle number }
 
 -- the handle is in no set
-abbrev pub left : Sets → ℕ → Sets
-left sets handle = record sets { homes = map.remove sets.homes handle }
+abbrev pub handle_left : Sets → ℕ → Sets
+handle_left sets handle = record sets { homes = map.remove sets.homes handle }
 
 -- the set is there no more
 abbrev pub without_set : Sets → ℕ → Sets
@@ -94,11 +94,11 @@ pub record IsLeastReady (says : ℕ → Bool → Type 0) (sets : Sets) (number h
   pub least : (other : ℕ) → other < handle → is_member sets number other ≡ true → says other false
 
 -- the list has the handles that are in the set of this number, ascending
-pub record Lists (sets : Sets) (number : ℕ) (handles : List ℕ) : Type 0 where
+pub record ListsHandles (sets : Sets) (number : ℕ) (handles : List ℕ) : Type 0 where
   pub ascending : IsStrictlyIncreasing handles
   pub same : (handle : ℕ) → list_any (nat_eq handle) handles ≡ is_member sets number handle
 
 -- a handle is in one set at most, and that set is there
-pub record AreKept (sets : Sets) : Type 0 where
+pub record AreSetsKept (sets : Sets) : Type 0 where
   pub one : (handle a b : ℕ) → is_member sets a handle ≡ true → is_member sets b handle ≡ true → a ≡ b
-  pub there : (handle number : ℕ) → is_member sets number handle ≡ true → is_there sets number ≡ true
+  pub there : (handle number : ℕ) → is_member sets number handle ≡ true → is_set_there sets number ≡ true

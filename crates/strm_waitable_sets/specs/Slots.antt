@@ -24,7 +24,7 @@ pub record HasSome (slot : Slot) : Type 0 where
   pub there : has slot handle ≡ true
 
 -- a set has just the handles that say so, and below the hint each number has a set
-pub record AreTied (slots : List Slot) (homes : tree_map.BTreeMap ℕ ℕ) (hint : ℕ) : Type 0 where
+pub record AreSlotsTied (slots : List Slot) (homes : tree_map.BTreeMap ℕ ℕ) (hint : ℕ) : Type 0 where
   pub tied : (number handle : ℕ) → has (slot_at slots number) handle ≡ is_number (tree_map.get nat_cmp homes handle) number
   pub inside : hint ≤ length slots
   pub taken : (number : ℕ) → number < hint → is_some (slot_at slots number) ≡ true

@@ -5,7 +5,7 @@
 //! that no set has, and the least member that is ready.
 
 ghost use Rattle.std.specs.Prelude.{◌≡◌, ℕ, ◌<◌, true, IfSome, IfNone, IfOk, OnOk, OnErr};
-ghost use Rattle.strm_waitable_sets.specs.Sets.{no_sets, is_there, is_member, set_of, least_free, with_new_set, joined, left, without_set, HasMember, HasNoMember, IsLeastReady, NoneReady, AreKept};
+ghost use Rattle.strm_waitable_sets.specs.Sets.{no_sets, is_set_there, is_member, set_of, least_free, with_new_set, handle_joined, handle_left, without_set, HasMember, HasNoMember, IsLeastReady, NoneReady, AreSetsKept};
 
 use crate::slots::{
     Slot, add_member, first_free, is_memberless, least_ready, place, remove_member,
@@ -34,7 +34,7 @@ impl Model for WaitableSets {
     ghost use Rattle.std.specs.Prelude.{map as map_list, is_some};
     ghost use Rattle.std.specs.FinMap.{from_entries};
     ghost use Rattle.strm_waitable_sets.specs.Sets.{Sets, sets_code};
-    ghost use Rattle.strm_waitable_sets.specs.Slots.{AreTied};
+    ghost use Rattle.strm_waitable_sets.specs.Slots.{AreSlotsTied};
 
     ghost Value = { Sets };
 
@@ -45,7 +45,7 @@ impl Model for WaitableSets {
       homes = from_entries s.homes.entries;
     } };
 
-    ghost invariant = { λ s. AreTied s.sets.items s.homes s.hint };
+    ghost invariant = { λ s. AreSlotsTied s.sets.items s.homes s.hint };
 }
 
 impl WaitableSets {
@@ -63,7 +63,7 @@ impl WaitableSets {
 
     /// Whether a set has this number.
     pub fn is_there(&self, set: u32) -> bool
-        ensures { result ≡ is_there self.now set }
+        ensures { result ≡ is_set_there self.now set }
     {
         match self.sets.get(set as usize) {
             Some(slot) => slot.is_some(),
@@ -92,7 +92,7 @@ impl WaitableSets {
     /// number of 32 bits is left, nothing changes.
     pub fn set_new(&mut self) -> Result<u32, OutOfMemory>
         ensures number { IfOk result (λ number. number ≡ least_free self.old) }
-        ensures there { IfOk result (λ number. is_there self.new number ≡ true) }
+        ensures there { IfOk result (λ number. is_set_there self.new number ≡ true) }
         ensures ok { OnOk result (self.new ≡ with_new_set self.old) }
         ensures err { OnErr result (self.new ≡ self.old) }
     {
@@ -108,8 +108,8 @@ impl WaitableSets {
     /// Puts a handle into a set; it leaves the set that it was in. Where there is no memory, nothing
     /// changes.
     pub fn join(&mut self, handle: u32, set: u32) -> Result<(), OutOfMemory>
-        requires there { is_there self.old set ≡ true }
-        ensures ok { OnOk result (self.new ≡ joined self.old handle set) }
+        requires there { is_set_there self.old set ≡ true }
+        ensures ok { OnOk result (self.new ≡ handle_joined self.old handle set) }
         ensures err { OnErr result (self.new ≡ self.old) }
     {
         if self.is_member(set, handle) {
@@ -129,7 +129,7 @@ impl WaitableSets {
 
     /// Takes a handle out of its set, if it is in one. No memory is taken.
     pub fn leave(&mut self, handle: u32)
-        ensures { self.new ≡ left self.old handle }
+        ensures { self.new ≡ handle_left self.old handle }
     {
         if let Some(home) = self.homes.remove(&handle) {
             remove_member(&mut self.sets[home as usize], handle);
@@ -139,7 +139,7 @@ impl WaitableSets {
     /// The least member of a set that is ready. It looks at the members by rising handle, and at none
     /// behind the one that it answers. No memory is taken.
     pub fn poll<F: Fn(u32) -> bool>(&self, set: u32, ready: F) -> Option<u32>
-        requires there { is_there self.now set ≡ true }
+        requires there { is_set_there self.now set ≡ true }
         requires callable { F.IsAlwaysCallable ready }
         ensures some { IfSome result (IsLeastReady (F.post ready) self.now set) }
         ensures none { IfNone result (NoneReady (F.post ready) self.now set) }
@@ -149,7 +149,7 @@ impl WaitableSets {
 
     /// Takes a set away that has no member; its number may be given again. No memory is taken.
     pub fn remove(&mut self, set: u32) -> Result<(), SetNotEmpty>
-        requires there { is_there self.old set ≡ true }
+        requires there { is_set_there self.old set ≡ true }
         ensures empty { OnOk result (HasNoMember self.old set) }
         ensures not_empty { OnErr result (HasMember self.old set) }
         ensures ok { OnOk result (self.new ≡ without_set self.old set) }
@@ -165,7 +165,7 @@ impl WaitableSets {
 
     /// A handle is in one set at most, which is there.
     pub fn are_kept(&self)
-        ensures { AreKept self.now }
+        ensures { AreSetsKept self.now }
     {
         let _ = &self.sets;
     }

@@ -4,7 +4,7 @@
 
 ghost use Rattle.std.specs.Prelude.{◌≡◌, ℕ, ◌<◌, ◌≤◌, true, false, not, ◌&&◌, ◌||◌, nat_eq, length, map, None, is_some, IfSome, IfNone, OnOk, OnErr};
 ghost use Rattle.std.specs.List.{position_or_len};
-ghost use Rattle.strm_waitable_sets.specs.Sets.{placed};
+ghost use Rattle.strm_waitable_sets.specs.Sets.{set_placed};
 ghost use Rattle.strm_waitable_sets.specs.Slots.{has, slot_at, HasSome};
 
 use std::alloc::Global;
@@ -79,7 +79,7 @@ pub(crate) fn place(slots: &mut Vec<Slot>, number: usize, alloc: Global) -> Resu
     requires inside { number ≤ length slots.old.items }
     requires vacant { slot_at slots.old.items number ≡ None }
     ensures flags { OnOk result
-        (map is_some slots.new.items ≡ placed (map is_some slots.old.items) number) }
+        (map is_some slots.new.items ≡ set_placed (map is_some slots.old.items) number) }
     ensures members { OnOk result ((at handle : ℕ) →
         has (slot_at slots.new.items at) handle ≡ has (slot_at slots.old.items at) handle) }
     ensures err { OnErr result (slots.new.items ≡ slots.old.items) }

@@ -5,7 +5,7 @@ use Rattle.strm_buffers.specs.Tells.{Tells}
 use Rattle.strm_machine.specs.declared.steps.Step.{Step}
 use Rattle.strm_input_output.specs.Faults.{Rose, TakesPart}
 use Rattle.strm_input_output.specs.Serving.{Port, Writes, ReadsWithin, IsFaultless, IsOr}
-use Rattle.strm_lines.specs.Lines.{lines_of, Spells, IsFirstBad, IsTooLong}
+use Rattle.strm_lines.specs.Lines.{lines_of, Spells, IsFirstBadLine, IsTooLong}
 use Rattle.strm_session.specs.Records.{HostsGoOn}
 use Rattle.strm_session.specs.declared.runs.RunStop.{RunStop}
 use Rattle.strm_session.specs.declared.runs.Transcript.{Transcript}
@@ -15,7 +15,7 @@ use Rattle.strm_tape_runs.specs.Playing.{WasRunOrNot, IsPlayOf}
 use Rattle.strm_tape_program.specs.Playing.{IsOfTape, IsPlayStatus, IsStatusOfPlay}
 use Rattle.strm_tape_program.specs.Reading.{IsNoTape, IsReadStatus, IsReadable, IsSpelling, most_bytes}
 use Rattle.strm_tape_program.specs.Taking.{IsOfScript, IsTakeStatus}
-use Rattle.strm_tape_program.specs.Texts.{usage_text}
+use Rattle.strm_tape_program.specs.Texts.{tape_usage_text}
 use Rattle.tape.specs.HostEnds.{unused, followers}
 
 -- a script of a source was taken among host ends that told this before and tell that after, and which answer
@@ -31,14 +31,14 @@ pub record TakesAmong (ends after : Tells) (source source_after sink sink_after 
       Spells (lines_of input) steps → ¬ IsTooLong input → IsOr 0 status
   pub bad_line : (input : List ℕ) (line : ℕ) →
       IsFaultless source.bytes input source.faults source_after.faults sink.faults sink_after.faults →
-      IsFirstBad (lines_of input) line → ¬ IsTooLong input → IsOr 2 status
+      IsFirstBadLine (lines_of input) line → ¬ IsTooLong input → IsOr 2 status
   pub too_long : (input : List ℕ) →
       IsFaultless source.bytes input source.faults source_after.faults sink.faults sink_after.faults →
       IsTooLong input → IsOr 3 status
 
 -- among those of the program
-abbrev pub Takes : Port → Port → Port → Port → ℕ → Type 0
-Takes source source_after sink sink_after status =
+abbrev pub TakesScript : Port → Port → Port → Port → ℕ → Type 0
+TakesScript source source_after sink sink_after status =
     (after : Tells) × TakesAmong unused after source source_after sink sink_after status
 
 -- a tape was played among host ends that told this before and tell that after, and which answer comes but for
@@ -88,5 +88,5 @@ pub record PlaysRead (source source_after sink sink_after : Port) (status : ℕ)
 -- it was written how to call the program
 pub record TellsUsage (sink sink_after : Port) (status : ℕ) : Type 0 where
   pub known : (status ≡ 1) ⊎ (status ≡ 5)
-  pub told : status ≡ 1 → Appends sink.bytes sink_after.bytes usage_text
-  pub part : status ≡ 5 → TakesPart sink.bytes sink_after.bytes usage_text × Rose sink.faults sink_after.faults
+  pub told : status ≡ 1 → Appends sink.bytes sink_after.bytes tape_usage_text
+  pub part : status ≡ 5 → TakesPart sink.bytes sink_after.bytes tape_usage_text × Rose sink.faults sink_after.faults

@@ -8,7 +8,7 @@ ghost use Rattle.strm_buffers.specs.AllTells.{tells_of};
 ghost use Rattle.strm_tape_program.specs.Modes.{Names, NamesNone};
 ghost use Rattle.tape.specs.HostEnds.{writers, readers, unused, following, following_reader, followers};
 ghost use Rattle.strm_input_output.specs.Serving.{port};
-ghost use Rattle.tape.specs.Outcomes.{Takes, TakesAmong, Plays, PlaysAmong, PlaysRead, TellsUsage};
+ghost use Rattle.tape.specs.Outcomes.{TakesScript, TakesAmong, Plays, PlaysAmong, PlaysRead, TellsUsage};
 
 use std::alloc::{AllocError, Global};
 use std::io;
@@ -81,7 +81,7 @@ fn taken_among_ends<S: Source, K: Sink>(
     source: &mut S,
     sink: &mut K,
 ) -> Result<ExitCode, AllocError>
-    ensures takes { IfOk result (λ code. Takes
+    ensures takes { IfOk result (λ code. TakesScript
         (port (S.left source.old) (S.faults source.old))
         (port (S.left source.new) (S.faults source.new))
         (port (K.taken sink.old) (K.faults sink.old)) (port (K.taken sink.new) (K.faults sink.new))
@@ -195,7 +195,7 @@ fn answered<S: Source, K: Sink>(
     source: &mut S,
     sink: &mut K,
 ) -> Result<ExitCode, AllocError>
-    ensures takes { Names (map string_bytes words.now.items) Mode.Take → IfOk result (λ code. Takes
+    ensures takes { Names (map string_bytes words.now.items) Mode.Take → IfOk result (λ code. TakesScript
         (port (S.left source.old) (S.faults source.old))
         (port (S.left source.new) (S.faults source.new))
         (port (K.taken sink.old) (K.faults sink.old)) (port (K.taken sink.new) (K.faults sink.new))

@@ -6,7 +6,7 @@ ghost use Rattle.std.specs.Prelude.{◌≡◌, None, IfSome};
 ghost use Rattle.strm_machine.specs.Reactions.{react, lowers_context};
 ghost use Rattle.strm_machine.specs.declared.steps.Step.TheVariants as steps;
 ghost use Rattle.strm_c.specs.Queries.{context_answer};
-ghost use Rattle.strm_c.specs.Statuses.{Answers, AnswersOr, no_store, answer_status, answer_word};
+ghost use Rattle.strm_c.specs.Statuses.{AnswersCall, AnswersOr, no_store, answer_status, answer_word};
 
 use crate::handles::StoreHandle;
 use crate::statuses::{NO_STORE, Status, done, number};
@@ -41,7 +41,7 @@ pub extern "C" fn strm_error_context_message(
     address: u32,
     out: &mut u32,
 ) -> Status
-    ensures answers { Answers store.old.state (λ s. react s (steps.ErrText guest handle address))
+    ensures answers { AnswersCall store.old.state (λ s. react s (steps.ErrText guest handle address))
         result out.old out.new store.new.state }
 {
     let Some(store) = store.get_mut() else {
@@ -117,7 +117,7 @@ pub extern "C" fn strm_error_context_drop(
     guest: u32,
     handle: u32,
 ) -> Status
-    ensures answers { Answers store.old.state (λ s. react s (steps.ErrDrop guest handle))
+    ensures answers { AnswersCall store.old.state (λ s. react s (steps.ErrDrop guest handle))
         result 0 0 store.new.state }
 {
     let Some(store) = store.get_mut() else {

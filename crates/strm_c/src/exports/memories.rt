@@ -8,7 +8,7 @@ ghost use Rattle.strm_machine.specs.Bases.{base_in, with_base_in};
 ghost use Rattle.strm_machine.specs.Reactions.{react};
 ghost use Rattle.strm_machine.specs.declared.steps.Step.TheVariants as steps;
 ghost use Rattle.strm_c.specs.Queries.{bytes_answer};
-ghost use Rattle.strm_c.specs.Statuses.{Answers, AnswersOr, no_store, found_status};
+ghost use Rattle.strm_c.specs.Statuses.{AnswersCall, AnswersOr, no_store, found_status};
 
 use crate::handles::StoreHandle;
 use crate::statuses::{NO_STORE, Status, done, found, number};
@@ -36,7 +36,7 @@ pub extern "C" fn strm_memory_write(
     address: u32,
     bytes: &[u8],
 ) -> Status
-    ensures answers { Answers store.old.state (λ s. react s (steps.Poke guest address bytes.now))
+    ensures answers { AnswersCall store.old.state (λ s. react s (steps.Poke guest address bytes.now))
         result 0 0 store.new.state }
 {
     let Some(store) = store.get_mut() else {

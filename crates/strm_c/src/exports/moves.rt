@@ -8,7 +8,7 @@ ghost use Rattle.strm_machine.specs.Reactions.{react};
 ghost use Rattle.strm_machine.specs.declared.steps.Step.TheVariants as steps;
 ghost use Rattle.strm_c.specs.Pairs.{pair_in};
 ghost use Rattle.strm_c.specs.Payloads.{payload_at, type_at};
-ghost use Rattle.strm_c.specs.Statuses.{Answers, AnswersOf, AnswersOfOr, no_memory};
+ghost use Rattle.strm_c.specs.Statuses.{AnswersCall, AnswersOf, AnswersOfOr, no_memory};
 
 use crate::exports::pairs::{StrmPair, pair};
 use crate::handles::StoreHandle;
@@ -144,7 +144,7 @@ pub extern "C" fn strm_lower(
 /// Drops the loose read end of a stream. Refused: UnknownReader.
 #[unsafe(no_mangle)]
 pub extern "C" fn strm_close(store: &mut StoreHandle, reader: u32) -> Status
-    ensures answers { Answers store.old.state (λ s. react s (steps.Close reader))
+    ensures answers { AnswersCall store.old.state (λ s. react s (steps.Close reader))
         result 0 0 store.new.state }
 {
     let Some(store) = store.get_mut() else {

@@ -6,7 +6,7 @@ ghost use Rattle.std.specs.Prelude.{◌≡◌, ◌≢◌, IfSome};
 ghost use Rattle.strm_machine.specs.Reactions.{react};
 ghost use Rattle.strm_machine.specs.declared.steps.Step.TheVariants as steps;
 ghost use Rattle.strm_c.specs.Members.{answer_member, member_in};
-ghost use Rattle.strm_c.specs.Statuses.{Answers, AnswersOr, answer_status};
+ghost use Rattle.strm_c.specs.Statuses.{AnswersCall, AnswersOr, answer_status};
 
 use crate::handles::StoreHandle;
 use crate::statuses::{NO_EVENT, NO_STORE, Status, done, error_status, number};
@@ -54,7 +54,7 @@ pub extern "C" fn strm_set_poll(
     set: u32,
     out: &mut StrmMember,
 ) -> Status
-    ensures answers { Answers store.old.state (λ s. react s (steps.SetPoll guest set))
+    ensures answers { AnswersCall store.old.state (λ s. react s (steps.SetPoll guest set))
         result 0 0 store.new.state }
     ensures member { IfSome store.old.state (λ s.
         out.new ≡ member_in (react s (steps.SetPoll guest set)).reply out.old) }
@@ -70,7 +70,7 @@ pub extern "C" fn strm_set_poll(
 /// WrongKind, SetNotEmpty.
 #[unsafe(no_mangle)]
 pub extern "C" fn strm_set_drop(store: &mut StoreHandle, guest: u32, set: u32) -> Status
-    ensures answers { Answers store.old.state (λ s. react s (steps.SetDrop guest set))
+    ensures answers { AnswersCall store.old.state (λ s. react s (steps.SetDrop guest set))
         result 0 0 store.new.state }
 {
     let Some(store) = store.get_mut() else {

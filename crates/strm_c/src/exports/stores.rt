@@ -7,8 +7,8 @@ ghost use Rattle.strm_codes.specs.Types.{kind_of, payload_of};
 ghost use Rattle.strm_machine.specs.State.{empty, is_live, stream_at};
 ghost use Rattle.strm_machine.specs.Soundness.{type_of};
 ghost use Rattle.strm_c.specs.Payloads.{type_word};
-ghost use Rattle.strm_c.specs.Queries.{count_of};
-ghost use Rattle.strm_c.specs.Statuses.{no_memory, no_store, no_stream};
+ghost use Rattle.strm_c.specs.Queries.{count_in_words};
+ghost use Rattle.strm_c.specs.Statuses.{no_memory, no_store, no_stream_status};
 
 use crate::handles::StoreHandle;
 use crate::payloads::type_word;
@@ -108,10 +108,10 @@ pub struct StrmCount {
 pub extern "C" fn strm_moved(store: &mut StoreHandle, stream: u32, out: &mut StrmCount) -> Status
     ensures made { IfSome store.old.state (λ s. result ≡ 0 ↔ (stream < length s.streams)) }
     ensures unknown { IfSome store.old.state (λ s.
-        result ≡ no_stream ↔ (length s.streams ≤ stream)) }
+        result ≡ no_stream_status ↔ (length s.streams ≤ stream)) }
     ensures none { store.old.state ≡ None → result ≡ no_store }
     ensures count { IfSome store.old.state (λ s. result ≡ 0 →
-        count_of out.new ≡ (stream_at s stream).received) }
+        count_in_words out.new ≡ (stream_at s stream).received) }
     ensures kept { result ≢ 0 → out.new ≡ out.old }
     ensures same { store.new.state ≡ store.old.state }
 {
@@ -125,7 +125,7 @@ pub extern "C" fn strm_moved(store: &mut StoreHandle, stream: u32, out: &mut Str
 #[unsafe(no_mangle)]
 pub extern "C" fn strm_transmit_index(store: &mut StoreHandle, stream: u32, out: &mut u64) -> Status
     ensures live { IfSome store.old.state (λ s. result ≡ 0 ↔ IsTrue (is_live (stream_at s stream))) }
-    ensures gone { IfSome store.old.state (λ s. result ≢ 0 → result ≡ no_stream) }
+    ensures gone { IfSome store.old.state (λ s. result ≢ 0 → result ≡ no_stream_status) }
     ensures none { store.old.state ≡ None → result ≡ no_store }
     ensures ty { IfSome store.old.state (λ s. result ≡ 0 →
         out.new ≡ type_word (type_of (stream_at s stream))) }
@@ -140,8 +140,8 @@ pub extern "C" fn strm_transmit_index(store: &mut StoreHandle, stream: u32, out:
 
 // A count, put at `out`.
 fn count(count: Option<u128>, out: &mut StrmCount) -> Status
-    ensures some { IfSome count (λ count. (result ≡ 0) × (count_of out.new ≡ count)) }
-    ensures none { count ≡ None → (result ≡ no_stream) × (out.new ≡ out.old) }
+    ensures some { IfSome count (λ count. (result ≡ 0) × (count_in_words out.new ≡ count)) }
+    ensures none { count ≡ None → (result ≡ no_stream_status) × (out.new ≡ out.old) }
 {
     let Some(count) = count else {
         return UNKNOWN_STREAM;
@@ -154,7 +154,7 @@ fn count(count: Option<u128>, out: &mut StrmCount) -> Status
 // A type's word, put at `out`.
 fn word(ty: Option<TransmitIndex>, out: &mut u64) -> Status
     ensures some { IfSome ty (λ ty. (result ≡ 0) × (out.new ≡ type_word ty)) }
-    ensures none { ty ≡ None → (result ≡ no_stream) × (out.new ≡ out.old) }
+    ensures none { ty ≡ None → (result ≡ no_stream_status) × (out.new ≡ out.old) }
 {
     let Some(ty) = ty else {
         return UNKNOWN_STREAM;

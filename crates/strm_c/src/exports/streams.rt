@@ -8,7 +8,7 @@ ghost use Rattle.strm_machine.specs.Reactions.{react};
 ghost use Rattle.strm_machine.specs.declared.steps.Step.TheVariants as steps;
 ghost use Rattle.strm_c.specs.Pairs.{pair_in};
 ghost use Rattle.strm_c.specs.Payloads.{payload_at};
-ghost use Rattle.strm_c.specs.Statuses.{Answers, AnswersOf, AnswersOfOr};
+ghost use Rattle.strm_c.specs.Statuses.{AnswersCall, AnswersOf, AnswersOfOr};
 
 use crate::exports::pairs::{StrmPair, pair};
 use crate::handles::StoreHandle;
@@ -200,7 +200,7 @@ pub extern "C" fn strm_take_event(
     handle: u32,
     out: &mut u32,
 ) -> Status
-    ensures answers { Answers store.old.state (λ s. react s (steps.Event guest handle))
+    ensures answers { AnswersCall store.old.state (λ s. react s (steps.Event guest handle))
         result out.old out.new store.new.state }
 {
     let Some(store) = store.get_mut() else {

@@ -4,7 +4,7 @@ use Rattle.strm_memory.specs.Bytes.{IsBytes}
 use Rattle.strm_memory.proofs.ByteLemmas.{IsBytes-take, IsBytes-drop}
 use Rattle.strm_machine.specs.State.{State}
 use Rattle.strm_machine.specs.declared.steps.Step.{Step}
-use Rattle.strm_carry_laws.specs.OneStream.{piece_of, pieces_of}
+use Rattle.strm_carry_laws.specs.OneStream.{piece_of, piece_steps}
 use Rattle.strm_carry_laws.specs.Serving.{rests, Brings}
 use Rattle.strm_carry_laws.proofs.RunLemmas.{runs_none, runs_both, runs_as}
 use Rattle.strm_carry_laws.proofs.brings_all.Goals as goal
@@ -36,8 +36,8 @@ nothing m0 m1 n t h g =
       runs = runs_as _ _ (rests m0 m1 (n + 0)) [] [] [] [] [] (ap (λ (x : ℕ). rests m0 m1 x) count) refl refl (runs_none (rests m0 m1 n));
     }
 
-all : (c : goal.After-brings) (f w r : ℕ) (m0 m1 bytes : List ℕ) (n : ℕ) → length bytes ≤ f → IsBytes m0 → IsBytes bytes → length m0 ≡ 64 → length m1 ≡ 64 → n + length bytes + 128 < 2 ^ 128 → 0 < w → w ≤ 64 → 0 < r → r ≤ 64 → Brings m0 m1 n bytes (pieces_of f w r bytes)
-unfolding pieces_of
+all : (c : goal.After-brings) (f w r : ℕ) (m0 m1 bytes : List ℕ) (n : ℕ) → length bytes ≤ f → IsBytes m0 → IsBytes bytes → length m0 ≡ 64 → length m1 ≡ 64 → n + length bytes + 128 < 2 ^ 128 → 0 < w → w ≤ 64 → 0 < r → r ≤ 64 → Brings m0 m1 n bytes (piece_steps f w r bytes)
+unfolding piece_steps
 all c zero w r m0 m1 [] n l t u h g q x y z v = nothing m0 m1 n t h g
 all c zero w r m0 m1 (b ∷ bytes) n l t u h g q x y z v = absurd (omega arith)
 all c (suc f) w r m0 m1 [] n l t u h g q x y z v = nothing m0 m1 n t h g
@@ -48,7 +48,7 @@ all c (suc f) w r m0 m1 (b ∷ bytes) n l t u h g q x y z v =
     let parts : length p + length rest ≡ length (b ∷ bytes) = omega (arith, sym (length-append p rest), ap length (take-append-drop w (b ∷ bytes))) in
     let first = c.brings.ensures r m0 m1 p n t (IsBytes-take (b ∷ bytes) w u) h g (omega (arith, pl)) (omega (arith, pl)) (omega (arith, q)) z v in
     let next = all c f w r first.writer first.reader rest (n + length p) (omega (arith, pl, parts)) first.are_bytes (IsBytes-drop (b ∷ bytes) w u) first.long first.long_too (omega (arith, q, parts)) x y z v in
-    both m0 m1 p rest (b ∷ bytes) n (piece_of r p) (pieces_of f w r rest) first (take-append-drop w (b ∷ bytes)) next
+    both m0 m1 p rest (b ∷ bytes) n (piece_of r p) (piece_steps f w r rest) first (take-append-drop w (b ∷ bytes)) next
 
 pub returns : goal.returns
 returns c = all c

@@ -10,7 +10,7 @@ ghost use Rattle.strm_machine.specs.Refusals.{first_of, context_reasons};
 ghost use Rattle.strm_machine.specs.ErrorContexts.{context_number};
 ghost use Rattle.strm_machine.specs.declared.replies.Reply.TheVariants as replies;
 ghost use Rattle.strm_machine.specs.declared.steps.Step.TheVariants as steps;
-ghost use Rattle.strm_transmit.specs.Meets.{Meets, replied, admitted, or_found};
+ghost use Rattle.strm_transmit.specs.Meets.{Meets, as_reply, admitted, or_found};
 
 use crate::guest_store::GuestStore;
 use strm_transmit::errors::StoreError;
@@ -25,7 +25,7 @@ impl GuestStore {
         address: u32,
         len: u32,
     ) -> Result<u32, StoreError>
-        ensures meets { Meets self.old self.new (replied replies.Number result)
+        ensures meets { Meets self.old self.new (as_reply replies.Number result)
             (react self.old (steps.ErrNew guest address len)) }
         ensures stays { BasesStay self.old.guests self.new.guests }
     {
@@ -40,7 +40,7 @@ impl GuestStore {
         handle: u32,
         address: u32,
     ) -> Result<u32, StoreError>
-        ensures meets { Meets self.old self.new (replied replies.Number result)
+        ensures meets { Meets self.old self.new (as_reply replies.Number result)
             (react self.old (steps.ErrText guest handle address)) }
         ensures stays { BasesStay self.old.guests self.new.guests }
         ensures takes_no_memory { result ≢ Err StoreError.OutOfMemory }
@@ -56,7 +56,7 @@ impl GuestStore {
         handle: u32,
         to: u32,
     ) -> Result<u32, StoreError>
-        ensures meets { Meets self.old self.new (replied replies.Number result)
+        ensures meets { Meets self.old self.new (as_reply replies.Number result)
             (react self.old (steps.ErrMove guest handle to)) }
         ensures stays { BasesStay self.old.guests self.new.guests }
     {
@@ -65,7 +65,7 @@ impl GuestStore {
 
     /// A handle to the error context of a number, which `error_context_rep` tells. Answers the handle.
     pub fn error_context_lower(&mut self, rep: u32, guest: u32) -> Result<u32, StoreError>
-        ensures meets { Meets self.old self.new (replied replies.Number result)
+        ensures meets { Meets self.old self.new (as_reply replies.Number result)
             (lowers_context self.old rep guest) }
         ensures stays { BasesStay self.old.guests self.new.guests }
     {
@@ -75,7 +75,7 @@ impl GuestStore {
     /// A handle of an error context is given up, and the context with the last. `canon
     /// error-context.drop`.
     pub fn error_context_drop(&mut self, guest: u32, handle: u32) -> Result<(), StoreError>
-        ensures meets { Meets self.old self.new (replied (λ _. replies.Done) result)
+        ensures meets { Meets self.old self.new (as_reply (λ _. replies.Done) result)
             (react self.old (steps.ErrDrop guest handle)) }
         ensures stays { BasesStay self.old.guests self.new.guests }
         ensures takes_no_memory { result ≢ Err StoreError.OutOfMemory }

@@ -8,7 +8,7 @@ ghost use Rattle.strm_machine.specs.Bases.{BasesStay};
 ghost use Rattle.strm_machine.specs.Reactions.{react};
 ghost use Rattle.strm_machine.specs.declared.replies.Reply.TheVariants as replies;
 ghost use Rattle.strm_machine.specs.declared.steps.Step.TheVariants as steps;
-ghost use Rattle.strm_transmit.specs.Meets.{Meets, replied};
+ghost use Rattle.strm_transmit.specs.Meets.{Meets, as_reply};
 
 use crate::guest_store::{GuestStore, no_hosts};
 use strm_codes::codes::{ReturnCode, TransmitIndex};
@@ -23,7 +23,7 @@ impl GuestStore {
     /// A new future whose ends one guest gets: their handles go into its table, the read end's first.
     /// `canon future.new`. Refused as `stream_new` is.
     pub fn future_new(&mut self, guest: u32, payload: Payload) -> Result<Pair, StoreError>
-        ensures meets { Meets self.old self.new (replied replies.Pair result)
+        ensures meets { Meets self.old self.new (as_reply replies.Pair result)
             (react self.old (steps.New guest (index.Future payload))) }
         ensures stays { BasesStay self.old.guests self.new.guests }
     {
@@ -38,7 +38,7 @@ impl GuestStore {
         handle: u32,
         address: u32,
     ) -> Result<ReturnCode, StoreError>
-        ensures meets { Meets self.old self.new (replied replies.Code result)
+        ensures meets { Meets self.old self.new (as_reply replies.Code result)
             (react self.old (steps.Write guest (index.Future payload) handle address 1)) }
         ensures stays { BasesStay self.old.guests self.new.guests }
         ensures takes_no_memory { result ≢ Err StoreError.OutOfMemory }
@@ -56,7 +56,7 @@ impl GuestStore {
         handle: u32,
         address: u32,
     ) -> Result<ReturnCode, StoreError>
-        ensures meets { Meets self.old self.new (replied replies.Code result)
+        ensures meets { Meets self.old self.new (as_reply replies.Code result)
             (react self.old (steps.Read guest (index.Future payload) handle address 1)) }
         ensures stays { BasesStay self.old.guests self.new.guests }
         ensures takes_no_memory { result ≢ Err StoreError.OutOfMemory }
@@ -73,7 +73,7 @@ impl GuestStore {
         payload: Payload,
         handle: u32,
     ) -> Result<ReturnCode, StoreError>
-        ensures meets { Meets self.old self.new (replied replies.Code result)
+        ensures meets { Meets self.old self.new (as_reply replies.Code result)
             (react self.old (steps.CancelWrite guest (index.Future payload) handle)) }
         ensures stays { BasesStay self.old.guests self.new.guests }
         ensures takes_no_memory { result ≢ Err StoreError.OutOfMemory }
@@ -88,7 +88,7 @@ impl GuestStore {
         payload: Payload,
         handle: u32,
     ) -> Result<ReturnCode, StoreError>
-        ensures meets { Meets self.old self.new (replied replies.Code result)
+        ensures meets { Meets self.old self.new (as_reply replies.Code result)
             (react self.old (steps.CancelRead guest (index.Future payload) handle)) }
         ensures stays { BasesStay self.old.guests self.new.guests }
         ensures takes_no_memory { result ≢ Err StoreError.OutOfMemory }
@@ -107,7 +107,7 @@ impl GuestStore {
         payload: Payload,
         handle: u32,
     ) -> Result<(), StoreError>
-        ensures meets { Meets self.old self.new (replied (λ _. replies.Done) result)
+        ensures meets { Meets self.old self.new (as_reply (λ _. replies.Done) result)
             (react self.old (steps.DropWrite guest (index.Future payload) handle)) }
         ensures stays { BasesStay self.old.guests self.new.guests }
         ensures takes_no_memory { result ≢ Err StoreError.OutOfMemory }
@@ -124,7 +124,7 @@ impl GuestStore {
         payload: Payload,
         handle: u32,
     ) -> Result<(), StoreError>
-        ensures meets { Meets self.old self.new (replied (λ _. replies.Done) result)
+        ensures meets { Meets self.old self.new (as_reply (λ _. replies.Done) result)
             (react self.old (steps.DropRead guest (index.Future payload) handle)) }
         ensures stays { BasesStay self.old.guests self.new.guests }
         ensures takes_no_memory { result ≢ Err StoreError.OutOfMemory }

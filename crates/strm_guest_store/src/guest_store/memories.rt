@@ -9,7 +9,7 @@ ghost use Rattle.strm_machine.specs.Reactions.{react};
 ghost use Rattle.strm_machine.specs.Refusals.{first_of, bytes_reasons};
 ghost use Rattle.strm_machine.specs.declared.replies.Reply.TheVariants as replies;
 ghost use Rattle.strm_machine.specs.declared.steps.Step.TheVariants as steps;
-ghost use Rattle.strm_transmit.specs.Meets.{Meets, replied, or_found};
+ghost use Rattle.strm_transmit.specs.Meets.{Meets, as_reply, or_found};
 
 use crate::guest_store::GuestStore;
 use strm_codes::refusals::Refusal;
@@ -54,7 +54,7 @@ impl GuestStore {
     /// A guest with a memory of so many zero bytes. Answers its number; the first is 0. Refused, in this
     /// order, are bytes past 268,435,456 of all guests together, and the guest past 1,048,576.
     pub fn add_guest(&mut self, size: u32) -> Result<u32, StoreError>
-        ensures meets { Meets self.old self.new (replied replies.Number result)
+        ensures meets { Meets self.old self.new (as_reply replies.Number result)
             (react self.old (steps.Guest size)) }
         ensures stays { BasesStay self.old.guests self.new.guests }
     {
@@ -63,7 +63,7 @@ impl GuestStore {
 
     /// Bytes put into a guest's memory from an address on, as many as they are.
     pub fn write_memory(&mut self, guest: u32, address: u32, bytes: &[u8]) -> Result<(), StoreError>
-        ensures meets { Meets self.old self.new (replied (λ _. replies.Done) result)
+        ensures meets { Meets self.old self.new (as_reply (λ _. replies.Done) result)
             (react self.old (steps.Poke guest address bytes.now)) }
         ensures stays { BasesStay self.old.guests self.new.guests }
         ensures takes_no_memory { result ≢ Err StoreError.OutOfMemory }

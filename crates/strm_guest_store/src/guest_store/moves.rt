@@ -9,7 +9,7 @@ ghost use Rattle.strm_machine.specs.Bases.{BasesStay};
 ghost use Rattle.strm_machine.specs.Reactions.{react};
 ghost use Rattle.strm_machine.specs.declared.replies.Reply.TheVariants as replies;
 ghost use Rattle.strm_machine.specs.declared.steps.Step.TheVariants as steps;
-ghost use Rattle.strm_transmit.specs.Meets.{Meets, replied};
+ghost use Rattle.strm_transmit.specs.Meets.{Meets, as_reply};
 
 use crate::guest_store::{GuestStore, no_hosts};
 use strm_codes::codes::TransmitIndex;
@@ -27,7 +27,7 @@ impl GuestStore {
         reader: u32,
         ty: TransmitIndex,
     ) -> Result<Pair, StoreError>
-        ensures meets { Meets self.old self.new (replied replies.Pair result)
+        ensures meets { Meets self.old self.new (as_reply replies.Pair result)
             (react self.old (steps.Between writer reader ty)) }
         ensures stays { BasesStay self.old.guests self.new.guests }
     {
@@ -43,7 +43,7 @@ impl GuestStore {
         handle: u32,
         to: u32,
     ) -> Result<u32, StoreError>
-        ensures meets { Meets self.old self.new (replied replies.Number result)
+        ensures meets { Meets self.old self.new (as_reply replies.Number result)
             (react self.old (steps.Move guest (index.Stream payload) handle to)) }
         ensures stays { BasesStay self.old.guests self.new.guests }
         ensures takes_no_memory { guest ≡ to → result ≢ Err StoreError.OutOfMemory }
@@ -59,7 +59,7 @@ impl GuestStore {
         handle: u32,
         to: u32,
     ) -> Result<u32, StoreError>
-        ensures meets { Meets self.old self.new (replied replies.Number result)
+        ensures meets { Meets self.old self.new (as_reply replies.Number result)
             (react self.old (steps.Move guest (index.Future payload) handle to)) }
         ensures stays { BasesStay self.old.guests self.new.guests }
         ensures takes_no_memory { guest ≡ to → result ≢ Err StoreError.OutOfMemory }
@@ -70,7 +70,7 @@ impl GuestStore {
     /// A read end out of a guest: it is loose then. Answers the stream's number, by which `lower` and
     /// `close` name it. Canonical ABI, `lift_stream` and `lift_future`.
     pub fn lift(&mut self, guest: u32, ty: TransmitIndex, handle: u32) -> Result<u32, StoreError>
-        ensures meets { Meets self.old self.new (replied replies.Number result)
+        ensures meets { Meets self.old self.new (as_reply replies.Number result)
             (react self.old (steps.Lift guest ty handle)) }
         ensures stays { BasesStay self.old.guests self.new.guests }
         ensures takes_no_memory { result ≢ Err StoreError.OutOfMemory }
@@ -81,7 +81,7 @@ impl GuestStore {
     /// The loose read end of a stream into a guest. Answers its handle. Canonical ABI, `lower_stream` and
     /// `lower_future`.
     pub fn lower(&mut self, reader: u32, guest: u32, ty: TransmitIndex) -> Result<u32, StoreError>
-        ensures meets { Meets self.old self.new (replied replies.Number result)
+        ensures meets { Meets self.old self.new (as_reply replies.Number result)
             (react self.old (steps.Lower reader guest ty)) }
         ensures stays { BasesStay self.old.guests self.new.guests }
     {
@@ -93,7 +93,7 @@ impl GuestStore {
 impl GuestStore {
     /// Drops the loose read end of a stream.
     pub fn close(&mut self, reader: u32) -> Result<(), StoreError>
-        ensures meets { Meets self.old self.new (replied (λ _. replies.Done) result)
+        ensures meets { Meets self.old self.new (as_reply (λ _. replies.Done) result)
             (react self.old (steps.Close reader)) }
         ensures stays { BasesStay self.old.guests self.new.guests }
         ensures takes_no_memory { result ≢ Err StoreError.OutOfMemory }

@@ -8,7 +8,7 @@ ghost use Rattle.strm_machine.specs.Bases.{BasesStay};
 ghost use Rattle.strm_machine.specs.Reactions.{react};
 ghost use Rattle.strm_machine.specs.declared.replies.Reply.TheVariants as replies;
 ghost use Rattle.strm_machine.specs.declared.steps.Step.TheVariants as steps;
-ghost use Rattle.strm_transmit.specs.Meets.{Meets, replied};
+ghost use Rattle.strm_transmit.specs.Meets.{Meets, as_reply};
 
 use crate::guest_store::GuestStore;
 use strm_machine::replies::Member;
@@ -18,7 +18,7 @@ use strm_transmit::errors::StoreError;
 impl GuestStore {
     /// A new waitable set. Answers its handle. `canon waitable-set.new`.
     pub fn set_new(&mut self, guest: u32) -> Result<u32, StoreError>
-        ensures meets { Meets self.old self.new (replied replies.Number result)
+        ensures meets { Meets self.old self.new (as_reply replies.Number result)
             (react self.old (steps.SetNew guest)) }
         ensures stays { BasesStay self.old.guests self.new.guests }
     {
@@ -28,7 +28,7 @@ impl GuestStore {
     /// An end joins a set, and leaves the one that it was in; of set 0 it leaves that alone.
     /// `canon waitable.join`.
     pub fn set_join(&mut self, guest: u32, set: u32, handle: u32) -> Result<(), StoreError>
-        ensures meets { Meets self.old self.new (replied (λ _. replies.Done) result)
+        ensures meets { Meets self.old self.new (as_reply (λ _. replies.Done) result)
             (react self.old (steps.SetJoin guest set handle)) }
         ensures stays { BasesStay self.old.guests self.new.guests }
     {
@@ -37,7 +37,7 @@ impl GuestStore {
 
     /// The member of the least handle that has a report is told it. `canon waitable-set.poll`.
     pub fn set_poll(&mut self, guest: u32, set: u32) -> Result<Option<Member>, StoreError>
-        ensures meets { Meets self.old self.new (replied replies.Member result)
+        ensures meets { Meets self.old self.new (as_reply replies.Member result)
             (react self.old (steps.SetPoll guest set)) }
         ensures stays { BasesStay self.old.guests self.new.guests }
         ensures takes_no_memory { result ≢ Err StoreError.OutOfMemory }
@@ -48,7 +48,7 @@ impl GuestStore {
     /// A set without members is given up. `canon waitable-set.drop`. One that has any is refused
     /// (SetNotEmpty).
     pub fn set_drop(&mut self, guest: u32, set: u32) -> Result<(), StoreError>
-        ensures meets { Meets self.old self.new (replied (λ _. replies.Done) result)
+        ensures meets { Meets self.old self.new (as_reply (λ _. replies.Done) result)
             (react self.old (steps.SetDrop guest set)) }
         ensures stays { BasesStay self.old.guests self.new.guests }
         ensures takes_no_memory { result ≢ Err StoreError.OutOfMemory }

@@ -8,7 +8,7 @@ ghost use Rattle.strm_machine.specs.Bases.{BasesStay};
 ghost use Rattle.strm_machine.specs.Reactions.{react};
 ghost use Rattle.strm_machine.specs.declared.replies.Reply.TheVariants as replies;
 ghost use Rattle.strm_machine.specs.declared.steps.Step.TheVariants as steps;
-ghost use Rattle.strm_transmit.specs.Meets.{Meets, replied};
+ghost use Rattle.strm_transmit.specs.Meets.{Meets, as_reply};
 
 use crate::guest_store::{GuestStore, no_hosts};
 use strm_codes::codes::{ReturnCode, TransmitIndex};
@@ -24,7 +24,7 @@ impl GuestStore {
     /// `canon stream.new`. Refused, in this order, are an unknown guest, a table without a number left,
     /// handles past their limit, and a stream past the limit on places.
     pub fn stream_new(&mut self, guest: u32, payload: Payload) -> Result<Pair, StoreError>
-        ensures meets { Meets self.old self.new (replied replies.Pair result)
+        ensures meets { Meets self.old self.new (as_reply replies.Pair result)
             (react self.old (steps.New guest (index.Stream payload))) }
         ensures stays { BasesStay self.old.guests self.new.guests }
     {
@@ -41,7 +41,7 @@ impl GuestStore {
         address: u32,
         count: u32,
     ) -> Result<ReturnCode, StoreError>
-        ensures meets { Meets self.old self.new (replied replies.Code result)
+        ensures meets { Meets self.old self.new (as_reply replies.Code result)
             (react self.old (steps.Write guest (index.Stream payload) handle address count)) }
         ensures stays { BasesStay self.old.guests self.new.guests }
         ensures takes_no_memory { result ≢ Err StoreError.OutOfMemory }
@@ -61,7 +61,7 @@ impl GuestStore {
         address: u32,
         count: u32,
     ) -> Result<ReturnCode, StoreError>
-        ensures meets { Meets self.old self.new (replied replies.Code result)
+        ensures meets { Meets self.old self.new (as_reply replies.Code result)
             (react self.old (steps.Read guest (index.Stream payload) handle address count)) }
         ensures stays { BasesStay self.old.guests self.new.guests }
         ensures takes_no_memory { result ≢ Err StoreError.OutOfMemory }
@@ -79,7 +79,7 @@ impl GuestStore {
         payload: Payload,
         handle: u32,
     ) -> Result<ReturnCode, StoreError>
-        ensures meets { Meets self.old self.new (replied replies.Code result)
+        ensures meets { Meets self.old self.new (as_reply replies.Code result)
             (react self.old (steps.CancelWrite guest (index.Stream payload) handle)) }
         ensures stays { BasesStay self.old.guests self.new.guests }
         ensures takes_no_memory { result ≢ Err StoreError.OutOfMemory }
@@ -94,7 +94,7 @@ impl GuestStore {
         payload: Payload,
         handle: u32,
     ) -> Result<ReturnCode, StoreError>
-        ensures meets { Meets self.old self.new (replied replies.Code result)
+        ensures meets { Meets self.old self.new (as_reply replies.Code result)
             (react self.old (steps.CancelRead guest (index.Stream payload) handle)) }
         ensures stays { BasesStay self.old.guests self.new.guests }
         ensures takes_no_memory { result ≢ Err StoreError.OutOfMemory }
@@ -105,7 +105,7 @@ impl GuestStore {
     /// What an end is to be told, of a stream or a future, if anything: an event of
     /// `canon waitable-set.poll` for one waitable.
     pub fn take_event(&mut self, guest: u32, handle: u32) -> Result<Option<ReturnCode>, StoreError>
-        ensures meets { Meets self.old self.new (replied replies.Event result)
+        ensures meets { Meets self.old self.new (as_reply replies.Event result)
             (react self.old (steps.Event guest handle)) }
         ensures stays { BasesStay self.old.guests self.new.guests }
         ensures takes_no_memory { result ≢ Err StoreError.OutOfMemory }
@@ -123,7 +123,7 @@ impl GuestStore {
         payload: Payload,
         handle: u32,
     ) -> Result<(), StoreError>
-        ensures meets { Meets self.old self.new (replied (λ _. replies.Done) result)
+        ensures meets { Meets self.old self.new (as_reply (λ _. replies.Done) result)
             (react self.old (steps.DropWrite guest (index.Stream payload) handle)) }
         ensures stays { BasesStay self.old.guests self.new.guests }
         ensures takes_no_memory { result ≢ Err StoreError.OutOfMemory }
@@ -140,7 +140,7 @@ impl GuestStore {
         payload: Payload,
         handle: u32,
     ) -> Result<(), StoreError>
-        ensures meets { Meets self.old self.new (replied (λ _. replies.Done) result)
+        ensures meets { Meets self.old self.new (as_reply (λ _. replies.Done) result)
             (react self.old (steps.DropRead guest (index.Stream payload) handle)) }
         ensures stays { BasesStay self.old.guests self.new.guests }
         ensures takes_no_memory { result ≢ Err StoreError.OutOfMemory }

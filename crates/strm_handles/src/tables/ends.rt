@@ -6,7 +6,7 @@ ghost use Rattle.std.specs.Prelude.{◌≡◌, ◌≤◌, IsSome, Ok, Err, IfOk,
 ghost use Rattle.std.specs.Result.{ForOk};
 ghost use Rattle.strm_handles.specs.Handles.{entry_at, with_entry, live_of};
 ghost use Rattle.strm_handles.specs.Changes.{Inserts, Removes};
-ghost use Rattle.strm_handles.specs.Lookups.{stream_of, future_of, stream_rep_of, future_rep_of, end_rep_of};
+ghost use Rattle.strm_handles.specs.Lookups.{stream_end_of, future_end_of, stream_rep_of, future_rep_of, end_rep_of};
 ghost use Rattle.strm_handles.specs.Ends.{read_end, write_end, is_reading, without_value, stream_readable_of, stream_writable_of, future_readable_of, future_writable_of};
 
 use crate::counters::HandleCounter;
@@ -74,8 +74,8 @@ impl HandleTable {
 
     #[inline(always)]
     fn stream(&self, ty: &Payload, idx: u32) -> Result<&TransmitEnd, HandleError>
-        ensures ok { IfOk result (λ end. stream_of self.now.handles ty.now idx ≡ Ok end.now) }
-        ensures err { IfErr result (λ e. stream_of self.now.handles ty.now idx ≡ Err e) }
+        ensures ok { IfOk result (λ end. stream_end_of self.now.handles ty.now idx ≡ Ok end.now) }
+        ensures err { IfErr result (λ e. stream_end_of self.now.handles ty.now idx ≡ Err e) }
         ensures here { OnOk result (IsSome (entry_at self.now.handles idx)) }
     {
         match self.slots.get(idx) {
@@ -87,8 +87,8 @@ impl HandleTable {
 
     #[inline(always)]
     fn future(&self, ty: &Payload, idx: u32) -> Result<&TransmitEnd, HandleError>
-        ensures ok { IfOk result (λ end. future_of self.now.handles ty.now idx ≡ Ok end.now) }
-        ensures err { IfErr result (λ e. future_of self.now.handles ty.now idx ≡ Err e) }
+        ensures ok { IfOk result (λ end. future_end_of self.now.handles ty.now idx ≡ Ok end.now) }
+        ensures err { IfErr result (λ e. future_end_of self.now.handles ty.now idx ≡ Err e) }
         ensures here { OnOk result (IsSome (entry_at self.now.handles idx)) }
     {
         match self.slots.get(idx) {
@@ -144,10 +144,10 @@ impl HandleTable {
         idx: u32,
         state: TransmitLocalState,
     ) -> Result<(), HandleError>
-        requires { ForOk (stream_of self.old.handles ty idx)
+        requires { ForOk (stream_end_of self.old.handles ty idx)
             (λ end. is_reading state ≡ is_reading end.state) }
-        ensures answer { result ≡ without_value (stream_of self.old.handles ty idx) }
-        ensures ok { IfOk (stream_of self.old.handles ty idx) (λ end. self.new.handles
+        ensures answer { result ≡ without_value (stream_end_of self.old.handles ty idx) }
+        ensures ok { IfOk (stream_end_of self.old.handles ty idx) (λ end. self.new.handles
             ≡ with_entry self.old.handles idx (Entry.Stream (record end { state = state }))) }
         ensures room { self.new.room ≡ self.old.room }
         ensures err { OnErr result (self.new ≡ self.old) }
@@ -167,10 +167,10 @@ impl HandleTable {
         idx: u32,
         state: TransmitLocalState,
     ) -> Result<(), HandleError>
-        requires { ForOk (future_of self.old.handles ty idx)
+        requires { ForOk (future_end_of self.old.handles ty idx)
             (λ end. is_reading state ≡ is_reading end.state) }
-        ensures answer { result ≡ without_value (future_of self.old.handles ty idx) }
-        ensures ok { IfOk (future_of self.old.handles ty idx) (λ end. self.new.handles
+        ensures answer { result ≡ without_value (future_end_of self.old.handles ty idx) }
+        ensures ok { IfOk (future_end_of self.old.handles ty idx) (λ end. self.new.handles
             ≡ with_entry self.old.handles idx (Entry.Future (record end { state = state }))) }
         ensures room { self.new.room ≡ self.old.room }
         ensures err { OnErr result (self.new ≡ self.old) }

@@ -3,7 +3,7 @@
 //! Source: ours.
 
 ghost use Rattle.std.specs.Prelude.{◌≡◌};
-ghost use Rattle.strm_lines.specs.Reading.{fed, nothing, two_numbers, three_numbers, number_and_type, two_numbers_and_type, named_end_of, end_and_guest, place_of, operands_of, number_and_fed, place_and_bytes, place_and_len};
+ghost use Rattle.strm_lines.specs.Reading.{fed_bytes, nothing, two_numbers, three_numbers, number_and_type, two_numbers_and_type, named_end_of, end_and_guest, place_words, operands_of, number_and_fed, place_and_bytes, place_and_len};
 
 use crate::words::{hex, leading_number, leading_type, number, number_within, transmit_type};
 use strm_codes::codes::TransmitIndex;
@@ -88,7 +88,7 @@ pub(crate) fn end_and_guest(rest: &[u8]) -> Option<(NamedEnd, u32)>
 #[inline(always)]
 #[tactic(auto, unfolding(crate::specs::Reading::place_of, crate::specs::Reading::two_numbers, crate::specs::Reading::three_numbers))]
 fn place(ty: &TransmitIndex, rest: &[u8]) -> Option<(u32, u32, u32)>
-    ensures { result ≡ place_of ty.now rest.now }
+    ensures { result ≡ place_words ty.now rest.now }
 {
     let (handle, rest) = leading_number(rest)?;
     match ty {
@@ -121,7 +121,7 @@ pub(crate) fn operands(rest: &[u8]) -> Option<(NamedEnd, u32, u32)>
 // What is fed: 1 to 64 bytes, or none for `end`.
 #[tactic(auto, unfolding(crate::specs::Reading::fed))]
 fn fed(word: &[u8]) -> Option<Chunk>
-    ensures { result ≡ fed word.now }
+    ensures { result ≡ fed_bytes word.now }
 {
     if word == b"end".as_slice() {
         Chunk::new(&[])

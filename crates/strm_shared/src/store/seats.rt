@@ -5,8 +5,8 @@
 ghost use Rattle.std.specs.Prelude.{◌≡◌, ◌-◌, ◌^◌, ◌<◌, ◌≤◌, [], None, IfOk, IfErr, MatchOption};
 ghost use Rattle.strm_shared.specs.declared.errors.SharedError.TheVariants.{NoSeat};
 ghost use Rattle.strm_shared.specs.Histories.{calls_by};
-ghost use Rattle.strm_shared.specs.Plays.{looked_seats, numbered};
-ghost use Rattle.strm_shared.specs.Tokens.{last, Same, IsSplit};
+ghost use Rattle.strm_shared.specs.Plays.{looked_seats, seat_numbered};
+ghost use Rattle.strm_shared.specs.Tokens.{last_number, Same, IsSplit};
 ghost use Rattle.strm_shared.specs.Causes.{IsOf, Keeps, Joined};
 
 use crate::errors::SharedError;
@@ -25,7 +25,7 @@ impl SharedStore {
         ensures id { seat.new.table_id ≡ seat.old.table_id }
         ensures drawn { MatchOption result
             (seat.new.me ≡ (looked_seats seat.old.me.0 (2 ^ 64 - 1), seat.old.me.1))
-            (λ t. (seat.new.me ≡ (numbered (looked_seats seat.old.me.0 t) t, seat.old.me.1))
+            (λ t. (seat.new.me ≡ (seat_numbered (looked_seats seat.old.me.0 t) t, seat.old.me.1))
             × (t < 2 ^ 64 - 1) × (seat.old.me.0.top_seats ≤ t)
             × (calls_by t seat.old.me.0.seen ≡ [])) }
         ensures top { seat.old.me.0.top_seats ≤ seat.new.me.0.top_seats }
@@ -54,7 +54,7 @@ impl SharedStore {
         ensures same { Same seat.old seat.new }
         ensures kept { Keeps seat.old seat.new }
         ensures ok { IfOk result (λ new. IsSplit seat.old seat.new new) }
-        ensures err { IfErr result (λ error. (error ≡ NoSeat last) × (seat.new.top_seats ≡ last)) }
+        ensures err { IfErr result (λ error. (error ≡ NoSeat last_number) × (seat.new.top_seats ≡ last_number)) }
     {
         let Some(number) = self.draw_number(rt, &mut seat.inside) else {
             return Err(SharedError::NoSeat { seats: u64::MAX });

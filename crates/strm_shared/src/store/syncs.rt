@@ -7,9 +7,9 @@ ghost use Rattle.std.specs.Prelude.{◌≡◌, [], ◌∷◌, Some, IfOk, IfErr,
 ghost use Rattle.strm_machine.specs.declared.steps.Step.TheVariants as steps;
 ghost use Rattle.strm_shared.specs.Histories.{entry};
 ghost use Rattle.strm_shared.specs.Places.{operated};
-ghost use Rattle.strm_shared.specs.Waits.{waits_for, Delivers, Answers};
+ghost use Rattle.strm_shared.specs.Waits.{waits_for, DeliversReport, AnswersWait};
 ghost use Rattle.strm_shared.specs.Tokens.{token, Pauses, Sits, Unbound, Same, Continues, Idles, Begun, Delivered};
-ghost use Rattle.strm_shared.specs.Causes.{IsOf, IsInside, IsHostStep, IsWorn, NotBegun, GivesUp, Synced, NotSynced, Calls, Fails};
+ghost use Rattle.strm_shared.specs.Causes.{IsOf, IsInside, IsHostStep, IsWorn, NotBegun, GivesUp, Synced, NotSynced, CallsStep, FailsStep};
 
 use crate::entry::Place;
 use crate::errors::SharedError;
@@ -84,7 +84,7 @@ impl SharedStore {
         ensures ok { IfOk result (λ found. MatchOption found
             (Idles (token seat.old.table_id number seat.old.me.0)
             (token seat.new.table_id number seat.new.me.0))
-            (λ reply. (seat.new.me.0.waiting ≡ []) × Delivers reply
+            (λ reply. (seat.new.me.0.waiting ≡ []) × DeliversReport reply
             × Delivered (token seat.old.table_id number seat.old.me.0)
             (entry number (steps.Event place.guest place.handle) reply)
             (token seat.new.table_id number seat.new.me.0))) }
@@ -121,7 +121,7 @@ impl SharedStore {
         ensures of { (seat.new.table_id ≡ seat.old.table_id)
             × (seat.new.me.0.limits ≡ seat.old.me.0.limits) }
         ensures rests { Sits number seat.new.me }
-        ensures ok { IfOk result (λ reply. Delivers reply
+        ensures ok { IfOk result (λ reply. DeliversReport reply
             × Delivered (token seat.old.table_id number seat.old.me.0)
             (entry number (steps.Event place.guest place.handle) reply)
             (token seat.new.table_id number seat.new.me.0)) }
@@ -190,8 +190,8 @@ impl SharedStore {
         requires { IsOf self.now seat.old }
         ensures same { Same seat.old seat.new }
         ensures one { Continues seat.old seat.new }
-        ensures ok { IfOk result (λ reply. Calls seat.old step.now reply seat.new) }
-        ensures err { IfErr result (λ error. Fails seat.old step.now error seat.new) }
+        ensures ok { IfOk result (λ reply. CallsStep seat.old step.now reply seat.new) }
+        ensures err { IfErr result (λ error. FailsStep seat.old step.now error seat.new) }
         ensures host { IsHostStep step.now result }
         ensures worn { IsWorn step.now seat.new result }
     {
@@ -207,8 +207,8 @@ impl SharedStore {
 
 // What is answered by the reply to the event.
 fn answer(reply: Reply) -> Reply
-    requires { Delivers reply }
-    ensures { Answers reply result }
+    requires { DeliversReport reply }
+    ensures { AnswersWait reply result }
 {
     match reply {
         Reply::Event(Some(code)) => Reply::Code(code),

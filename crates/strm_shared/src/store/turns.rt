@@ -3,7 +3,7 @@
 //! Meaning: `Turns.antt`, of steps as `Plays.antt` tells them. Ours.
 
 ghost use Rattle.std.specs.Prelude.{◌≡◌, ◌-◌, ◌^◌, ◌<◌, ◌≤◌, [], ◌∷◌, true, false, None, Some, MatchOption};
-ghost use Rattle.strm_shared.specs.Plays.{looked, queued, holding, passed, Enters, IsTurn, RecallsAll};
+ghost use Rattle.strm_shared.specs.Plays.{looked, queued, holding, turn_passed, Enters, IsTurn, RecallsAll};
 ghost use Rattle.strm_shared.specs.Turns.{Taken, OutOfTickets};
 
 use crate::desk::Desk;
@@ -158,7 +158,7 @@ impl SharedStore {
         requires turn { (seat.old.me.0.holds ≡ true) × (seat.old.me.1 ≡ (0, None) ∷ [])
             × IsTurn seat.old.me.0 desk }
         ensures id { seat.new.table_id ≡ seat.old.table_id }
-        ensures passed { seat.new.me ≡ (passed seat.old.me.0 desk, []) }
+        ensures passed { seat.new.me ≡ (turn_passed seat.old.me.0 desk, []) }
         ensures recalls { RecallsAll seat.new.me.0 }
     {
         drop(self.table.shared.exchange(seat, 0, Some(desk)));

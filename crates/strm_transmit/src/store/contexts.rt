@@ -19,7 +19,7 @@ ghost use Rattle.strm_machine.specs.declared.replies.Reply.TheVariants as replie
 ghost use Rattle.strm_machine.specs.declared.steps.Step.TheVariants as steps;
 ghost use Rattle.strm_machine.proofs.ContextStepLemmas.{ShareFits};
 ghost use Rattle.strm_machine.proofs.NameLemmas.{IsEndError};
-ghost use Rattle.strm_transmit.specs.Meets.{Meets, replied, admitted, or_found};
+ghost use Rattle.strm_transmit.specs.Meets.{Meets, as_reply, admitted, or_found};
 ghost use Rattle.strm_transmit.specs.Hosted.{StillFits};
 
 use crate::errors::StoreError;
@@ -146,7 +146,7 @@ impl Store {
     #[tactic(auto, unfolding(strm_machine::specs::Reactions::performs))]
     fn make_context(&mut self, guest: u32, address: u32, len: u32) -> Result<u32, StoreError>
         requires { refusal self.old (Make (Context guest address len)) ≡ None }
-        ensures { Meets self.old self.new (replied replies.Number result)
+        ensures { Meets self.old self.new (as_reply replies.Number result)
             (performs self.old (Make (Context guest address len))) }
     {
         let (guests, contexts, counter) = (&mut self.guests, &mut self.contexts, &mut self.counter);
@@ -163,7 +163,7 @@ impl Store {
         address: u32,
         len: u32,
     ) -> Result<u32, StoreError>
-        ensures meets { Meets self.old self.new (replied replies.Number result)
+        ensures meets { Meets self.old self.new (as_reply replies.Number result)
             (react self.old (steps.ErrNew guest address len)) }
         ensures fits { StillFits self.old self.new }
     {
@@ -216,7 +216,7 @@ impl Store {
         handle: u32,
         address: u32,
     ) -> Result<u32, StoreError>
-        ensures meets { Meets self.old self.new (replied replies.Number result)
+        ensures meets { Meets self.old self.new (as_reply replies.Number result)
             (react self.old (steps.ErrText guest handle address)) }
         ensures fits { StillFits self.old self.new }
         ensures takes_no_memory { result ≢ Err StoreError.OutOfMemory }
@@ -253,7 +253,7 @@ impl Store {
     // A handle more of a guest to an error context. After want of memory nothing has changed.
     fn share(&mut self, context: u32, guest: u32) -> Result<u32, StoreError>
         requires { ShareFits self.old context guest }
-        ensures { Meets self.old self.new (replied replies.Number result)
+        ensures { Meets self.old self.new (as_reply replies.Number result)
             (shares self.old context guest) }
     {
         let (guests, contexts, counter) = (&mut self.guests, &mut self.contexts, &mut self.counter);
@@ -269,7 +269,7 @@ impl Store {
         handle: u32,
         to: u32,
     ) -> Result<u32, StoreError>
-        ensures meets { Meets self.old self.new (replied replies.Number result)
+        ensures meets { Meets self.old self.new (as_reply replies.Number result)
             (react self.old (steps.ErrMove guest handle to)) }
         ensures fits { StillFits self.old self.new }
     {
@@ -300,7 +300,7 @@ impl Store {
     /// Drops a handle to an error context, and the error context with its last one.
     /// `canon error-context.drop`. Refused: UnknownGuest, UnknownHandle, WrongKind.
     pub fn error_context_drop(&mut self, guest: u32, handle: u32) -> Result<(), StoreError>
-        ensures meets { Meets self.old self.new (replied (λ _. replies.Done) result)
+        ensures meets { Meets self.old self.new (as_reply (λ _. replies.Done) result)
             (react self.old (steps.ErrDrop guest handle)) }
         ensures fits { StillFits self.old self.new }
         ensures takes_no_memory { result ≢ Err StoreError.OutOfMemory }
@@ -341,7 +341,7 @@ impl Store {
     /// answer is the handle. Refused: UnknownGuest, UnknownHandle (no error context has the number),
     /// IndexOverflow, HandleLimit. OutOfMemory.
     pub fn error_context_lower(&mut self, rep: u32, guest: u32) -> Result<u32, StoreError>
-        ensures meets { Meets self.old self.new (replied replies.Number result)
+        ensures meets { Meets self.old self.new (as_reply replies.Number result)
             (lowers_context self.old rep guest) }
         ensures fits { StillFits self.old self.new }
     {

@@ -11,11 +11,11 @@ ghost use Rattle.strm_machine.specs.declared.replies.Reply.TheVariants as replie
 ghost use Rattle.strm_host_machine.specs.Driving.{drive_turn, driven, round_of};
 ghost use Rattle.strm_host_machine.specs.Does.{Fits};
 ghost use Rattle.strm_transmit.specs.Inside.{AreServed};
-ghost use Rattle.strm_transmit.specs.Meets.{replied};
+ghost use Rattle.strm_transmit.specs.Meets.{as_reply};
 ghost use Rattle.strm_transmit.specs.Hosted.{IsPart, MeetsHosted};
 ghost use Rattle.strm_transmit.specs.WantsMemory.{OfTurn, OfDrive};
 ghost use Rattle.strm_transmit.specs.Rounds.{pipe_ends};
-ghost use Rattle.strm_transmit.specs.Turning.{due_on, least_of, next_of, NextServed};
+ghost use Rattle.strm_transmit.specs.Turning.{due_on, least_of, next_for_duty, NextServed};
 
 use crate::errors::StoreError;
 use crate::host_ends::HostEnds;
@@ -36,7 +36,7 @@ fn least_of(number: u32, other: Option<u32>) -> Option<u32>
 
 // The least of some streams from a number on, and of the one that a duty is for.
 fn next_of(duty: Duty, from: u32, least: Option<u32>) -> Option<u32>
-    ensures { result ≡ next_of duty from least }
+    ensures { result ≡ next_for_duty duty from least }
 {
     match duty {
         Duty::Serves { stream } if stream >= from => least_of(stream, least),
@@ -164,7 +164,7 @@ impl Store {
     pub fn drive_once<H: HostEnds>(&mut self, hosts: &mut H) -> Result<(), StoreError>
         requires fits { Fits self.old (H.tells hosts.old) }
         ensures meets { MeetsHosted self.old self.new (H.tells hosts.old) (H.tells hosts.new)
-            (replied (λ _. replies.Done) result) Drive }
+            (as_reply (λ _. replies.Done) result) Drive }
     {
         self.served();
         self.admit(Ok(()))?;

@@ -21,7 +21,7 @@ ghost use Rattle.strm_machine.specs.declared.steps.Step.TheVariants as steps;
 ghost use Rattle.strm_machine.proofs.NameLemmas.{IsEndError};
 ghost use Rattle.strm_host_machine.specs.Does.{Fits};
 ghost use Rattle.strm_transmit.specs.Celled.{cell_named, place_named, IsOwn};
-ghost use Rattle.strm_transmit.specs.Meets.{Meets, replied, or_found};
+ghost use Rattle.strm_transmit.specs.Meets.{Meets, as_reply, or_found};
 ghost use Rattle.strm_transmit.specs.Hosted.{StillFits, MeetsHosted};
 
 use crate::errors::StoreError;
@@ -119,7 +119,7 @@ impl Store {
     /// WrongKind.
     #[inline(always)]
     pub fn take_event(&mut self, guest: u32, handle: u32) -> Result<Option<ReturnCode>, StoreError>
-        ensures meets { Meets self.old self.new (replied replies.Event result)
+        ensures meets { Meets self.old self.new (as_reply replies.Event result)
             (react self.old (steps.Event guest handle)) }
         ensures fits { StillFits self.old self.new }
         ensures takes_no_memory { result ≢ Err StoreError.OutOfMemory }
@@ -153,7 +153,7 @@ impl Store {
     ) -> Result<(), StoreError>
         requires fits { Fits self.old (H.tells hosts.old) }
         ensures meets { MeetsHosted self.old self.new (H.tells hosts.old) (H.tells hosts.new)
-            (replied (λ _. replies.Done) result) (OnEnd side end.now Drop) }
+            (as_reply (λ _. replies.Done) result) (OnEnd side end.now Drop) }
         ensures takes_no_memory { result ≢ Err StoreError.OutOfMemory }
     {
         self.sound();
@@ -175,7 +175,7 @@ impl Store {
     ) -> Result<(), StoreError>
         requires fits { Fits self.old (H.tells hosts.old) }
         ensures meets { MeetsHosted self.old self.new (H.tells hosts.old) (H.tells hosts.new)
-            (replied (λ _. replies.Done) result)
+            (as_reply (λ _. replies.Done) result)
             (act_of (steps.DropRead guest (index.Stream payload) handle)) }
         ensures takes_no_memory { result ≢ Err StoreError.OutOfMemory }
     {
@@ -195,7 +195,7 @@ impl Store {
     ) -> Result<(), StoreError>
         requires fits { Fits self.old (H.tells hosts.old) }
         ensures meets { MeetsHosted self.old self.new (H.tells hosts.old) (H.tells hosts.new)
-            (replied (λ _. replies.Done) result)
+            (as_reply (λ _. replies.Done) result)
             (act_of (steps.DropWrite guest (index.Stream payload) handle)) }
         ensures takes_no_memory { result ≢ Err StoreError.OutOfMemory }
     {
@@ -215,7 +215,7 @@ impl Store {
     ) -> Result<(), StoreError>
         requires fits { Fits self.old (H.tells hosts.old) }
         ensures meets { MeetsHosted self.old self.new (H.tells hosts.old) (H.tells hosts.new)
-            (replied (λ _. replies.Done) result)
+            (as_reply (λ _. replies.Done) result)
             (act_of (steps.DropRead guest (index.Future payload) handle)) }
         ensures takes_no_memory { result ≢ Err StoreError.OutOfMemory }
     {
@@ -236,7 +236,7 @@ impl Store {
     ) -> Result<(), StoreError>
         requires fits { Fits self.old (H.tells hosts.old) }
         ensures meets { MeetsHosted self.old self.new (H.tells hosts.old) (H.tells hosts.new)
-            (replied (λ _. replies.Done) result)
+            (as_reply (λ _. replies.Done) result)
             (act_of (steps.DropWrite guest (index.Future payload) handle)) }
         ensures takes_no_memory { result ≢ Err StoreError.OutOfMemory }
     {
@@ -282,7 +282,7 @@ impl Store {
         side: Side,
         end: &NamedEnd,
     ) -> Result<ReturnCode, StoreError>
-        ensures meets { Meets self.old self.new (replied replies.Code result)
+        ensures meets { Meets self.old self.new (as_reply replies.Code result)
             (reaction self.old (OnEnd side end.now Cancel)) }
         ensures fits { StillFits self.old self.new }
         ensures takes_no_memory { result ≢ Err StoreError.OutOfMemory }
@@ -299,7 +299,7 @@ impl Store {
         payload: Payload,
         handle: u32,
     ) -> Result<ReturnCode, StoreError>
-        ensures meets { Meets self.old self.new (replied replies.Code result)
+        ensures meets { Meets self.old self.new (as_reply replies.Code result)
             (react self.old (steps.CancelRead guest (index.Stream payload) handle)) }
         ensures fits { StillFits self.old self.new }
         ensures takes_no_memory { result ≢ Err StoreError.OutOfMemory }
@@ -318,7 +318,7 @@ impl Store {
         payload: Payload,
         handle: u32,
     ) -> Result<ReturnCode, StoreError>
-        ensures meets { Meets self.old self.new (replied replies.Code result)
+        ensures meets { Meets self.old self.new (as_reply replies.Code result)
             (react self.old (steps.CancelWrite guest (index.Stream payload) handle)) }
         ensures fits { StillFits self.old self.new }
         ensures takes_no_memory { result ≢ Err StoreError.OutOfMemory }
@@ -337,7 +337,7 @@ impl Store {
         payload: Payload,
         handle: u32,
     ) -> Result<ReturnCode, StoreError>
-        ensures meets { Meets self.old self.new (replied replies.Code result)
+        ensures meets { Meets self.old self.new (as_reply replies.Code result)
             (react self.old (steps.CancelRead guest (index.Future payload) handle)) }
         ensures fits { StillFits self.old self.new }
         ensures takes_no_memory { result ≢ Err StoreError.OutOfMemory }
@@ -356,7 +356,7 @@ impl Store {
         payload: Payload,
         handle: u32,
     ) -> Result<ReturnCode, StoreError>
-        ensures meets { Meets self.old self.new (replied replies.Code result)
+        ensures meets { Meets self.old self.new (as_reply replies.Code result)
             (react self.old (steps.CancelWrite guest (index.Future payload) handle)) }
         ensures fits { StillFits self.old self.new }
         ensures takes_no_memory { result ≢ Err StoreError.OutOfMemory }

@@ -16,7 +16,7 @@ ghost use Rattle.strm_host_machine.specs.HostRefusals.{is_unknown_host, refusal_
 ghost use Rattle.strm_host_machine.specs.Does.{Logs, world_of, FitsWriter, FitsReader, Fits, Does};
 ghost use Rattle.strm_transmit.specs.Inside.{AreServed};
 ghost use Rattle.strm_transmit.specs.Keeping.{HasGrown, PlaceMade};
-ghost use Rattle.strm_transmit.specs.Meets.{replied, or_found};
+ghost use Rattle.strm_transmit.specs.Meets.{as_reply, or_found};
 ghost use Rattle.strm_transmit.specs.Hosted.{FitsAt, forsaken_in, MeetsHosted};
 ghost use Rattle.strm_transmit.specs.Turning.{across};
 
@@ -214,7 +214,7 @@ impl Store {
     pub fn host_new<H: HostEnds>(&mut self, hosts: &H, writer: u32) -> Result<u32, StoreError>
         requires fits { Fits self.old (H.tells hosts.now) }
         ensures meets { MeetsHosted self.old self.new (H.tells hosts.now) (H.tells hosts.now)
-            (replied replies.Number result) (OnHost writer host_acts.New) }
+            (as_reply replies.Number result) (OnHost writer host_acts.New) }
     {
         self.served();
         self.admit(self.host_fits(hosts, writer))?;
@@ -249,7 +249,7 @@ impl Store {
     ) -> Result<(), StoreError>
         requires fits { Fits self.now (H.tells hosts.old) }
         ensures meets { MeetsHosted self.now self.now (H.tells hosts.old) (H.tells hosts.new)
-            (replied (λ _. replies.Done) result) (OnHost host (host_acts.Feed bytes.now)) }
+            (as_reply (λ _. replies.Done) result) (OnHost host (host_acts.Feed bytes.now)) }
     {
         self.admit(self.feed_fits(hosts, host, bytes))?;
         match hosts.feed(host as usize, bytes.as_slice()) {
@@ -274,7 +274,7 @@ impl Store {
     pub fn grant<H: HostEnds>(&self, hosts: &mut H, host: u32, count: u32) -> Result<(), StoreError>
         requires fits { Fits self.now (H.tells hosts.old) }
         ensures meets { MeetsHosted self.now self.now (H.tells hosts.old) (H.tells hosts.new)
-            (replied (λ _. replies.Done) result) (OnHost host (host_acts.Grant count)) }
+            (as_reply (λ _. replies.Done) result) (OnHost host (host_acts.Grant count)) }
     {
         self.admit(self.grant_fits(hosts, host, count))?;
         match hosts.grant(host as usize, count) {

@@ -17,7 +17,7 @@ ghost use Rattle.strm_machine.specs.declared.acts.Act.TheVariants.{Make};
 ghost use Rattle.strm_machine.specs.declared.acts.Making.TheVariants.{Between};
 ghost use Rattle.strm_machine.specs.declared.replies.Reply.TheVariants as replies;
 ghost use Rattle.strm_machine.specs.declared.steps.Step.TheVariants as steps;
-ghost use Rattle.strm_transmit.specs.Meets.{Meets, replied, or_found};
+ghost use Rattle.strm_transmit.specs.Meets.{Meets, as_reply, or_found};
 ghost use Rattle.strm_transmit.specs.Hosted.{StillFits};
 
 use crate::errors::StoreError;
@@ -123,7 +123,7 @@ impl Store {
     #[tactic(auto, unfolding(strm_machine::specs::Reactions::performs))]
     fn make(&mut self, writer: u32, reader: u32, ty: TransmitIndex) -> Result<Pair, StoreError>
         requires { refusal self.old (Make (Between writer reader ty)) ≡ None }
-        ensures { Meets self.old self.new (replied replies.Pair result)
+        ensures { Meets self.old self.new (as_reply replies.Pair result)
             (performs self.old (Make (Between writer reader ty))) }
     {
         let stream = self.streams.len() as u32;
@@ -170,7 +170,7 @@ impl Store {
         reader: u32,
         ty: TransmitIndex,
     ) -> Result<Pair, StoreError>
-        ensures meets { Meets self.old self.new (replied replies.Pair result)
+        ensures meets { Meets self.old self.new (as_reply replies.Pair result)
             (react self.old (steps.Between writer reader ty)) }
         ensures fits { StillFits self.old self.new }
     {
@@ -181,7 +181,7 @@ impl Store {
     /// A stream whose ends one guest gets: their handles go into its table, the read end's first.
     /// `canon stream.new`. Refused: UnknownGuest, IndexOverflow, HandleLimit, Full. OutOfMemory.
     pub fn stream_new(&mut self, guest: u32, payload: Payload) -> Result<Pair, StoreError>
-        ensures meets { Meets self.old self.new (replied replies.Pair result)
+        ensures meets { Meets self.old self.new (as_reply replies.Pair result)
             (react self.old (steps.New guest (index.Stream payload))) }
         ensures fits { StillFits self.old self.new }
     {
@@ -191,7 +191,7 @@ impl Store {
     /// A future whose ends one guest gets: their handles go into its table, the read end's first.
     /// `canon future.new`. Refused: UnknownGuest, IndexOverflow, HandleLimit, Full. OutOfMemory.
     pub fn future_new(&mut self, guest: u32, payload: Payload) -> Result<Pair, StoreError>
-        ensures meets { Meets self.old self.new (replied replies.Pair result)
+        ensures meets { Meets self.old self.new (as_reply replies.Pair result)
             (react self.old (steps.New guest (index.Future payload))) }
         ensures fits { StillFits self.old self.new }
     {

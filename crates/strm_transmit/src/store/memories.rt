@@ -12,7 +12,7 @@ ghost use Rattle.strm_machine.specs.declared.acts.Making.TheVariants.{Guest as N
 ghost use Rattle.strm_machine.specs.declared.acts.MemoryAct.TheVariants.{Poke, Dump};
 ghost use Rattle.strm_machine.specs.declared.replies.Reply.TheVariants as replies;
 ghost use Rattle.strm_machine.specs.declared.steps.Step.TheVariants as steps;
-ghost use Rattle.strm_transmit.specs.Meets.{Meets, replied, or_found};
+ghost use Rattle.strm_transmit.specs.Meets.{Meets, as_reply, or_found};
 ghost use Rattle.strm_transmit.specs.Hosted.{StillFits};
 
 use crate::errors::StoreError;
@@ -52,7 +52,7 @@ impl Store {
     #[tactic(auto, unfolding(strm_machine::specs::Reactions::performs))]
     fn push_guest(&mut self, size: u32) -> Result<u32, StoreError>
         requires { refusal self.old (Make (NewGuest size)) ≡ None }
-        ensures { Meets self.old self.new (replied replies.Number result)
+        ensures { Meets self.old self.new (as_reply replies.Number result)
             (performs self.old (Make (NewGuest size))) }
     {
         let number = self.guests.len() as u32;
@@ -70,7 +70,7 @@ impl Store {
     /// A guest with a memory of `size` zero bytes. Answers its number; the first is 0. Refused:
     /// MemoryTooBig (268,435,456 bytes of all guests together), Full (1,048,576 guests). OutOfMemory.
     pub fn add_guest(&mut self, size: u32) -> Result<u32, StoreError>
-        ensures meets { Meets self.old self.new (replied replies.Number result)
+        ensures meets { Meets self.old self.new (as_reply replies.Number result)
             (react self.old (steps.Guest size)) }
         ensures fits { StillFits self.old self.new }
     {
@@ -141,7 +141,7 @@ impl Store {
     /// Bytes put into a guest's memory, from an address on, as many as they are. Refused: UnknownGuest,
     /// OutOfBounds.
     pub fn write_memory(&mut self, guest: u32, address: u32, bytes: &[u8]) -> Result<(), StoreError>
-        ensures meets { Meets self.old self.new (replied (λ _. replies.Done) result)
+        ensures meets { Meets self.old self.new (as_reply (λ _. replies.Done) result)
             (react self.old (steps.Poke guest address bytes.now)) }
         ensures fits { StillFits self.old self.new }
         ensures takes_no_memory { result ≢ Err StoreError.OutOfMemory }
@@ -153,7 +153,7 @@ impl Store {
 
     /// Bytes put into a guest's memory, from an address on. Refused: UnknownGuest, OutOfBounds.
     pub fn poke(&mut self, guest: u32, address: u32, bytes: &Chunk) -> Result<(), StoreError>
-        ensures meets { Meets self.old self.new (replied (λ _. replies.Done) result)
+        ensures meets { Meets self.old self.new (as_reply (λ _. replies.Done) result)
             (react self.old (steps.Poke guest address bytes.now)) }
         ensures fits { StillFits self.old self.new }
         ensures takes_no_memory { result ≢ Err StoreError.OutOfMemory }
@@ -183,7 +183,7 @@ impl Store {
     /// OutOfBounds.
     pub fn dump(&self, guest: u32, address: u32, len: u32) -> Result<Chunk, StoreError>
         requires { len ≤ 64 }
-        ensures meets { Meets self.now self.now (replied replies.Bytes result)
+        ensures meets { Meets self.now self.now (as_reply replies.Bytes result)
             (react self.now (steps.Dump guest address len)) }
         ensures takes_no_memory { result ≢ Err StoreError.OutOfMemory }
     {

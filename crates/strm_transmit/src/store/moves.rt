@@ -20,7 +20,7 @@ ghost use Rattle.strm_machine.specs.declared.replies.Reply.TheVariants as replie
 ghost use Rattle.strm_machine.specs.declared.steps.Step.TheVariants as steps;
 ghost use Rattle.strm_machine.proofs.RefusalLemmas.{LeaveFits};
 ghost use Rattle.strm_host_machine.specs.Does.{Fits};
-ghost use Rattle.strm_transmit.specs.Meets.{Meets, replied, or_found};
+ghost use Rattle.strm_transmit.specs.Meets.{Meets, as_reply, or_found};
 ghost use Rattle.strm_transmit.specs.Hosted.{StillFits, MeetsHosted};
 
 use crate::errors::StoreError;
@@ -147,7 +147,7 @@ impl Store {
         requires found { found
             ≡ (stream_named (named self.old end.now), side_named (named self.old end.now)) }
         requires untrapped { self.old.trapped ≡ false }
-        ensures meets { Meets self.old self.new (replied replies.Number result)
+        ensures meets { Meets self.old self.new (as_reply replies.Number result)
             (transfers self.old found.0 found.1 end.now to) }
         ensures takes_no_memory { end.now.guest ≡ to → result ≢ Err StoreError.OutOfMemory }
     {
@@ -170,7 +170,7 @@ impl Store {
     /// The end that a handle names, whichever of the two it is, goes to another guest, or to the same:
     /// its handle is freed, and the answer is the one that it gets there.
     pub(crate) fn transfer(&mut self, end: &NamedEnd, to: u32) -> Result<u32, StoreError>
-        ensures meets { Meets self.old self.new (replied replies.Number result)
+        ensures meets { Meets self.old self.new (as_reply replies.Number result)
             (reaction self.old (Transfer end.now to)) }
         ensures fits { StillFits self.old self.new }
         ensures takes_no_memory { end.now.guest ≡ to → result ≢ Err StoreError.OutOfMemory }
@@ -190,7 +190,7 @@ impl Store {
         handle: u32,
         to: u32,
     ) -> Result<u32, StoreError>
-        ensures meets { Meets self.old self.new (replied replies.Number result)
+        ensures meets { Meets self.old self.new (as_reply replies.Number result)
             (react self.old (steps.Move guest (index.Stream payload) handle to)) }
         ensures fits { StillFits self.old self.new }
         ensures takes_no_memory { guest ≡ to → result ≢ Err StoreError.OutOfMemory }
@@ -210,7 +210,7 @@ impl Store {
         handle: u32,
         to: u32,
     ) -> Result<u32, StoreError>
-        ensures meets { Meets self.old self.new (replied replies.Number result)
+        ensures meets { Meets self.old self.new (as_reply replies.Number result)
             (react self.old (steps.Move guest (index.Future payload) handle to)) }
         ensures fits { StillFits self.old self.new }
         ensures takes_no_memory { guest ≡ to → result ≢ Err StoreError.OutOfMemory }
@@ -239,7 +239,7 @@ impl Store {
     /// The end that a handle names leaves its guest, and its handle is freed: the answer is the
     /// number of its stream.
     pub(crate) fn lift_side(&mut self, side: Side, end: &NamedEnd) -> Result<u32, StoreError>
-        ensures meets { Meets self.old self.new (replied replies.Number result)
+        ensures meets { Meets self.old self.new (as_reply replies.Number result)
             (reaction self.old (OnEnd side end.now Lift)) }
         ensures fits { StillFits self.old self.new }
         ensures takes_no_memory { result ≢ Err StoreError.OutOfMemory }
@@ -253,7 +253,7 @@ impl Store {
     /// and the answer is the stream's number. Refused: UnknownGuest, UnknownHandle, WrongKind,
     /// WrongType, WrongEnd, Busy, LiftDropped, LiftInSet.
     pub fn lift(&mut self, guest: u32, ty: TransmitIndex, handle: u32) -> Result<u32, StoreError>
-        ensures meets { Meets self.old self.new (replied replies.Number result)
+        ensures meets { Meets self.old self.new (as_reply replies.Number result)
             (react self.old (steps.Lift guest ty handle)) }
         ensures fits { StillFits self.old self.new }
         ensures takes_no_memory { result ≢ Err StoreError.OutOfMemory }
@@ -297,7 +297,7 @@ impl Store {
     fn lower_loose(&mut self, reader: u32, guest: u32, ty: TransmitIndex) -> Result<u32, StoreError>
         requires may { refusal self.old (OnLoose reader (Lower guest ty)) ≡ None }
         requires untrapped { self.old.trapped ≡ false }
-        ensures { Meets self.old self.new (replied replies.Number result)
+        ensures { Meets self.old self.new (as_reply replies.Number result)
             (lowers self.old reader guest ty) }
     {
         let (guests, counter) = (&mut self.guests, &mut self.counter);
@@ -317,7 +317,7 @@ impl Store {
     /// its handle. Refused: UnknownGuest, UnknownReader, WrongKind, WrongType, IndexOverflow,
     /// HandleLimit. OutOfMemory.
     pub fn lower(&mut self, reader: u32, guest: u32, ty: TransmitIndex) -> Result<u32, StoreError>
-        ensures meets { Meets self.old self.new (replied replies.Number result)
+        ensures meets { Meets self.old self.new (as_reply replies.Number result)
             (react self.old (steps.Lower reader guest ty)) }
         ensures fits { StillFits self.old self.new }
     {
@@ -341,7 +341,7 @@ impl Store {
     pub fn close<H: HostEnds>(&mut self, hosts: &mut H, reader: u32) -> Result<(), StoreError>
         requires fits { Fits self.old (H.tells hosts.old) }
         ensures meets { MeetsHosted self.old self.new (H.tells hosts.old) (H.tells hosts.new)
-            (replied (λ _. replies.Done) result) (act_of (steps.Close reader)) }
+            (as_reply (λ _. replies.Done) result) (act_of (steps.Close reader)) }
         ensures takes_no_memory { result ≢ Err StoreError.OutOfMemory }
     {
         self.sound();

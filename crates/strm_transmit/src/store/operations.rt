@@ -21,7 +21,7 @@ ghost use Rattle.strm_machine.specs.declared.steps.Step.TheVariants as steps;
 ghost use Rattle.strm_machine.specs.declared.streams.Owner.TheVariants.{Host};
 ghost use Rattle.strm_machine.specs.declared.streams.Side.TheVariants.{Writing, Reading};
 ghost use Rattle.strm_host_machine.specs.Does.{Fits};
-ghost use Rattle.strm_transmit.specs.Meets.{Meets, replied, or_found};
+ghost use Rattle.strm_transmit.specs.Meets.{Meets, as_reply, or_found};
 ghost use Rattle.strm_transmit.specs.Hosted.{MeetsHosted, StillFits, WantsOnlyPolling, WantsNoneHeld};
 ghost use Rattle.strm_transmit.specs.Turning.{across, IsPlacedOn, IsNumberWithin};
 
@@ -137,7 +137,7 @@ impl Store {
         requires mine { IsPlacedOn self.old stream mine }
         requires numbers { IsNumberWithin self.old side stream mine.guest }
         requires untrapped { self.old.trapped ≡ false }
-        ensures meets { Meets self.old self.new (replied replies.Code result)
+        ensures meets { Meets self.old self.new (as_reply replies.Code result)
             (on_stream self.old stream side mine) }
         ensures takes_no_memory { result ≢ Err StoreError.OutOfMemory }
     {
@@ -168,7 +168,7 @@ impl Store {
         requires mine { IsPlacedOn self.old stream (begun guest address count) }
         requires numbers { IsNumberWithin self.old side stream guest }
         requires untrapped { self.old.trapped ≡ false }
-        ensures meets { Meets self.old self.new (replied replies.Code result)
+        ensures meets { Meets self.old self.new (as_reply replies.Code result)
             (on_stream self.old stream side (begun guest address count)) }
         ensures takes_no_memory { result ≢ Err StoreError.OutOfMemory }
     {
@@ -192,7 +192,7 @@ impl Store {
         requires mine { IsPlacedOn self.old stream (begun guest address count) }
         requires numbers { IsNumberWithin self.old side stream guest }
         requires untrapped { self.old.trapped ≡ false }
-        ensures meets { Meets self.old self.new (replied replies.Code result)
+        ensures meets { Meets self.old self.new (as_reply replies.Code result)
             (on_stream self.old stream side (begun guest address count)) }
         ensures takes_no_memory { result ≢ Err StoreError.OutOfMemory }
     {
@@ -211,7 +211,7 @@ impl Store {
     ) -> Result<ReturnCode, StoreError>
         requires fits { Fits self.old (H.tells hosts.old) }
         ensures meets { MeetsHosted self.old self.new (H.tells hosts.old) (H.tells hosts.new)
-            (replied replies.Code result) (OnEnd side end.now (Operate address count)) }
+            (as_reply replies.Code result) (OnEnd side end.now (Operate address count)) }
         ensures takes_no_memory { WantsOnlyPolling self.old
             (OnEnd side end.now (Operate address count)) result }
         ensures held { WantsNoneHeld self.old (H.tells hosts.old)
@@ -238,7 +238,7 @@ impl Store {
     ) -> Result<ReturnCode, StoreError>
         requires fits { Fits self.old (H.tells hosts.old) }
         ensures meets { MeetsHosted self.old self.new (H.tells hosts.old) (H.tells hosts.new)
-            (replied replies.Code result) (OnEnd side end.now (Operate address count)) }
+            (as_reply replies.Code result) (OnEnd side end.now (Operate address count)) }
         ensures takes_no_memory { WantsOnlyPolling self.old
             (OnEnd side end.now (Operate address count)) result }
         ensures held { WantsNoneHeld self.old (H.tells hosts.old)
@@ -260,7 +260,7 @@ impl Store {
     ) -> Result<ReturnCode, StoreError>
         requires fits { Fits self.old (H.tells hosts.old) }
         ensures meets { MeetsHosted self.old self.new (H.tells hosts.old) (H.tells hosts.new)
-            (replied replies.Code result) (OnEnd side end (Operate address count)) }
+            (as_reply replies.Code result) (OnEnd side end (Operate address count)) }
         ensures takes_no_memory { WantsOnlyPolling self.old (OnEnd side end (Operate address count))
             result }
         ensures held { WantsNoneHeld self.old (H.tells hosts.old)
@@ -281,7 +281,7 @@ impl Store {
     ) -> Result<ReturnCode, StoreError>
         requires fits { Fits self.old (H.tells hosts.old) }
         ensures meets { MeetsHosted self.old self.new (H.tells hosts.old) (H.tells hosts.new)
-            (replied replies.Code result) (OnEnd side end.now (Operate address count)) }
+            (as_reply replies.Code result) (OnEnd side end.now (Operate address count)) }
         ensures takes_no_memory { WantsOnlyPolling self.old
             (OnEnd side end.now (Operate address count)) result }
         ensures held { WantsNoneHeld self.old (H.tells hosts.old)
@@ -311,7 +311,7 @@ impl Store {
         address: u32,
         count: u32,
     ) -> Result<ReturnCode, StoreError>
-        ensures meets { Meets self.old self.new (replied replies.Code result)
+        ensures meets { Meets self.old self.new (as_reply replies.Code result)
             (reaction self.old (OnEnd side end.now (Operate address count))) }
         ensures fits { StillFits self.old self.new }
         ensures takes_no_memory { result ≢ Err StoreError.OutOfMemory }
@@ -334,7 +334,7 @@ impl Store {
         address: u32,
         count: u32,
     ) -> Result<ReturnCode, StoreError>
-        ensures meets { Meets self.old self.new (replied replies.Code result)
+        ensures meets { Meets self.old self.new (as_reply replies.Code result)
             (reaction self.old (OnEnd side end.now (Operate address count))) }
         ensures fits { StillFits self.old self.new }
         ensures takes_no_memory { result ≢ Err StoreError.OutOfMemory }
@@ -352,7 +352,7 @@ impl Store {
         address: u32,
         count: u32,
     ) -> Result<ReturnCode, StoreError>
-        ensures meets { Meets self.old self.new (replied replies.Code result)
+        ensures meets { Meets self.old self.new (as_reply replies.Code result)
             (reaction self.old (OnEnd side end (Operate address count))) }
         ensures fits { StillFits self.old self.new }
         ensures takes_no_memory { result ≢ Err StoreError.OutOfMemory }
@@ -369,7 +369,7 @@ impl Store {
         address: u32,
         count: u32,
     ) -> Result<ReturnCode, StoreError>
-        ensures meets { Meets self.old self.new (replied replies.Code result)
+        ensures meets { Meets self.old self.new (as_reply replies.Code result)
             (reaction self.old (OnEnd side end.now (Operate address count))) }
         ensures fits { StillFits self.old self.new }
         ensures takes_no_memory { result ≢ Err StoreError.OutOfMemory }
@@ -397,7 +397,7 @@ impl Store {
     ) -> Result<ReturnCode, StoreError>
         requires fits { Fits self.old (H.tells hosts.old) }
         ensures meets { MeetsHosted self.old self.new (H.tells hosts.old) (H.tells hosts.new)
-            (replied replies.Code result)
+            (as_reply replies.Code result)
             (act_of (steps.Read guest (index.Stream payload) handle address count)) }
         ensures takes_no_memory { WantsOnlyPolling self.old
             (act_of (steps.Read guest (index.Stream payload) handle address count)) result }
@@ -425,7 +425,7 @@ impl Store {
     ) -> Result<ReturnCode, StoreError>
         requires fits { Fits self.old (H.tells hosts.old) }
         ensures meets { MeetsHosted self.old self.new (H.tells hosts.old) (H.tells hosts.new)
-            (replied replies.Code result)
+            (as_reply replies.Code result)
             (act_of (steps.Write guest (index.Stream payload) handle address count)) }
         ensures takes_no_memory { WantsOnlyPolling self.old
             (act_of (steps.Write guest (index.Stream payload) handle address count)) result }
@@ -448,7 +448,7 @@ impl Store {
     ) -> Result<ReturnCode, StoreError>
         requires fits { Fits self.old (H.tells hosts.old) }
         ensures meets { MeetsHosted self.old self.new (H.tells hosts.old) (H.tells hosts.new)
-            (replied replies.Code result)
+            (as_reply replies.Code result)
             (act_of (steps.Read guest (index.Future payload) handle address 1)) }
         ensures takes_no_memory { WantsOnlyPolling self.old
             (act_of (steps.Read guest (index.Future payload) handle address 1)) result }
@@ -473,7 +473,7 @@ impl Store {
     ) -> Result<ReturnCode, StoreError>
         requires fits { Fits self.old (H.tells hosts.old) }
         ensures meets { MeetsHosted self.old self.new (H.tells hosts.old) (H.tells hosts.new)
-            (replied replies.Code result)
+            (as_reply replies.Code result)
             (act_of (steps.Write guest (index.Future payload) handle address 1)) }
         ensures takes_no_memory { WantsOnlyPolling self.old
             (act_of (steps.Write guest (index.Future payload) handle address 1)) result }

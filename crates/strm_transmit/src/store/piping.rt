@@ -17,7 +17,7 @@ ghost use Rattle.strm_machine.specs.declared.streams.Side.{Side};
 ghost use Rattle.strm_host_machine.specs.Attaching.{is_dry, without_ends, pipes};
 ghost use Rattle.strm_host_machine.specs.HostRefusals.{refusal_in};
 ghost use Rattle.strm_host_machine.specs.Does.{Logs, world_of, Fits, Does};
-ghost use Rattle.strm_transmit.specs.Meets.{replied, or_found};
+ghost use Rattle.strm_transmit.specs.Meets.{as_reply, or_found};
 ghost use Rattle.strm_transmit.specs.Hosted.{MeetsHosted};
 ghost use Rattle.strm_transmit.specs.Piping.{PipeFits, report_withdrawn, handed_to, EndsPipe};
 
@@ -195,7 +195,7 @@ impl Store {
     ) -> Result<(), StoreError>
         requires fits { Fits self.old (H.tells hosts.old) }
         ensures meets { MeetsHosted self.old self.new (H.tells hosts.old) (H.tells hosts.new)
-            (replied (λ _. replies.Done) result) (OnHost host (Pipe reader)) }
+            (as_reply (λ _. replies.Done) result) (OnHost host (Pipe reader)) }
         ensures takes_no_memory { result ≢ Err StoreError.OutOfMemory }
     {
         self.admit(self.pipe_fits(hosts, reader, host))?;

@@ -18,15 +18,15 @@ ghost use Rattle.strm_transmit.specs.Rounds.{pipe_ends, IsPipe, held_on, fetch_d
 use crate::errors::StoreError;
 use crate::host_ends::HostEnds;
 use crate::store::Store;
-use crate::store::turning::{stop_of, stop_taking};
+use crate::store::turning::{stop_of_reader, stop_of_writer};
 use std::alloc::Global;
 use strm_buffers::answers::Answer;
 use strm_buffers::items::Items;
 use strm_channels::channels::Channel;
 use strm_codes::codes::TransmitKind;
 use strm_host_turns::pipes::{fetch, offer};
-use strm_host_turns::taking::TakeError;
-use strm_host_turns::turns::TurnError;
+use strm_host_turns::reader_turns::ReaderStops;
+use strm_host_turns::writer_turns::WriterStops;
 use strm_machine::streams::{Consumer, Owner, Producer, Side};
 
 // The reader of a pipe is done with it, once it answered so, if it was polled.
@@ -108,7 +108,7 @@ impl Store {
         stream: u32,
         writer: u32,
         reader: u32,
-    ) -> Result<(), TurnError>
+    ) -> Result<(), WriterStops>
         requires pipe { IsPipe self.old (H.tells hosts.old) stream writer reader }
         requires nothing_held { (told_by (H.tells hosts.old) writer).holds ≡ [] }
         ensures { FetchesStream self.old self.new (H.tells hosts.old) (H.tells hosts.new) stream
@@ -146,7 +146,7 @@ impl Store {
             Ok(()) => Ok(()),
             Err(error) => {
                 self.trap();
-                Err(stop_of(error, writer))
+                Err(stop_of_writer(error, writer))
             }
         }
     }
@@ -158,7 +158,7 @@ impl Store {
         stream: u32,
         writer: u32,
         reader: u32,
-    ) -> Result<Answer, TakeError>
+    ) -> Result<Answer, ReaderStops>
         requires pipe { IsPipe self.old (H.tells hosts.old) stream writer reader }
         ensures { OffersStream self.old self.new (H.tells hosts.old) (H.tells hosts.new) stream
             writer reader result }
@@ -231,7 +231,7 @@ impl Store {
             }
             Err(error) => {
                 self.trap();
-                Err(stop_taking(error, reader, stream))
+                Err(stop_of_reader(error, reader, stream))
             }
         }
     }

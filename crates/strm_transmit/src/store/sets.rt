@@ -7,7 +7,7 @@
 ghost use Rattle.std.specs.Prelude.{◌≡◌, ◌≢◌, ℕ, ◌<◌, ◌+◌, ◌&&◌, ◌∷◌, [], true, length, Err, Some, None, IfOk, IfErr, IfSome};
 ghost use Rattle.strm_codes.specs.declared.refusals.Refusal.TheVariants as refusals;
 ghost use Rattle.strm_waitable_sets.specs.Ready.{is_in};
-ghost use Rattle.strm_waitable_sets.specs.Sets.{is_there, is_member};
+ghost use Rattle.strm_waitable_sets.specs.Sets.{is_set_there, is_member};
 ghost use Rattle.strm_machine.specs.State.{sets_in};
 ghost use Rattle.strm_machine.specs.WaitableSets.{set_named, number_named, has_member, is_in_set, is_ready, ready_member, without_set_named};
 ghost use Rattle.strm_machine.specs.Refusals.{where_, refusal, first_of, slot_reasons, joined_reasons};
@@ -18,7 +18,7 @@ ghost use Rattle.strm_machine.specs.declared.acts.SetAct.TheVariants.{Join, Poll
 ghost use Rattle.strm_machine.specs.declared.replies.Reply.TheVariants as replies;
 ghost use Rattle.strm_machine.specs.declared.steps.Step.TheVariants as steps;
 ghost use Rattle.strm_machine.proofs.NameLemmas.{IsEndError};
-ghost use Rattle.strm_transmit.specs.Meets.{Meets, replied, or_found};
+ghost use Rattle.strm_transmit.specs.Meets.{Meets, as_reply, or_found};
 ghost use Rattle.strm_transmit.specs.Hosted.{StillFits};
 
 use crate::errors::StoreError;
@@ -45,7 +45,7 @@ impl Store {
         requires { guest < length self.now.guests }
         ensures answer { result ≡ set_named self.now guest set }
         ensures there { IfOk result (λ number.
-            is_there (sets_in self.now.guests guest) number ≡ true) }
+            is_set_there (sets_in self.now.guests guest) number ≡ true) }
         ensures others { IfErr result IsEndError }
     {
         self.guests[guest as usize].table.waitable_set_rep(set)
@@ -57,7 +57,7 @@ impl Store {
         ensures exact { result ≡ or_found (first_of (slot_reasons (set_named self.now guest set)))
             (number_named (set_named self.now guest set)) }
         ensures there { IfOk result (λ number.
-            is_there (sets_in self.now.guests guest) number ≡ true) }
+            is_set_there (sets_in self.now.guests guest) number ≡ true) }
     {
         match self.set_name(guest, set) {
             Ok(number) => Ok(number),
@@ -86,7 +86,7 @@ impl Store {
     #[tactic(auto, unfolding(strm_machine::specs::Reactions::performs))]
     fn make_set(&mut self, guest: u32) -> Result<u32, StoreError>
         requires { refusal self.old (Make (Set guest)) ≡ None }
-        ensures { Meets self.old self.new (replied replies.Number result)
+        ensures { Meets self.old self.new (as_reply replies.Number result)
             (performs self.old (Make (Set guest))) }
     {
         let (guests, counter) = (&mut self.guests, &mut self.counter);
@@ -98,7 +98,7 @@ impl Store {
     /// A waitable set of a guest, without members: the answer is its handle. `canon waitable-set.new`.
     /// Refused: UnknownGuest, IndexOverflow, HandleLimit, Full. OutOfMemory.
     pub fn set_new(&mut self, guest: u32) -> Result<u32, StoreError>
-        ensures meets { Meets self.old self.new (replied replies.Number result)
+        ensures meets { Meets self.old self.new (as_reply replies.Number result)
             (react self.old (steps.SetNew guest)) }
         ensures fits { StillFits self.old self.new }
     {
@@ -143,7 +143,7 @@ impl Store {
     ) -> Result<(), StoreError>
         requires may { refusal self.old (OnSet guest set (Join handle)) ≡ None }
         requires number { number ≡ number_named (set_named self.old guest set) }
-        ensures { Meets self.old self.new (replied (λ _. replies.Done) result)
+        ensures { Meets self.old self.new (as_reply (λ _. replies.Done) result)
             (joins self.old guest set handle) }
     {
         let home = home_of(&self.guests, guest as usize, handle);
@@ -165,7 +165,7 @@ impl Store {
     /// in; with `set` 0 it leaves that alone. `canon waitable.join`. Refused: UnknownGuest, and
     /// UnknownHandle, WrongKind of the set's handle, and then of the end's. OutOfMemory.
     pub fn set_join(&mut self, guest: u32, set: u32, handle: u32) -> Result<(), StoreError>
-        ensures meets { Meets self.old self.new (replied (λ _. replies.Done) result)
+        ensures meets { Meets self.old self.new (as_reply (λ _. replies.Done) result)
             (react self.old (steps.SetJoin guest set handle)) }
         ensures fits { StillFits self.old self.new }
     {
@@ -209,7 +209,7 @@ impl Store {
     // it is looked at.
     fn first_ready(&self, guest: u32, number: u32) -> Option<u32>
         requires there { guest < length self.now.guests }
-        requires made { is_there (sets_in self.now.guests guest) number ≡ true }
+        requires made { is_set_there (sets_in self.now.guests guest) number ≡ true }
         ensures exact { result ≡ ready_member self.now guest number }
         ensures ready { IfSome result (λ handle. is_ready self.now guest handle ≡ true) }
     {
@@ -220,7 +220,7 @@ impl Store {
     // The least member of a set that is ready. Where the ready members are known, no other is looked at.
     fn ready_member(&self, guest: u32, number: u32) -> Option<u32>
         requires there { guest < length self.now.guests }
-        requires made { is_there (sets_in self.now.guests guest) number ≡ true }
+        requires made { is_set_there (sets_in self.now.guests guest) number ≡ true }
         ensures exact { result ≡ ready_member self.now guest number }
         ensures ready { IfSome result (λ handle. is_ready self.now guest handle ≡ true) }
     {
@@ -248,7 +248,7 @@ impl Store {
     // The least member of a set that is ready is told its report.
     fn poll_number(&mut self, guest: u32, number: u32) -> Option<Member>
         requires there { guest < length self.old.guests }
-        requires made { is_there (sets_in self.old.guests guest) number ≡ true }
+        requires made { is_set_there (sets_in self.old.guests guest) number ≡ true }
         ensures { polls self.old guest (ready_member self.old guest number)
             ≡ goes (replies.Member result) self.new }
     {
@@ -265,7 +265,7 @@ impl Store {
             (number_named (set_named self.now guest set)) }
         ensures guest { IfOk result (λ _. guest < length self.now.guests) }
         ensures there { IfOk result (λ number.
-            is_there (sets_in self.now.guests guest) number ≡ true) }
+            is_set_there (sets_in self.now.guests guest) number ≡ true) }
     {
         if self.is_unknown_guest(guest) {
             return Err(Refusal::UnknownGuest);
@@ -277,7 +277,7 @@ impl Store {
     /// is its handle and the code, or none. `canon waitable-set.poll`. Refused: UnknownGuest,
     /// UnknownHandle, WrongKind.
     pub fn set_poll(&mut self, guest: u32, set: u32) -> Result<Option<Member>, StoreError>
-        ensures meets { Meets self.old self.new (replied replies.Member result)
+        ensures meets { Meets self.old self.new (as_reply replies.Member result)
             (react self.old (steps.SetPoll guest set)) }
         ensures fits { StillFits self.old self.new }
         ensures takes_no_memory { result ≢ Err StoreError.OutOfMemory }
@@ -289,7 +289,7 @@ impl Store {
     // Why a set may not be dropped.
     fn drop_refusal(&self, guest: u32, number: u32) -> Option<Refusal>
         requires there { guest < length self.now.guests }
-        requires made { is_there (sets_in self.now.guests guest) number ≡ true }
+        requires made { is_set_there (sets_in self.now.guests guest) number ≡ true }
         ensures { result
             ≡ first_of (where_ (has_member self.now guest number) refusals.SetNotEmpty ∷ []) }
     {
@@ -329,7 +329,7 @@ impl Store {
     /// Drops a waitable set, whose handle is freed. `canon waitable-set.drop`. Refused: UnknownGuest,
     /// UnknownHandle, WrongKind, SetNotEmpty.
     pub fn set_drop(&mut self, guest: u32, set: u32) -> Result<(), StoreError>
-        ensures meets { Meets self.old self.new (replied (λ _. replies.Done) result)
+        ensures meets { Meets self.old self.new (as_reply (λ _. replies.Done) result)
             (react self.old (steps.SetDrop guest set)) }
         ensures fits { StillFits self.old self.new }
         ensures takes_no_memory { result ≢ Err StoreError.OutOfMemory }

@@ -12,14 +12,14 @@ ghost use Rattle.strm_machine.specs.Reactions.{with_stream_at};
 ghost use Rattle.strm_machine.specs.declared.replies.Reply.TheVariants as replies;
 ghost use Rattle.strm_machine.specs.declared.streams.Owner.TheVariants.{Host};
 ghost use Rattle.strm_machine.specs.declared.streams.Side.TheVariants.{Writing, Reading};
-ghost use Rattle.strm_host_turns.specs.Turning.{Turns};
-ghost use Rattle.strm_host_machine.specs.Settling.{answered as answers_at};
-ghost use Rattle.strm_host_machine.specs.Producing.{producer_turn};
-ghost use Rattle.strm_host_machine.specs.Consuming.{consumer_turn};
+ghost use Rattle.strm_host_turns.specs.WriterTurns.{IsWriterTurn};
+ghost use Rattle.strm_host_machine.specs.Settling.{turn_answered as answers_at};
+ghost use Rattle.strm_host_machine.specs.WriterTurn.{writer_turn};
+ghost use Rattle.strm_host_machine.specs.ReaderTurn.{reader_turn};
 ghost use Rattle.strm_host_machine.specs.Does.{Fits, Does};
 ghost use Rattle.strm_transmit.specs.Hosted.{IsPart, IsPartAs};
 ghost use Rattle.strm_transmit.specs.WantsMemory.{OfPoll};
-ghost use Rattle.strm_transmit.specs.Turning.{IsAcross, TurnsStream, TakesStream, stops_by, stops_taking, turn_for, polls_for, across, IsPlacedOn};
+ghost use Rattle.strm_transmit.specs.Turning.{IsAcross, HasWriterTurn, HasReaderTurn, stop_of_writer, stop_of_reader, turn_for, polls_for, across, IsPlacedOn};
 
 use crate::errors::StoreError;
 use crate::host_ends::HostEnds;
@@ -30,32 +30,32 @@ use strm_channels::channels::Channel;
 use strm_channels::guests::Guest;
 use strm_channels::owners::is_live;
 use strm_codes::codes::ReturnCode;
-use strm_host_turns::taking::{TakeError, consumer_turn};
-use strm_host_turns::turns::{TurnError, producer_turn};
+use strm_host_turns::reader_turns::{ReaderStops, reader_turn};
+use strm_host_turns::writer_turns::{WriterStops, writer_turn};
 use strm_machine::streams::{Consumer, HostEnd, Operation, Owner, Producer, Side};
 
 // Why a turn of a host writer stops a call.
-pub(crate) fn stop_of(error: TurnError, number: u32) -> StoreError
-    ensures { result ≡ stops_by error number }
+pub(crate) fn stop_of_writer(error: WriterStops, number: u32) -> StoreError
+    ensures { result ≡ stop_of_writer error number }
 {
     let end = HostEnd::Writer(number);
     match error {
-        TurnError::Failed => StoreError::HostFailed { end },
-        TurnError::Broke => StoreError::HostBroke { end },
-        TurnError::OutOfMemory => StoreError::OutOfMemory,
+        WriterStops::Failed => StoreError::HostFailed { end },
+        WriterStops::Broke => StoreError::HostBroke { end },
+        WriterStops::OutOfMemory => StoreError::OutOfMemory,
     }
 }
 
 // Why a turn of a host reader stops a call.
-pub(crate) fn stop_taking(error: TakeError, number: u32, stream: u32) -> StoreError
-    ensures { result ≡ stops_taking error number stream }
+pub(crate) fn stop_of_reader(error: ReaderStops, number: u32, stream: u32) -> StoreError
+    ensures { result ≡ stop_of_reader error number stream }
 {
     let end = HostEnd::Reader(number);
     match error {
-        TakeError::Failed => StoreError::HostFailed { end },
-        TakeError::Broke => StoreError::HostBroke { end },
-        TakeError::BadItem => StoreError::BadItem { stream },
-        TakeError::OutOfMemory => StoreError::OutOfMemory,
+        ReaderStops::Failed => StoreError::HostFailed { end },
+        ReaderStops::Broke => StoreError::HostBroke { end },
+        ReaderStops::BadItem => StoreError::BadItem { stream },
+        ReaderStops::OutOfMemory => StoreError::OutOfMemory,
     }
 }
 
@@ -77,22 +77,22 @@ impl Store {
 
     // The turn of the host writer that serves a stream, for the open read on it.
     #[inline(always)]
-    fn turn<H: HostEnds>(
+    fn turn_of_writer<H: HostEnds>(
         &mut self,
         hosts: &mut H,
         stream: u32,
         number: u32,
         read: &Operation,
-    ) -> Result<(), TurnError>
+    ) -> Result<(), WriterStops>
         requires { IsAcross self.old (H.tells hosts.old) Reading stream number read.now }
-        ensures { TurnsStream self.old self.new (H.tells hosts.old) (H.tells hosts.new) number
+        ensures { HasWriterTurn self.old self.new (H.tells hosts.old) (H.tells hosts.new) number
             stream read.now result }
     {
         let served = &mut self.streams[stream as usize];
         let was_live = is_live(served);
         let producer = &mut self.producers[number as usize];
         let (guests, place) = (&mut self.guests, number as usize);
-        let turned = hosts.turn_of(self.alloc, guests, served, producer, place, read);
+        let turned = hosts.writer_turn_at(self.alloc, guests, served, producer, place, read);
         retell(&mut self.ready, &self.guests, served);
         self.live_streams = self.live_streams - u32::from(was_live) + u32::from(is_live(served));
         turned
@@ -100,22 +100,22 @@ impl Store {
 
     // The turn of the host reader that serves a stream, for the open write on it.
     #[inline(always)]
-    fn take_turn_of<H: HostEnds>(
+    fn turn_of_reader<H: HostEnds>(
         &mut self,
         hosts: &mut H,
         stream: u32,
         number: u32,
         write: &Operation,
-    ) -> Result<(), TakeError>
+    ) -> Result<(), ReaderStops>
         requires { IsAcross self.old (H.tells hosts.old) Writing stream number write.now }
-        ensures { TakesStream self.old self.new (H.tells hosts.old) (H.tells hosts.new) number
+        ensures { HasReaderTurn self.old self.new (H.tells hosts.old) (H.tells hosts.new) number
             stream write.now result }
     {
         let served = &mut self.streams[stream as usize];
         let was_live = is_live(served);
         let consumer = &mut self.consumers[number as usize];
         let (guests, place) = (&mut self.guests, number as usize);
-        let taken = hosts.take_of(self.alloc, guests, served, consumer, place, write);
+        let taken = hosts.reader_turn_at(self.alloc, guests, served, consumer, place, write);
         retell(&mut self.ready, &self.guests, served);
         self.live_streams = self.live_streams - u32::from(was_live) + u32::from(is_live(served));
         taken
@@ -140,18 +140,18 @@ impl Store {
     ) -> Result<(), StoreError>
         requires { IsAcross self.old (H.tells hosts.old) Reading stream number read.now }
         ensures part { IsPart self.old self.new (H.tells hosts.old) (H.tells hosts.new) result
-            (λ world. producer_turn world stream number read.now) OfPoll }
+            (λ world. writer_turn world stream number read.now) OfPoll }
         ensures there { length self.new.streams ≡ length self.old.streams }
         ensures untrapped { IfOk result (λ _. self.new.trapped ≡ self.old.trapped) }
         ensures held { (told_by (H.tells hosts.old) number).holds ≢ [] → IsOk result }
     {
         self.sound();
         self.served();
-        match self.turn(hosts, stream, number, read) {
+        match self.turn_of_writer(hosts, stream, number, read) {
             Ok(()) => {}
             Err(error) => {
                 self.trap();
-                return Err(stop_of(error, number));
+                return Err(stop_of_writer(error, number));
             }
         }
         if self.stream(stream).owner(Side::Writing) != Owner::Gone {
@@ -174,16 +174,16 @@ impl Store {
     ) -> Result<(), StoreError>
         requires { IsAcross self.old (H.tells hosts.old) Writing stream number write.now }
         ensures part { IsPart self.old self.new (H.tells hosts.old) (H.tells hosts.new) result
-            (λ world. consumer_turn world stream number write.now) OfPoll }
+            (λ world. reader_turn world stream number write.now) OfPoll }
         ensures there { length self.new.streams ≡ length self.old.streams }
     {
         self.sound();
         self.served();
-        match self.take_turn_of(hosts, stream, number, write) {
+        match self.turn_of_reader(hosts, stream, number, write) {
             Ok(()) => {}
             Err(error) => {
                 self.trap();
-                return Err(stop_taking(error, number, stream));
+                return Err(stop_of_reader(error, number, stream));
             }
         }
         if self.stream(stream).owner(Side::Reading) != Owner::Gone {

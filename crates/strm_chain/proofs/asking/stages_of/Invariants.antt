@@ -1,6 +1,6 @@
 use Rattle.std.proofs.Common.{map, take, string_bytes}
-use Rattle.strm_chain.specs.WordReading.{Spells}
+use Rattle.strm_chain.specs.WordReading.{SpellsStages}
 use Rattle.strm_chain.proofs.asking.stages_of.Given as goal
 
 abbrev pub invariant-loop-word : goal.invariant-loop-word
-invariant-loop-word l = Spells (map string_bytes (take l.word-index l.words)) l.stages.items
+invariant-loop-word l = SpellsStages (map string_bytes (take l.word-index l.words)) l.stages.items

@@ -4,8 +4,8 @@ use Rattle.std.proofs.lemmas.List.{length-map}
 use Rattle.strm_handles.specs.Handles.{removed}
 use Rattle.strm_machine.specs.State as machine
 use Rattle.strm_machine.specs.State.{guest_in, with_handles}
-use Rattle.strm_channels.specs.Guests.{seen, guest_of, live_in}
-use Rattle.strm_channels.proofs.GuestLemmas.{guest_in-seen, seen-with_handles, was_ok}
+use Rattle.strm_channels.specs.Guests.{guests_of, guest_of, live_in}
+use Rattle.strm_channels.proofs.GuestLemmas.{guest_in-seen, guests_of-with_handles, was_ok}
 use Rattle.strm_channels.proofs.EndLemmas.{live_less}
 use Rattle.strm_channels.proofs.ContextLemmas.{context_live}
 use Rattle.strm_channels.proofs.contexts.remove_context.Goals as goal
@@ -18,12 +18,12 @@ returns-clause-guests c =
     let read = guest_in-seen guests g x c.requires.there c.index_mut.ensures.value in
     let named = rw read at c.requires.named in
     let freed = was_ok c.error_context_drop.result _ (ap is_err (c.error_context_drop.ensures.answer ∙ named)) c.error_context_drop.ensures.removes.ok in
-    seen-with_handles guests g x c.error_context_drop.new.self c.requires.there c.index_mut.ensures.value
-    ∙ rw freed (ap (λ (k : machine.Guest). with_handles (seen guests) g (removed k.handles c.args.handle)) (sym read))
+    guests_of-with_handles guests g x c.error_context_drop.new.self c.requires.there c.index_mut.ensures.value
+    ∙ rw freed (ap (λ (k : machine.Guest). with_handles (guests_of guests) g (removed k.handles c.args.handle)) (sym read))
 
 pub returns-clause-live : goal.returns-clause-live
 returns-clause-live c =
     let guests = c.args.guests.now.items in
-    let g = guest_in (seen guests) c.args.guest in
-    let there : c.args.guest < length (seen guests) = omega (arith, c.requires.there, length-map guests guest_of) in
-    omega (arith, ap live_in (returns-clause-guests c), live_less (seen guests) c.args.guest (record g { handles = removed g.handles c.args.handle }) there (context_live g.handles c.args.handle c.args.context c.requires.named))
+    let g = guest_in (guests_of guests) c.args.guest in
+    let there : c.args.guest < length (guests_of guests) = omega (arith, c.requires.there, length-map guests guest_of) in
+    omega (arith, ap live_in (returns-clause-guests c), live_less (guests_of guests) c.args.guest (record g { handles = removed g.handles c.args.handle }) there (context_live g.handles c.args.handle c.args.context c.requires.named))

@@ -3,17 +3,17 @@ use Rattle.strm_handles.specs.Handles.{live_of, inserted}
 use Rattle.strm_machine.specs.State as machine
 use Rattle.strm_machine.specs.State.{with_handles, guest_in}
 use Rattle.strm_machine.specs.Making.{end_entry}
-use Rattle.strm_channels.specs.Guests.{seen, guest_of, live_in}
+use Rattle.strm_channels.specs.Guests.{guests_of, guest_of, live_in}
 use Rattle.std.proofs.lemmas.List.{length-map}
-use Rattle.strm_channels.proofs.GuestLemmas.{guest_in-seen, seen-with_handles}
+use Rattle.strm_channels.proofs.GuestLemmas.{guest_in-seen, guests_of-with_handles}
 use Rattle.strm_channels.proofs.EndLemmas.{rooms_after, live_after}
 use Rattle.strm_channels.proofs.ends.insert_end.Goals as goal
 
 pub returns-clause-guests : goal.returns-clause-guests
 returns-clause-guests c =
     let guests = c.args.guests.now.items in
-    seen-with_handles guests c.args.guest c.index_mut.result.now c.insert.new.table c.requires.there c.index_mut.ensures.value
-    ∙ ap (with_handles (seen guests) c.args.guest) (c.insert.ensures.handles
+    guests_of-with_handles guests c.args.guest c.index_mut.result.now c.insert.new.table c.requires.there c.index_mut.ensures.value
+    ∙ ap (with_handles (guests_of guests) c.args.guest) (c.insert.ensures.handles
     ∙ ap (λ (k : machine.Guest). inserted k.handles (end_entry c.args.side c.args.ty c.args.stream)) (sym (guest_in-seen guests c.args.guest c.index_mut.result.now c.requires.there c.index_mut.ensures.value)))
 
 pub returns-clause-rooms : goal.returns-clause-rooms
@@ -24,6 +24,6 @@ pub returns-clause-live : goal.returns-clause-live
 returns-clause-live c =
     let guests = c.args.guests.now.items in
     let read = guest_in-seen guests c.args.guest c.index_mut.result.now c.requires.there c.index_mut.ensures.value in
-    ap live_in (seen-with_handles guests c.args.guest c.index_mut.result.now c.insert.new.table c.requires.there c.index_mut.ensures.value)
-    ∙ live_after (seen guests) c.args.guest (record (guest_in (seen guests) c.args.guest) { handles = c.insert.new.table.handles }) (omega (arith, c.requires.there, length-map guests guest_of))
+    ap live_in (guests_of-with_handles guests c.args.guest c.index_mut.result.now c.insert.new.table c.requires.there c.index_mut.ensures.value)
+    ∙ live_after (guests_of guests) c.args.guest (record (guest_in (guests_of guests) c.args.guest) { handles = c.insert.new.table.handles }) (omega (arith, c.requires.there, length-map guests guest_of))
     (omega (arith, c.insert.ensures.live, ap (λ (k : machine.Guest). live_of k.handles) read))

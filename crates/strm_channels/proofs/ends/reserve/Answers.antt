@@ -1,10 +1,10 @@
 use Rattle.std.proofs.Common.{arith}
-use Rattle.strm_channels.proofs.EndLemmas.{rooms_after, room_after, seen-same}
+use Rattle.strm_channels.proofs.EndLemmas.{rooms_after, room_after, guests_of-same}
 use Rattle.strm_channels.proofs.ends.reserve.Goals as goal
 
 pub returns-in-Ok-clause-seen : goal.returns-in-Ok-clause-seen
 returns-in-Ok-clause-seen c =
-    seen-same c.args.guests.now.items c.args.guest c.index_mut.result.now c.reserve.new.self c.requires c.index_mut.ensures.value c.in-Ok.ensures.handles
+    guests_of-same c.args.guests.now.items c.args.guest c.index_mut.result.now c.reserve.new.self c.requires c.index_mut.ensures.value c.in-Ok.ensures.handles
 
 pub returns-in-Ok-clause-room : goal.returns-in-Ok-clause-room
 returns-in-Ok-clause-room c =

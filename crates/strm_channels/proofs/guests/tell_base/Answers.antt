@@ -1,7 +1,7 @@
 use Rattle.std.proofs.Common.{Some, sym, ap, ◌∙◌}
 use Rattle.strm_memory.specs.Linear.{LinearMemory}
-use Rattle.strm_channels.specs.Guests.{seen, with_linear}
-use Rattle.strm_channels.proofs.GuestLemmas.{seen-with_linear, linear_in-seen}
+use Rattle.strm_channels.specs.Guests.{guests_of, with_linear}
+use Rattle.strm_channels.proofs.GuestLemmas.{guests_of-with_linear, linear_in-seen}
 use Rattle.strm_channels.proofs.guests.tell_base.Goals as goal
 
 pub returns-clause-told : goal.returns-clause-told
@@ -9,8 +9,8 @@ returns-clause-told c =
     let guests = c.args.guests.now.items in
     let x = c.index_mut.result.now in
     let lies = linear_in-seen guests c.args.guest x c.requires c.index_mut.ensures.value in
-    seen-with_linear guests c.args.guest x c.tell_base.new.self c.requires c.index_mut.ensures.value
-    ∙ ap (with_linear (seen guests) c.args.guest) (c.tell_base.ensures.told ∙ ap (λ (m : LinearMemory). record m { base = Some c.tell_base.result }) (sym lies))
+    guests_of-with_linear guests c.args.guest x c.tell_base.new.self c.requires c.index_mut.ensures.value
+    ∙ ap (with_linear (guests_of guests) c.args.guest) (c.tell_base.ensures.told ∙ ap (λ (m : LinearMemory). record m { base = Some c.tell_base.result }) (sym lies))
 
 pub returns-clause-again : goal.returns-clause-again
 returns-clause-again c =

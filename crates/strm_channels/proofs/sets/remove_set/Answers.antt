@@ -5,8 +5,8 @@ use Rattle.strm_handles.specs.Handles.{removed}
 use Rattle.strm_waitable_sets.specs.Sets.{without_set}
 use Rattle.strm_machine.specs.State as machine
 use Rattle.strm_machine.specs.State.{guest_in, with_table}
-use Rattle.strm_channels.specs.Guests.{seen, guest_of, live_in, sets_among}
-use Rattle.strm_channels.proofs.GuestLemmas.{guest_in-seen, seen-with_table, was_ok}
+use Rattle.strm_channels.specs.Guests.{guests_of, guest_of, live_in, sets_among}
+use Rattle.strm_channels.proofs.GuestLemmas.{guest_in-seen, guests_of-with_table, was_ok}
 use Rattle.strm_channels.proofs.EndLemmas.{live_less}
 use Rattle.strm_waitable_sets.proofs.SetLemmas.{count-without}
 use Rattle.strm_channels.proofs.SetLemmas.{sets_less, set_live}
@@ -21,19 +21,19 @@ returns-clause-guests c =
     let named = rw read at c.requires.named in
     let freed = was_ok c.waitable_set_remove.result _ (ap is_err (c.waitable_set_remove.ensures.answer ∙ named)) c.waitable_set_remove.ensures.removes.ok in
     let taken = was_ok c.remove.result _ (ap is_err c.unwrap-2.ensures) c.remove.ensures.ok in
-    seen-with_table guests g x c.waitable_set_remove.new.self c.remove.new.self c.requires.there c.index_mut-guest.ensures.value
-    ∙ rw (freed, taken) (ap (λ (k : machine.Guest). with_table (seen guests) g (removed k.handles c.args.handle) (without_set k.sets c.args.set)) (sym read))
+    guests_of-with_table guests g x c.waitable_set_remove.new.self c.remove.new.self c.requires.there c.index_mut-guest.ensures.value
+    ∙ rw (freed, taken) (ap (λ (k : machine.Guest). with_table (guests_of guests) g (removed k.handles c.args.handle) (without_set k.sets c.args.set)) (sym read))
 
 pub returns-clause-live : goal.returns-clause-live
 returns-clause-live c =
     let guests = c.args.guests.now.items in
-    let g = guest_in (seen guests) c.args.guest in
-    let there : c.args.guest < length (seen guests) = omega (arith, c.requires.there, length-map guests guest_of) in
-    omega (arith, ap live_in (returns-clause-guests c), live_less (seen guests) c.args.guest (record g { handles = removed g.handles c.args.handle; sets = without_set g.sets c.args.set }) there (set_live g.handles c.args.handle c.args.set c.requires.named))
+    let g = guest_in (guests_of guests) c.args.guest in
+    let there : c.args.guest < length (guests_of guests) = omega (arith, c.requires.there, length-map guests guest_of) in
+    omega (arith, ap live_in (returns-clause-guests c), live_less (guests_of guests) c.args.guest (record g { handles = removed g.handles c.args.handle; sets = without_set g.sets c.args.set }) there (set_live g.handles c.args.handle c.args.set c.requires.named))
 
 pub returns-clause-sets : goal.returns-clause-sets
 returns-clause-sets c =
     let guests = c.args.guests.now.items in
-    let g = guest_in (seen guests) c.args.guest in
-    let there : c.args.guest < length (seen guests) = omega (arith, c.requires.there, length-map guests guest_of) in
-    omega (arith, ap sets_among (returns-clause-guests c), sets_less (seen guests) c.args.guest (record g { handles = removed g.handles c.args.handle; sets = without_set g.sets c.args.set }) there (count-without g.sets c.args.set c.requires.made))
+    let g = guest_in (guests_of guests) c.args.guest in
+    let there : c.args.guest < length (guests_of guests) = omega (arith, c.requires.there, length-map guests guest_of) in
+    omega (arith, ap sets_among (returns-clause-guests c), sets_less (guests_of guests) c.args.guest (record g { handles = removed g.handles c.args.handle; sets = without_set g.sets c.args.set }) there (count-without g.sets c.args.set c.requires.made))

@@ -1,6 +1,6 @@
 use Rattle.std.proofs.Common.{◌≡◌, map, length, arith, refl}
 use Rattle.std.proofs.lemmas.List.{length-map}
-use Rattle.strm_frames.specs.Frames.{Data, End, spelling}
+use Rattle.strm_frames.specs.Frames.{Data, End, encoding}
 use Rattle.strm_frames.proofs.TakingLemmas.{shorter, appends_none, appends_data, appends_end, appends_some}
 use Rattle.strm_frames.proofs.taking.append.Goals as goal
 
@@ -8,10 +8,10 @@ pub frames-init : goal.frames-init
 frames-init c = appends_none c.args.bytes.now _
 
 pub frames-smaller-in-Data : goal.frames-smaller-in-Data
-frames-smaller-in-Data c = shorter (Data c.in-Data.lane c.in-Data.data.now) c.args.bytes.now (spelling c.frames.invariant.frames) c.frames.rest.now c.in-Data.more.now (λ i. omega (arith, c.type_inv.bytes i)) c.frames.invariant.whole c.in-Data.ensures
+frames-smaller-in-Data c = shorter (Data c.in-Data.lane c.in-Data.data.now) c.args.bytes.now (encoding c.frames.invariant.frames) c.frames.rest.now c.in-Data.more.now (λ i. omega (arith, c.type_inv.bytes i)) c.frames.invariant.whole c.in-Data.ensures
 
 pub frames-smaller : goal.frames-smaller
-frames-smaller c = shorter (End c.in-End.lane) c.args.bytes.now (spelling c.frames.invariant.frames) c.frames.rest.now c.in-End.more.now (λ i. omega (arith, c.type_inv.bytes i)) c.frames.invariant.whole c.in-End.ensures
+frames-smaller c = shorter (End c.in-End.lane) c.args.bytes.now (encoding c.frames.invariant.frames) c.frames.rest.now c.in-End.more.now (λ i. omega (arith, c.type_inv.bytes i)) c.frames.invariant.whole c.in-End.ensures
 
 pub frames-preserved : goal.frames-preserved
 frames-preserved c = appends_end c.args.bytes.now c.frames.rest.now c.in-End.more.now _ _ c.in-End.lane (λ i. omega (arith, c.type_inv.bytes i)) c.frames.invariant c.in-End.ensures

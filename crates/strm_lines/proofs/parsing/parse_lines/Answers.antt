@@ -2,7 +2,7 @@ use Rattle.std.proofs.Common.{◌≡◌, ◌++◌, length, map, refl, sym, ◌�
 use Rattle.std.specs.Option.{option_to_list}
 use Rattle.std.proofs.lemmas.Bool.{eqb-true}
 use Rattle.strm_lines.specs.Grammar.{spelling}
-use Rattle.strm_lines.specs.Lines.{lines_of, IsFirstBad}
+use Rattle.strm_lines.specs.Lines.{lines_of, IsFirstBadLine}
 use Rattle.strm_lines.specs.Reading.{step_of}
 use Rattle.strm_lines.proofs.LineLemmas.{kept_line, kept_one, unkept_line, all_spelled}
 use Rattle.strm_lines.proofs.parsing.parse_lines.Goals as goal
@@ -16,7 +16,7 @@ returns-then-not-keep_line-clause-bad_line g c = λ k e.
     let lines = c.loop-rest.invariant.lines ∙ ap (λ ls. map spelling old ++ ls) c.first_line.ensures.lines in
     let bad = unkept_line (lines_of c.args.bytes.now) (lines_of c.first_line.result.1.now) c.first_line.result.0.now old _ refl (sym c.keep_line.ensures.found ∙ c.if-not-keep_line.true) lines c.loop-rest.invariant.have in
     let line : c.loop-rest.line ≡ k = cc in
-    subst (IsFirstBad (lines_of c.args.bytes.now)) (sym c.loop-rest.invariant.number ∙ line) bad
+    subst (IsFirstBadLine (lines_of c.args.bytes.now)) (sym c.loop-rest.invariant.number ∙ line) bad
 
 pub loop-rest-preserved : goal.loop-rest-preserved
 loop-rest-preserved g c =

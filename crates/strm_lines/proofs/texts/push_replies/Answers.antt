@@ -1,5 +1,5 @@
 use Rattle.std.proofs.Common.{subst}
-use Rattle.strm_lines.specs.Text.{HasPart, ended, reply_text}
+use Rattle.strm_lines.specs.Text.{HasPart, line_ended, reply_text}
 use Rattle.strm_lines.proofs.PartLemmas.{on_err, part_of_item}
 use Rattle.strm_lines.proofs.texts.push_replies.Goals as goal
 
@@ -7,5 +7,5 @@ pub returns-in_err-push_reply-clause-err : goal.returns-in_err-push_reply-clause
 returns-in_err-push_reply-clause-err c =
     let item = c.reply-item.result in
     on_err c.from_residual.result
-    (part_of_item (λ reply. ended (reply_text reply)) c.args.replies.now c.loop-reply.reply-index item c.args.out.now c.loop-reply.out c.push_reply.new.out c.loop-reply-test.true c.loop-reply.invariant
-    (subst (λ reply. HasPart c.loop-reply.out c.push_reply.new.out (ended (reply_text reply))) c.reply-item.is c.in_err-push_reply.ensures.err))
+    (part_of_item (λ reply. line_ended (reply_text reply)) c.args.replies.now c.loop-reply.reply-index item c.args.out.now c.loop-reply.out c.push_reply.new.out c.loop-reply-test.true c.loop-reply.invariant
+    (subst (λ reply. HasPart c.loop-reply.out c.push_reply.new.out (line_ended (reply_text reply))) c.reply-item.is c.in_err-push_reply.ensures.err))

@@ -1,7 +1,7 @@
 use Rattle.std.proofs.Common.{◌≡◌, ◌≤◌, ◌∷◌, [], List, length, ap, ◌∙◌, arith}
-use Rattle.strm_laws.specs.Conservation.{last, moments, replies_of}
-use Rattle.strm_session.specs.Runs.{start, counts_of}
-use Rattle.strm_frames.specs.Demuxes.{IsFed}
+use Rattle.strm_laws.specs.Conservation.{state_after_steps, moments, replies_of}
+use Rattle.strm_session.specs.Runs.{run_start, counts_of}
+use Rattle.strm_frames.specs.Demuxes.{IsDemuxFed}
 use Rattle.strm_machine.specs.declared.steps.Step.{Step}
 use Rattle.strm_carry_laws.specs.OneStream.{CanCarry, dumped}
 use Rattle.strm_mux.proofs.CarryLemmas.{can_carry, script_few, script_guests, received_first, same_count, one_count, fed_delivers}
@@ -24,20 +24,20 @@ play_all-requires-clause-one c =
     let bytes = c.bytes-bytes.result.now in
     let few : length bytes ≤ 1048576 = omega (arith, c.requires.few, ap length c.bytes-bytes.ensures.bytes) in
     let k : CanCarry c.args.write c.args.read bytes = can_carry c.args.write c.args.read bytes c.hold_bytes.ensures few c.requires.write c.requires.read in
-    let all : counts_of (last start c.as_slice.result.now) ≡ length bytes ∷ [] =
-    ap (λ (s : List Step). counts_of (last start s)) (c.as_slice.ensures ∙ c.in_ok-steps.ensures.ok) ∙ c.carries.ensures.received c.args.write c.args.read bytes k in
-    one_count (counts_of (last start c.as_slice.result.now)) (length bytes) all few
+    let all : counts_of (state_after_steps run_start c.as_slice.result.now) ≡ length bytes ∷ [] =
+    ap (λ (s : List Step). counts_of (state_after_steps run_start s)) (c.as_slice.ensures ∙ c.in_ok-steps.ensures.ok) ∙ c.carries.ensures.received c.args.write c.args.read bytes k in
+    one_count (counts_of (state_after_steps run_start c.as_slice.result.now)) (length bytes) all few
 
 pub returns-clause-moved : goal.returns-clause-moved
 returns-clause-moved c =
     let bytes = c.bytes-bytes.result.now in
     let k : CanCarry c.args.write c.args.read bytes =
     can_carry c.args.write c.args.read bytes c.hold_bytes.ensures (omega (arith, c.requires.few, ap length c.bytes-bytes.ensures.bytes)) c.requires.write c.requires.read in
-    let moved : c.in_ok-played.played.moved ∷ [] ≡ counts_of (last start c.in_ok-steps.steps) =
-    c.in_ok-played.ensures.moved ∙ ap (λ (s : List Step). counts_of (last start s)) c.as_slice.ensures in
-    let all : counts_of (last start c.in_ok-steps.steps) ≡ length bytes ∷ [] =
-    ap (λ (s : List Step). counts_of (last start s)) c.in_ok-steps.ensures.ok ∙ c.carries.ensures.received c.args.write c.args.read bytes k in
-    (same_count _ _ (moved ∙ all) ∙ ap length c.bytes-bytes.ensures.bytes, received_first (last start c.in_ok-steps.steps) _ moved)
+    let moved : c.in_ok-played.played.moved ∷ [] ≡ counts_of (state_after_steps run_start c.in_ok-steps.steps) =
+    c.in_ok-played.ensures.moved ∙ ap (λ (s : List Step). counts_of (state_after_steps run_start s)) c.as_slice.ensures in
+    let all : counts_of (state_after_steps run_start c.in_ok-steps.steps) ≡ length bytes ∷ [] =
+    ap (λ (s : List Step). counts_of (state_after_steps run_start s)) c.in_ok-steps.ensures.ok ∙ c.carries.ensures.received c.args.write c.args.read bytes k in
+    (same_count _ _ (moved ∙ all) ∙ ap length c.bytes-bytes.ensures.bytes, received_first (state_after_steps run_start c.in_ok-steps.steps) _ moved)
 
 pub returns-clause-delivers : goal.returns-clause-delivers
 returns-clause-delivers c = λ given d.
@@ -45,7 +45,7 @@ returns-clause-delivers c = λ given d.
     let k : CanCarry c.args.write c.args.read bytes =
     can_carry c.args.write c.args.read bytes c.hold_bytes.ensures (omega (arith, c.requires.few, ap length c.bytes-bytes.ensures.bytes)) c.requires.write c.requires.read in
     let told : dumped c.as_slice-2.result.now ≡ c.args.mux.now.bytes =
-    ap dumped (c.as_slice-2.ensures ∙ c.in_ok-played.ensures.told) ∙ ap (λ (s : List Step). dumped (replies_of (moments start s))) (c.as_slice.ensures ∙ c.in_ok-steps.ensures.ok)
+    ap dumped (c.as_slice-2.ensures ∙ c.in_ok-played.ensures.told) ∙ ap (λ (s : List Step). dumped (replies_of (moments run_start s))) (c.as_slice.ensures ∙ c.in_ok-steps.ensures.ok)
     ∙ c.carries.ensures.dumped c.args.write c.args.read bytes k ∙ c.bytes-bytes.ensures.bytes in
-    let fed : IsFed c.in_ok-demux.demux c.args.mux.now.bytes = rw told at c.in_ok-demux.ensures.ok in
+    let fed : IsDemuxFed c.in_ok-demux.demux c.args.mux.now.bytes = rw told at c.in_ok-demux.ensures.ok in
     fed_delivers c.in_ok-demux.demux c.args.mux.now given fed d

@@ -1,6 +1,6 @@
 use Rattle.std.proofs.Common.{Err, sym, ap, ◌∙◌}
 use Rattle.strm_machine.specs.Reactions.{Reaction}
-use Rattle.strm_transmit.specs.Hosted.{answered}
+use Rattle.strm_transmit.specs.Hosted.{call_answered}
 use Rattle.strm_session.specs.Runs.{stop_of, Unkept}
 use Rattle.strm_session.proofs.PlayLemmas.{play-goes, goes_on_to}
 use Rattle.strm_session.proofs.StepLemmas.{does_runs, never_trapped, does_wanting, does_answering, meets_stops, answered_unmet, meeting_takes_none, wanted_error, leaves_wanting}
@@ -61,7 +61,7 @@ returns-in-Err-clause-does g c =
     let does = rw c.in-Err.is at c.apply.ensures.does in
     record {
       ok = tt;
-      stop = does_answering (answered (Err c.in-Err.error)) (Err (stop_of c.cause_of.result)) c.cause_of.ensures does;
+      stop = does_answering (call_answered (Err c.in-Err.error)) (Err (stop_of c.cause_of.result)) c.cause_of.ensures does;
       wanting = leaves_wanting c.args.store.now c.apply.new.store _ _ c.args.step.now c.in-Err.error c.cause_of.result c.cause_of.ensures (rw c.in-Err.is at c.apply.ensures.err);
       unmet = λ wanted s met.
           let none = meeting_takes_none c.args.store.now c.args.step.now s met in

@@ -1,20 +1,20 @@
 use Rattle.std.proofs.Common.{◌∙◌, ◌+◌, ◌-◌, sym, arith}
-use Rattle.strm_tape.specs.Reading.{reader_record}
+use Rattle.strm_tape.specs.Reading.{read_reader_record}
 use Rattle.strm_tape.proofs.ManyLemmas.{many_stopped, many_on, many_over}
 use Rattle.strm_tape.proofs.lists.reader_records.Goals as goal
 
 pub returns-in_default : goal.returns-in_default
 returns-in_default c =
-    sym (many_stopped reader_record c.loop-k.all.items (c.args.count - c.loop-k.k) c.loop-k.rest.now (omega (arith, c.loop-k-test.true)) (sym c.in_default.ensures))
+    sym (many_stopped read_reader_record c.loop-k.all.items (c.args.count - c.loop-k.k) c.loop-k.rest.now (omega (arith, c.loop-k-test.true)) (sym c.in_default.ensures))
     ∙ c.loop-k.invariant
 
 pub loop-k-preserved : goal.loop-k-preserved
 loop-k-preserved c =
     rw c.in_ok-push_item.ensures
-    (many_on reader_record c.loop-k.all.items (c.args.count - c.loop-k.k) (c.args.count - (c.loop-k.k + 1)) c.loop-k.rest.now (c.in-Some.found, c.in-Some.behind.now) (omega (arith, c.loop-k-test.true)) (sym c.in-Some.ensures)
+    (many_on read_reader_record c.loop-k.all.items (c.args.count - c.loop-k.k) (c.args.count - (c.loop-k.k + 1)) c.loop-k.rest.now (c.in-Some.found, c.in-Some.behind.now) (omega (arith, c.loop-k-test.true)) (sym c.in-Some.ensures)
     ∙ c.loop-k.invariant)
 
 pub returns : goal.returns
 returns c =
-    sym (many_over reader_record c.loop-k.all.items (c.args.count - c.loop-k.k) c.loop-k.rest.now (omega (arith, c.loop-k-test.false, c.loop-k.auto.k-end)))
+    sym (many_over read_reader_record c.loop-k.all.items (c.args.count - c.loop-k.k) c.loop-k.rest.now (omega (arith, c.loop-k-test.false, c.loop-k.auto.k-end)))
     ∙ c.loop-k.invariant

@@ -1,6 +1,6 @@
 use Rattle.std.proofs.Common.{sym, ◌∙◌, arith}
 use Rattle.strm_input_output.proofs.ServingLemmas.{is_or}
-use Rattle.strm_tape_program.specs.Taking.{status_of, text_of}
+use Rattle.strm_tape_program.specs.Taking.{status_of_output, text_of}
 use Rattle.strm_tape_program.proofs.TakeLemmas.{unfailed, written_known, told_done, told_bad_line, told_too_long}
 use Rattle.strm_tape_program.proofs.taking.tape_take.Goals as goal
 
@@ -17,7 +17,7 @@ returns-in-Ok-clause-told g c = λ ended memory.
 
 pub returns-in-Ok-clause-part : goal.returns-in-Ok-clause-part
 returns-in-Ok-clause-part g c = λ failed.
-    (status_of c.in-Ok.output, text_of c.in-Ok.output, c.in-Ok.ensures.told, rw c.text.ensures at c.write_answer.ensures.part failed)
+    (status_of_output c.in-Ok.output, text_of c.in-Ok.output, c.in-Ok.ensures.told, rw c.text.ensures at c.write_answer.ensures.part failed)
 
 pub returns-in-Ok-clause-nothing : goal.returns-in-Ok-clause-nothing
 returns-in-Ok-clause-nothing g c = λ e.

@@ -3,7 +3,7 @@ use Rattle.strm_session.specs.declared.runs.RunStop.{RunStop}
 use Rattle.strm_session.specs.declared.runs.Transcript.{Transcript}
 use Rattle.strm_tape_runs.specs.Differing.{FirstDiffer}
 use Rattle.strm_tape_runs.specs.Marks.{mark_of, reader_mark_of}
-use Rattle.strm_tape_runs.specs.Playing.{IsRunOf, IsPlayOf}
+use Rattle.strm_tape_runs.specs.Playing.{IsRunOfSteps, IsPlayOf}
 use Rattle.strm_tape_runs.specs.Taking.{writer_type, reader_type, tape_of_run}
 use Rattle.strm_tape_runs.proofs.RunLemmas.{hosts_stay, reach_writers, reach_readers, types_marked, tape_is, run_plays, told_difference}
 use Rattle.strm_tape_runs.proofs.replays.replay.Goals as goal
@@ -35,7 +35,7 @@ returns-in-Ok-None-clause-same g c =
 pub returns-in-Ok-None-clause-plays : goal.returns-in-Ok-None-clause-plays
 returns-in-Ok-None-clause-plays g c =
     let steps = c.steps.result.now in
-    let run : IsRunOf (g.H.HostEnds.tells c.args.hosts.now) (g.H.HostEnds.tells c.run-end.new.hosts) steps c.run-end.result = record { ok = c.run-end.ensures.ok; received = c.run-end.ensures.received; stop = c.run-end.ensures.stop; at = c.run-end.ensures.at; goes_on = c.run-end.ensures.hosts; alone = c.run-end.ensures.alone; decided = c.run-end.ensures.decided } in
+    let run : IsRunOfSteps (g.H.HostEnds.tells c.args.hosts.now) (g.H.HostEnds.tells c.run-end.new.hosts) steps c.run-end.result = record { ok = c.run-end.ensures.ok; received = c.run-end.ensures.received; stop = c.run-end.ensures.stop; at = c.run-end.ensures.at; goes_on = c.run-end.ensures.hosts; alone = c.run-end.ensures.alone; decided = c.run-end.ensures.decided } in
     subst (λ tape. IsPlayOf tape c.run-end.result) (ap (λ steps. tape_of_run steps (g.H.HostEnds.tells c.args.hosts.now) (g.H.HostEnds.tells c.run-end.new.hosts)) c.steps.ensures ∙ returns-in-Ok-None-clause-same g c)
     (run_plays c.runs_are_alike.ensures steps (g.H.HostEnds.tells c.args.hosts.now) (g.H.HostEnds.tells c.run-end.new.hosts) c.run-end.result c.requires.ends.held run (c.wanted_memory.ensures c.if-wanted_memory.false))
 
@@ -49,15 +49,15 @@ returns-in-Ok-Some-clause-differs g c = λ reader end at e.
 
 pub returns-in-Ok-Some-clause-adds : goal.returns-in-Ok-Some-clause-adds
 returns-in-Ok-Some-clause-adds g c = λ reader end at e.
-    let run : IsRunOf (g.H.HostEnds.tells c.args.hosts.now) (g.H.HostEnds.tells c.run-end.new.hosts) c.steps.result.now c.run-end.result = record { ok = c.run-end.ensures.ok; received = c.run-end.ensures.received; stop = c.run-end.ensures.stop; at = c.run-end.ensures.at; goes_on = c.run-end.ensures.hosts; alone = c.run-end.ensures.alone; decided = c.run-end.ensures.decided } in
-    (c.run-end.result, subst (λ steps. IsRunOf (g.H.HostEnds.tells c.args.hosts.now) (g.H.HostEnds.tells c.run-end.new.hosts) steps c.run-end.result) c.steps.ensures run, c.wanted_memory.ensures c.if-wanted_memory.false)
+    let run : IsRunOfSteps (g.H.HostEnds.tells c.args.hosts.now) (g.H.HostEnds.tells c.run-end.new.hosts) c.steps.result.now c.run-end.result = record { ok = c.run-end.ensures.ok; received = c.run-end.ensures.received; stop = c.run-end.ensures.stop; at = c.run-end.ensures.at; goes_on = c.run-end.ensures.hosts; alone = c.run-end.ensures.alone; decided = c.run-end.ensures.decided } in
+    (c.run-end.result, subst (λ steps. IsRunOfSteps (g.H.HostEnds.tells c.args.hosts.now) (g.H.HostEnds.tells c.run-end.new.hosts) steps c.run-end.result) c.steps.ensures run, c.wanted_memory.ensures c.if-wanted_memory.false)
 
 pub returns-then-wanted_memory-clause-wanting : goal.returns-then-wanted_memory-clause-wanting
 returns-then-wanted_memory-clause-wanting g c = λ e.
-    let run : IsRunOf (g.H.HostEnds.tells c.args.hosts.now) (g.H.HostEnds.tells c.run-end.new.hosts) c.steps.result.now c.run-end.result = record { ok = c.run-end.ensures.ok; received = c.run-end.ensures.received; stop = c.run-end.ensures.stop; at = c.run-end.ensures.at; goes_on = c.run-end.ensures.hosts; alone = c.run-end.ensures.alone; decided = c.run-end.ensures.decided } in
-    inr (c.run-end.result, subst (λ steps. IsRunOf (g.H.HostEnds.tells c.args.hosts.now) (g.H.HostEnds.tells c.run-end.new.hosts) steps c.run-end.result) c.steps.ensures run)
+    let run : IsRunOfSteps (g.H.HostEnds.tells c.args.hosts.now) (g.H.HostEnds.tells c.run-end.new.hosts) c.steps.result.now c.run-end.result = record { ok = c.run-end.ensures.ok; received = c.run-end.ensures.received; stop = c.run-end.ensures.stop; at = c.run-end.ensures.at; goes_on = c.run-end.ensures.hosts; alone = c.run-end.ensures.alone; decided = c.run-end.ensures.decided } in
+    inr (c.run-end.result, subst (λ steps. IsRunOfSteps (g.H.HostEnds.tells c.args.hosts.now) (g.H.HostEnds.tells c.run-end.new.hosts) steps c.run-end.result) c.steps.ensures run)
 
 pub returns-clause-wanting : goal.returns-clause-wanting
 returns-clause-wanting g c = λ e.
-    let run : IsRunOf (g.H.HostEnds.tells c.args.hosts.now) (g.H.HostEnds.tells c.run-end.new.hosts) c.steps.result.now c.run-end.result = record { ok = c.run-end.ensures.ok; received = c.run-end.ensures.received; stop = c.run-end.ensures.stop; at = c.run-end.ensures.at; goes_on = c.run-end.ensures.hosts; alone = c.run-end.ensures.alone; decided = c.run-end.ensures.decided } in
-    inr (c.run-end.result, subst (λ steps. IsRunOf (g.H.HostEnds.tells c.args.hosts.now) (g.H.HostEnds.tells c.run-end.new.hosts) steps c.run-end.result) c.steps.ensures run)
+    let run : IsRunOfSteps (g.H.HostEnds.tells c.args.hosts.now) (g.H.HostEnds.tells c.run-end.new.hosts) c.steps.result.now c.run-end.result = record { ok = c.run-end.ensures.ok; received = c.run-end.ensures.received; stop = c.run-end.ensures.stop; at = c.run-end.ensures.at; goes_on = c.run-end.ensures.hosts; alone = c.run-end.ensures.alone; decided = c.run-end.ensures.decided } in
+    inr (c.run-end.result, subst (λ steps. IsRunOfSteps (g.H.HostEnds.tells c.args.hosts.now) (g.H.HostEnds.tells c.run-end.new.hosts) steps c.run-end.result) c.steps.ensures run)

@@ -4,7 +4,7 @@ use Rattle.strm_machine.specs.declared.streams.Owner.TheVariants.{Held}
 use Rattle.strm_machine.specs.declared.streams.Side.{Side}
 use Rattle.strm_machine.specs.declared.streams.Side.TheVariants.{Writing, Reading}
 use Rattle.strm_machine.specs.declared.streams.Stream.{Stream}
-use Rattle.strm_channels.specs.Guests.{seen}
+use Rattle.strm_channels.specs.Guests.{guests_of}
 use Rattle.strm_transmit.specs.Telling.{SaysOf, member_of, has_report}
 use Rattle.strm_transmit.proofs.ToldLemmas.{never}
 use Rattle.strm_transmit.proofs.telling.retell_ends.Goals as goal
@@ -24,7 +24,7 @@ returns c = record {
   where
     told : (side : Side) (g number handle : ℕ) → Owns c.args.stream.now side g handle
         → (Owns c.args.stream.now (opposite side) g handle → ⊥)
-        → member_of (seen c.args.guests.now.items) g number handle ≡ true
+        → member_of (guests_of c.args.guests.now.items) g number handle ≡ true
         → SaysOf c.retell_end-2.new.ready.items g number handle (has_report side c.args.stream.now)
     told Writing g number handle owner apart member =
         c.retell_end-2.ensures.others g number handle _ (c.retell_end.ensures.told g number handle owner member)

@@ -1,6 +1,6 @@
 use Rattle.std.proofs.Common.{reverse, arith}
 use Rattle.std.proofs.lemmas.List.{length-reverse}
-use Rattle.strm_resources.proofs.LinkLemmas.{AreKept-filled, next_inside, length-filled, length-filled_small, some_reversed}
+use Rattle.strm_resources.proofs.LinkLemmas.{IsLinked-filled, next_inside, length-filled, length-filled_small, some_reversed}
 use Rattle.strm_resources.proofs.links.Links.insert.Goals as goal
 
 pub fill-requires-clause-inside : goal.fill-requires-clause-inside
@@ -12,7 +12,7 @@ invariant_of-self c =
     let l = c.self.inside in
     let room = rw (← c.self.view_is) at c.requires.room in
     rw (c.fill.ensures.nodes, c.fill.ensures.freed, c.fill.ensures.freed_capacity, c.new-node.ensures) (record {
-      kept = AreKept-filled l.nodes.items (reverse l.freed.items) c.self.invariant.kept;
+      kept = IsLinked-filled l.nodes.items (reverse l.freed.items) c.self.invariant.kept;
       reserved = length-filled (reverse l.freed.items) l.nodes.items _ _ (omega (arith, length-reverse l.freed.items, l.nodes.ok, l.freed.ok)) c.self.invariant.reserved;
       small = length-filled_small (reverse l.freed.items) l.nodes.items _ (rw (← c.self.view_is) at c.requires.small) c.self.invariant.small;
     })

@@ -3,7 +3,7 @@ use Rattle.std.proofs.lemmas.Bool.Decides.{nat_tests}
 use Rattle.std.proofs.lemmas.List.{length-reverse}
 use Rattle.std.specs.Prelude.{◌||◌, nat_eq, nat_le, nat_lt}
 use Rattle.strm_resources.specs.Links.{is_full}
-use Rattle.strm_resources.specs.Nodes.{next_of}
+use Rattle.strm_resources.specs.Nodes.{next_node}
 use Rattle.strm_resources.proofs.LinkLemmas.{next_small}
 use Rattle.strm_resources.proofs.links.Links.is_full.Goals as goal
 
@@ -22,7 +22,7 @@ full_short : (freed : List ℕ) (len capacity : ℕ) → length freed ≡ 0 → 
 full_short [] len capacity none short = grind (arith, nat_tests)
 full_short (x ∷ freed) len capacity none short = absurd (omega (arith, none))
 
-next_new : (freed : List ℕ) (len : ℕ) → length freed ≡ 0 → nat_lt 4294967295 len ≡ false → next_of freed len ≤ 4294967295
+next_new : (freed : List ℕ) (len : ℕ) → length freed ≡ 0 → nat_lt 4294967295 len ≡ false → next_node freed len ≤ 4294967295
 next_new [] len none few = grind (arith, nat_tests)
 next_new (x ∷ freed) len none few = absurd (omega (arith, none))
 

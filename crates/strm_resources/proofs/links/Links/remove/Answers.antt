@@ -2,16 +2,16 @@ use Rattle.std.proofs.Common.{◌≡◌, ℕ, ◌∷◌, List, Option, None, set
 use Rattle.std.proofs.lemmas.List.{length-reverse, length-set, reverse-append}
 use Rattle.std.specs.FinSet as set_of
 use Rattle.strm_resources.specs.Nodes.{Node, node_at, parent_at, children_at, cut}
-use Rattle.strm_resources.specs.Links.{AreKept}
-use Rattle.strm_resources.proofs.LinkLemmas.{AreKept-emptied, is_some-cut, cut_is_loose, cut_is_childless, freed_fit}
+use Rattle.strm_resources.specs.Links.{IsLinked}
+use Rattle.strm_resources.proofs.LinkLemmas.{IsLinked-emptied, is_some-cut, cut_is_loose, cut_is_childless, freed_fit}
 use Rattle.strm_resources.proofs.links.Links.remove.Goals as goal
 use Rattle.std.specs.Prelude.{is_some, true}
 use Rattle.strm_resources.specs.Nodes.{is_childless}
 
 -- the childless number emptied, of nodes that it was cut off in
-emptied : (old nodes : List (Option Node)) (freed : List ℕ) (number : ℕ) → nodes ≡ cut old number → AreKept nodes freed → is_some (node_at old number) ≡ true → is_childless (children_at old number) ≡ true → AreKept (set nodes number None) (number ∷ freed)
+emptied : (old nodes : List (Option Node)) (freed : List ℕ) (number : ℕ) → nodes ≡ cut old number → IsLinked nodes freed → is_some (node_at old number) ≡ true → is_childless (children_at old number) ≡ true → IsLinked (set nodes number None) (number ∷ freed)
 emptied old nodes freed number is kept there childless =
-    AreKept-emptied nodes freed number kept
+    IsLinked-emptied nodes freed number kept
     (ap (λ ns. is_some (node_at ns number)) is ∙ is_some-cut old number number ∙ there)
     (ap (λ ns. parent_at ns number) is ∙ cut_is_loose old number)
     (λ child. ap (λ ns. set_of.contains (children_at ns number) child) is ∙ cut_is_childless old number child childless)

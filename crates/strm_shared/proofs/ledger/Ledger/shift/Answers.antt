@@ -3,7 +3,7 @@ use Rattle.std.proofs.lemmas.Grind.{common_steps}
 use Rattle.strm_machine.specs.Acts.{act_of}
 use Rattle.strm_shared.specs.Histories.{entry}
 use Rattle.strm_shared.specs.Places.{is_refused_busy}
-use Rattle.strm_shared.specs.Waits.{IsKept}
+use Rattle.strm_shared.specs.Waits.{IsSlotKept}
 use Rattle.strm_shared.proofs.WaitLemmas.{kept_enter, kept_room, reached_kept}
 use Rattle.strm_shared.proofs.MoveLemmas.{move-guests, clear_moved, moved_same}
 use Rattle.strm_shared.proofs.HistoryLemmas.{grows}
@@ -22,7 +22,7 @@ pub invariant_of-self-then-is_refused_busy : goal.invariant_of-self-then-is_refu
 invariant_of-self-then-is_refused_busy c =
     let busy : is_refused_busy c.in_ok-reply.reply ≡ true = search rules in
     let same = moved_same c.self.inside.store c.apply_alone.new.self c.args.step.now c.in_ok-reply.reply c.in_ok-reply.ensures.ok c.requires.moves busy in
-    subst (λ s. IsKept c.self.inside.limits s c.reserve.new.self.items c.self.inside.waits.items c.reserve.new.self.room) (sym same)
+    subst (λ s. IsSlotKept c.self.inside.limits s c.reserve.new.self.items c.self.inside.waits.items c.reserve.new.self.room) (sym same)
     (kept_room _ _ _ _ _ _ _ c.reserve.ensures.same c.reserve.ensures.room c.self.invariant)
 
 pub invariant_of-self-2 : goal.invariant_of-self-2

@@ -2,9 +2,9 @@ use Rattle.std.proofs.Common.{◌≡◌, Some, None, ap, ◌∙◌, ◌∷◌, s
 use Rattle.strm_machine.specs.WaitableSets.{is_in_set}
 use Rattle.std.proofs.Common.{false}
 use Rattle.strm_shared.specs.Accounts.{idled}
-use Rattle.strm_shared.specs.Histories.{entry, state_of}
-use Rattle.strm_shared.specs.Waits.{wait, waits_by, waits_for, begun}
-use Rattle.strm_shared.specs.Plays.{Seated, passed, own_waits, IsTurn}
+use Rattle.strm_shared.specs.Histories.{entry, state_after}
+use Rattle.strm_shared.specs.Waits.{wait, waits_by, waits_for, waits_begun}
+use Rattle.strm_shared.specs.Plays.{Seated, turn_passed, own_waits, IsTurn}
 use Rattle.strm_shared.specs.Tokens.{token}
 use Rattle.strm_shared.specs.declared.view.View.{View}
 use Rattle.strm_shared.proofs.CallLemmas.{OneTurn, adds, idles}
@@ -41,11 +41,11 @@ returns-in-Ok-clause-ok g c =
     let w = c.leave-in-Ok.new.seat.me.0 in
     let rests = c.requires.rests in
     let made = c.in-Ok.ensures.ok in
-    let after = ap (λ (m : Seated). m.0) c.leave-in-Ok.ensures.passed ∙ ap (λ (m : Seated). passed m.0 b) taken.1 in
+    let after = ap (λ (m : Seated). m.0) c.leave-in-Ok.ensures.passed ∙ ap (λ (m : Seated). turn_passed m.0 b) taken.1 in
     let found = ap (λ (x : View). x.found) after in
     let unbound : v.waiting ≡ [] = ⊎_elim (λ e. e) (λ e. absurd (omega (arith, taken.3, taken.4, e))) rests.2 in
     let none = (taken.2.made n rests.0.numbered).1 ∙ unbound in
-    let free : is_in_set (state_of a.limits a.log) p.guest p.handle ≡ false = search rules in
+    let free : is_in_set (state_after a.limits a.log) p.guest p.handle ≡ false = search rules in
     let limit = ap (λ (x : View). x.limits) after ∙ sym taken.2.of_limits in
     let waiting : w.waiting ≡ waits_for r p =
     ap (λ (x : View). x.waiting) after ∙ (ap (λ z. own_waits z b.waits) rests.0.numbered ∙ (ap (λ x. waits_by n x.waits) made ∙ begun_own n p r a.waits none)) in
@@ -56,10 +56,10 @@ returns-in-Ok-clause-ok g c =
         (
           a.log,
           adds (token c.args.seat.now.table_id n v) _ _ n taken.0 v w a b (entry n c.args.step.now r) refl turn refl (ap (λ x. x.log) made),
-          subst (λ l. is_in_set (state_of l a.log) p.guest p.handle ≡ false) (sym limit) free,
+          subst (λ l. is_in_set (state_after l a.log) p.guest p.handle ≡ false) (sym limit) free,
         ),
         ap (λ (x : View). x.turns) after,
-        ap (λ (x : View). x.left) after ∙ (ap (λ x. x.waits) made ∙ ap (λ ws. begun r ws (wait n p)) (sym found)),
+        ap (λ (x : View). x.left) after ∙ (ap (λ x. x.waits) made ∙ ap (λ ws. waits_begun r ws (wait n p)) (sym found)),
         waiting,
       ),
     )
@@ -74,8 +74,8 @@ returns-in-Err-clause-err g c =
     let p = c.args.place in
     let w = c.leave-in-Err.new.seat.me.0 in
     let idle = c.pass_idle-in-Err.ensures.idle ∙ ap idled c.in-Err.ensures.err in
-    let after = ap (λ (m : Seated). m.0) c.leave-in-Err.ensures.passed ∙ ap (λ (m : Seated). passed m.0 b) taken.1 in
-    let free : is_in_set (state_of a.limits a.log) p.guest p.handle ≡ false = search rules in
+    let after = ap (λ (m : Seated). m.0) c.leave-in-Err.ensures.passed ∙ ap (λ (m : Seated). turn_passed m.0 b) taken.1 in
+    let free : is_in_set (state_after a.limits a.log) p.guest p.handle ≡ false = search rules in
     let limit = ap (λ (x : View). x.limits) after ∙ sym taken.2.of_limits in
     let seen = ap (λ (x : View). x.seen) after ∙ ap (λ x. x.log) idle in
     let turn : OneTurn n taken.0 v w a b =
@@ -83,6 +83,6 @@ returns-in-Err-clause-err g c =
       search rules,
       (
         idles (token c.args.seat.now.table_id n v) _ _ n taken.0 v w a b refl turn idle,
-        subst (λ l. is_in_set (state_of l w.seen) p.guest p.handle ≡ false) (sym limit) (subst (λ l. is_in_set (state_of a.limits l) p.guest p.handle ≡ false) (sym seen) free),
+        subst (λ l. is_in_set (state_after l w.seen) p.guest p.handle ≡ false) (sym limit) (subst (λ l. is_in_set (state_after a.limits l) p.guest p.handle ≡ false) (sym seen) free),
       ),
     )

@@ -2,7 +2,7 @@ use Rattle.std.proofs.Common.{◌≡◌, ◌+◌, Some, None, ap, ◌∙◌, ◌
 use Rattle.strm_machine.specs.declared.steps.Step.TheVariants as steps
 use Rattle.strm_shared.specs.Histories.{entry}
 use Rattle.strm_shared.specs.Waits.{waits_by, without}
-use Rattle.strm_shared.specs.Plays.{Seated, passed, own_waits, IsTurn}
+use Rattle.strm_shared.specs.Plays.{Seated, turn_passed, own_waits, IsTurn}
 use Rattle.strm_shared.specs.Tokens.{token}
 use Rattle.strm_shared.specs.declared.view.View.{View}
 use Rattle.strm_shared.proofs.CallLemmas.{OneTurn, adds}
@@ -38,7 +38,7 @@ returns-in-Some-deliver-clause-ok g c =
     let w = c.leave-in-Some-deliver.new.seat.me.0 in
     let rests = c.requires.rests in
     let made = c.in-Some-deliver.ensures.turn.1 in
-    let after = ap (λ (m : Seated). m.0) c.leave-in-Some-deliver.ensures.passed ∙ ap (λ (m : Seated). passed m.0 b) taken.1 in
+    let after = ap (λ (m : Seated). m.0) c.leave-in-Some-deliver.ensures.passed ∙ ap (λ (m : Seated). turn_passed m.0 b) taken.1 in
     let found = ap (λ (x : View). x.found) after in
     let turns : w.turns ≡ v.turns + 1 = ap (λ (x : View). x.turns) after in
     let waiting : w.waiting ≡ [] =

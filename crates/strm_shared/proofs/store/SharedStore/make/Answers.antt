@@ -2,7 +2,7 @@ use Rattle.std.proofs.Common.{◌≡◌, ap, ◌∙◌, subst, sym, refl, ⊎_el
 use Rattle.strm_shared.specs.Accounts.{idled}
 use Rattle.strm_shared.specs.Histories.{entry}
 use Rattle.strm_shared.specs.Waits.{wait, Has, IsClear}
-use Rattle.strm_shared.specs.Plays.{Seated, passed}
+use Rattle.strm_shared.specs.Plays.{Seated, turn_passed}
 use Rattle.strm_shared.specs.Tokens.{token}
 use Rattle.strm_shared.specs.declared.view.View.{View}
 use Rattle.strm_shared.proofs.CallLemmas.{OneTurn, adds, idles, not_own, waiting_kept}
@@ -17,7 +17,7 @@ returns-in-Some-waiter-clause-err g c =
     let w = c.leave.new.seat.me.0 in
     let rests = c.requires.rests in
     let idle = c.pass_idle.ensures.idle in
-    let after = ap (λ (m : Seated). m.0) c.leave.ensures.passed ∙ ap (λ (m : Seated). passed m.0 b) taken.1 in
+    let after = ap (λ (m : Seated). m.0) c.leave.ensures.passed ∙ ap (λ (m : Seated). turn_passed m.0 b) taken.1 in
     let seat = c.in-Some-waiter.other in
     let there = c.in-Some-waiter.ensures in
     let unbound : v.waiting ≡ [] = ⊎_elim (λ e. e) (λ e. absurd (omega (arith, taken.3, taken.4, e))) rests.2 in
@@ -38,7 +38,7 @@ returns-in-Ok-clause-ok g c =
     let b = c.enter-2.new.self in
     let w = c.leave-in-Ok.new.seat.me.0 in
     let more = c.in-Ok.ensures.ok in
-    let after = ap (λ (m : Seated). m.0) c.leave-in-Ok.ensures.passed ∙ ap (λ (m : Seated). passed m.0 b) taken.1 in
+    let after = ap (λ (m : Seated). m.0) c.leave-in-Ok.ensures.passed ∙ ap (λ (m : Seated). turn_passed m.0 b) taken.1 in
     let found = ap (λ (x : View). x.found) after in
     let turn : OneTurn c.args.number taken.0 v w a b =
     record { rests = c.requires.rests.0; enters = taken.2; limits = ap (λ x. x.limits) more; legal = c.in-Ok.ensures.legal; took = record { top = taken.4; few = taken.3; waits = taken.5 }; after = after } in (
@@ -58,7 +58,7 @@ returns-in-Err-clause-err g c =
     let w = c.leave-in-Err.new.seat.me.0 in
     let same = c.in-Err.ensures.err in
     let idle = c.pass_idle-in-Err.ensures.idle ∙ ap idled same in
-    let after = ap (λ (m : Seated). m.0) c.leave-in-Err.ensures.passed ∙ ap (λ (m : Seated). passed m.0 b) taken.1 in
+    let after = ap (λ (m : Seated). m.0) c.leave-in-Err.ensures.passed ∙ ap (λ (m : Seated). turn_passed m.0 b) taken.1 in
     let found = ap (λ (x : View). x.found) after in
     let turn : OneTurn c.args.number taken.0 v w a b =
     record { rests = c.requires.rests.0; enters = taken.2; limits = ap (λ x. x.limits) idle; legal = c.pass_idle-in-Err.ensures.legal; took = record { top = taken.4; few = taken.3; waits = taken.5 }; after = after } in (

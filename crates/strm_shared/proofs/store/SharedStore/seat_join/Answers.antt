@@ -1,5 +1,5 @@
 use Rattle.std.proofs.Common.{rules, ap, sym, subst, ◌∙◌}
-use Rattle.strm_shared.specs.Plays.{Seated, RecallsAll, IsApart}
+use Rattle.strm_shared.specs.Plays.{Seated, RecallsAll, IsSeatApart}
 use Rattle.strm_shared.specs.Tokens.{Token}
 use Rattle.strm_shared.proofs.RuleLemmas.{join_keeps, recall_keeps}
 use Rattle.strm_shared.proofs.JoinLemmas.{joins}
@@ -22,4 +22,4 @@ returns-clause-joined g c =
     let limits = ap (λ (t : Token). t.limits) c.from.view_is ∙ (c.requires.from.1 ∙ (sym c.requires.into.1 ∙ sym (ap (λ (t : Token). t.limits) c.into.view_is))) in
     joins into.table_id from.table_id c.load.new.seat.table_id c.into.inside.number c.from.inside.number into.me.0 from.me.0 c.into.invariant.0 c.from.invariant.0
     c.args.into.now c.args.from c.load.new.seat.me.0 c.into.view_is c.from.view_is limits
-    (ap (λ (m : Seated). m.0) told.0 ∙ view) (subst RecallsAll view told.1) (subst IsApart view told.2)
+    (ap (λ (m : Seated). m.0) told.0 ∙ view) (subst RecallsAll view told.1) (subst IsSeatApart view told.2)

@@ -2,7 +2,7 @@ use Rattle.std.proofs.Common.{ap, ◌∙◌, subst, sym, refl}
 use Rattle.strm_shared.specs.Accounts.{idled}
 use Rattle.strm_shared.specs.Histories.{entry}
 use Rattle.strm_shared.specs.Waits.{IsClear}
-use Rattle.strm_shared.specs.Plays.{Seated, passed}
+use Rattle.strm_shared.specs.Plays.{Seated, turn_passed}
 use Rattle.strm_shared.specs.Tokens.{token}
 use Rattle.strm_shared.specs.declared.view.View.{View}
 use Rattle.strm_shared.proofs.CallLemmas.{OneTurn, adds, idles, waiting_kept}
@@ -19,7 +19,7 @@ returns-in-Ok-Some-clause-ok g c =
     let w = c.leave-in-Ok-Some.new.seat.me.0 in
     let both = match_some _ _ _ _ c.in-Ok-Some.field-0-is c.in-Ok-Some.ensures.ok in
     let more = both.1 in
-    let after = ap (λ (m : Seated). m.0) c.leave-in-Ok-Some.ensures.passed ∙ ap (λ (m : Seated). passed m.0 b) taken.1 in
+    let after = ap (λ (m : Seated). m.0) c.leave-in-Ok-Some.ensures.passed ∙ ap (λ (m : Seated). turn_passed m.0 b) taken.1 in
     let found = ap (λ (x : View). x.found) after in
     let turn : OneTurn n taken.0 v w a b =
     record { rests = c.requires.rests.0; enters = taken.2; limits = ap (λ x. x.limits) more; legal = c.in-Ok-Some.ensures.legal; took = record { top = taken.4; few = taken.3; waits = taken.5 }; after = after } in (
@@ -42,7 +42,7 @@ returns-in-Err-clause-err g c =
     let n = c.args.number in
     let w = c.leave-in-Err.new.seat.me.0 in
     let idle = c.pass_idle.ensures.idle ∙ ap idled c.in-Err.ensures.err in
-    let after = ap (λ (m : Seated). m.0) c.leave-in-Err.ensures.passed ∙ ap (λ (m : Seated). passed m.0 b) taken.1 in
+    let after = ap (λ (m : Seated). m.0) c.leave-in-Err.ensures.passed ∙ ap (λ (m : Seated). turn_passed m.0 b) taken.1 in
     let turn : OneTurn n taken.0 v w a b =
     record { rests = c.requires.rests.0; enters = taken.2; limits = ap (λ x. x.limits) idle; legal = c.pass_idle.ensures.legal; took = record { top = taken.4; few = taken.3; waits = taken.5 }; after = after } in
     (idles (token c.args.seat.now.table_id n v) _ _ n taken.0 v w a b refl turn idle, clear_moved c.args.step.now w.found c.requires.moves)

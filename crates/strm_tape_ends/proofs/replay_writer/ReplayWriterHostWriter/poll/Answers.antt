@@ -6,7 +6,7 @@ use Rattle.strm_buffers.specs.Tells.{PollsWriter, writer_record}
 use Rattle.strm_buffers.specs.declared.answers.Answer.{Answer}
 use Rattle.strm_buffers.proofs.EndLemmas.{Fills-same, IfAnswered-turn_of}
 use Rattle.strm_program_ends.proofs.ScriptLemmas.{room_parts}
-use Rattle.strm_tape_ends.specs.Replays.{plan_of, replay_tells, next_items}
+use Rattle.strm_tape_ends.specs.Replays.{plan_of, replay_tells, next_record_items}
 use Rattle.strm_tape_ends.proofs.FollowLemmas.{Follows, follows_poll}
 use Rattle.strm_tape_ends.proofs.replay_writer.ReplayWriterHostWriter.poll.Goals as goal
 
@@ -16,7 +16,7 @@ returns-in-Err-clause-fills c = Fills-same c.args.window.now
 pub returns-in-Ok-follow-clause-polls : goal.returns-in-Ok-follow-clause-polls
 returns-in-Ok-follow-clause-polls c =
     let new = c.follow.new.self in
-    let items = next_items (plan_of c.find_next.new.self) in
+    let items = next_record_items (plan_of c.find_next.new.self) in
     let t : Follows c.args.self.now new c.args.window.now c.follow.new.window c.args.finish items c.in-Ok-follow.answer = record {
       said = rw (c.in-Ok-follow.ensures.answer, ← c.find_next.ensures.said) c.in-Ok-follow.ensures.said;
       marked = c.in-Ok-follow.ensures.marked;
@@ -32,5 +32,5 @@ returns-in-Ok-follow-clause-polls c =
 pub returns-in-Ok-follow-clause-items : goal.returns-in-Ok-follow-clause-items
 returns-in-Ok-follow-clause-items c =
     let window = c.follow.new.window in
-    let all : window.marked ++ c.follow.new.self.held.items ≡ next_items (plan_of c.args.self.now) = rw (c.in-Ok-follow.ensures.marked, c.in-Ok-follow.ensures.held) (room_parts (room_of c.args.window.now.place) (next_items (plan_of c.find_next.new.self)) ∙ c.find_next.ensures.items) in
-    rw c.turn.ensures (IfAnswered-turn_of c.in-Ok-follow.answer (λ (_ : Answer). window.marked ++ c.follow.new.self.held.items ≡ next_items (plan_of c.args.self.now)) all)
+    let all : window.marked ++ c.follow.new.self.held.items ≡ next_record_items (plan_of c.args.self.now) = rw (c.in-Ok-follow.ensures.marked, c.in-Ok-follow.ensures.held) (room_parts (room_of c.args.window.now.place) (next_record_items (plan_of c.find_next.new.self)) ∙ c.find_next.ensures.items) in
+    rw c.turn.ensures (IfAnswered-turn_of c.in-Ok-follow.answer (λ (_ : Answer). window.marked ++ c.follow.new.self.held.items ≡ next_record_items (plan_of c.args.self.now)) all)

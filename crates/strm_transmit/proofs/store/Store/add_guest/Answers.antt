@@ -3,8 +3,8 @@ use Rattle.strm_machine.specs.Reactions.{performs}
 use Rattle.strm_machine.specs.declared.acts.Act.TheVariants.{Make}
 use Rattle.strm_machine.specs.declared.acts.Making.TheVariants.{Guest}
 use Rattle.strm_machine.specs.declared.replies.Reply.TheVariants as replies
-use Rattle.strm_host_turns.proofs.TurnLemmas.{handed_on}
-use Rattle.strm_transmit.specs.Meets.{replied}
+use Rattle.strm_host_turns.proofs.WriterTurnLemmas.{handed_on}
+use Rattle.strm_transmit.specs.Meets.{as_reply}
 use Rattle.strm_transmit.proofs.StepLemmas.{is_admitted, reacts, meets_admitted, meets_not_admitted}
 use Rattle.strm_transmit.proofs.StillLemmas.{still_fits}
 use Rattle.strm_transmit.proofs.store.Store.add_guest.Goals as goal
@@ -14,7 +14,7 @@ push_guest-requires c = (is_admitted c.args.self.now _ _ _ _ c.guest_fits.ensure
 
 pub returns-clause-meets : goal.returns-clause-meets
 returns-clause-meets c =
-    meets_admitted c.args.self.now c.push_guest.new.self _ (replied replies.Number c.push_guest.result) _
+    meets_admitted c.args.self.now c.push_guest.new.self _ (as_reply replies.Number c.push_guest.result) _
     (reacts _ _ _ _ (λ _. performs c.args.self.now (Make (Guest c.args.size))) (is_admitted c.args.self.now _ _ _ _ c.guest_fits.ensures c.in_ok-admit.ensures.exact) refl)
     c.push_guest.ensures
 
@@ -25,4 +25,4 @@ returns-in_err-admit-clause-meets c =
 
 pub returns-clause-fits : goal.returns-clause-fits
 returns-clause-fits c =
-    still_fits _ _ _ (replied replies.Number c.push_guest.result) c.in_ok-admit.ensures.sound c.in_ok-admit.ensures.served (returns-clause-meets c)
+    still_fits _ _ _ (as_reply replies.Number c.push_guest.result) c.in_ok-admit.ensures.sound c.in_ok-admit.ensures.served (returns-clause-meets c)

@@ -2,7 +2,7 @@ use Rattle.std.proofs.Common.{◌∙◌}
 use Rattle.strm_machine.specs.Reactions.{cancels}
 use Rattle.strm_machine.specs.declared.acts.EndAct.TheVariants.{Cancel}
 use Rattle.strm_machine.proofs.ReactionLemmas.{performs-on_end}
-use Rattle.strm_host_turns.proofs.TurnLemmas.{handed_on}
+use Rattle.strm_host_turns.proofs.WriterTurnLemmas.{handed_on}
 use Rattle.strm_transmit.proofs.StepLemmas.{is_admitted, reacts, meets_not_admitted}
 use Rattle.strm_transmit.proofs.StillLemmas.{done_fits}
 use Rattle.strm_transmit.proofs.store.Store.cancel_side.Goals as goal

@@ -1,5 +1,5 @@
 use Rattle.std.proofs.Common.{rules}
-use Rattle.strm_transmit.proofs.TakeLemmas.{is_taken_from, mid-made, mid-length, mid-fits, mid-duty, told-there, taken-stays, taking-stops, stops-does, stops-fits, stops-length, stops-wants, left-does, left-fits, left-length}
+use Rattle.strm_transmit.proofs.ReaderTurnLemmas.{is_taken_from, mid-made, mid-length, mid-fits, mid-duty, told-there, taken-stays, reader_scene-stops, stops-does, stops-fits, stops-length, stops-wants, left-does, left-fits, left-length}
 use Rattle.strm_transmit.proofs.store.Store.consume.Goals as goal
 
 pub stream-requires : goal.stream-requires
@@ -38,13 +38,13 @@ returns-clause-there g c =
 pub returns-in-Err-clause-part : goal.returns-in-Err-clause-part
 returns-in-Err-clause-part g c = record {
   does = let h = is_taken_from _ _ _ _ _ c.sound.ensures c.served.ensures c.requires.there c.requires.owner c.requires.fits c.requires.placed in
-      rw c.stop_taking.ensures (stops-does _ _ _ _ _ h _ _ _ c.in-Err.error c.in-Err.ensures c.trap.ensures);
+      rw c.stop_of_reader.ensures (stops-does _ _ _ _ _ h _ _ _ c.in-Err.error c.in-Err.ensures c.trap.ensures);
   fits = let h = is_taken_from _ _ _ _ _ c.sound.ensures c.served.ensures c.requires.there c.requires.owner c.requires.fits c.requires.placed in
       stops-fits _ _ _ _ _ h _ _ _ c.in-Err.error c.in-Err.ensures c.trap.ensures;
-  stop = rw c.stop_taking.ensures (taking-stops c.in-Err.error c.args.number c.args.stream);
+  stop = rw c.stop_of_reader.ensures (reader_scene-stops c.in-Err.error c.args.number c.args.stream);
   trapped = search rules;
   wanting = let h = is_taken_from _ _ _ _ _ c.sound.ensures c.served.ensures c.requires.there c.requires.owner c.requires.fits c.requires.placed in
-      rw c.stop_taking.ensures (stops-wants _ _ _ _ _ h _ _ _ c.in-Err.error c.in-Err.ensures c.trap.ensures);
+      rw c.stop_of_reader.ensures (stops-wants _ _ _ _ _ h _ _ _ c.in-Err.error c.in-Err.ensures c.trap.ensures);
 }
 
 pub returns-then-ne-clause-part : goal.returns-then-ne-clause-part

@@ -1,6 +1,6 @@
 use Rattle.std.proofs.Common.{rules, refl, ◌+◌, ◌∙◌, arith}
 use Rattle.strm_host_machine.proofs.DriveLemmas.{Does-drives_none}
-use Rattle.strm_host_turns.proofs.TurnLemmas.{handed_on}
+use Rattle.strm_host_turns.proofs.WriterTurnLemmas.{handed_on}
 use Rattle.strm_transmit.proofs.DriveStoreLemmas.{drive_on, drive_end, ends_stop, drive_stop, drive_round, drive_wants}
 use Rattle.strm_transmit.proofs.WantsLemmas.{wanting_as}
 use Rattle.strm_transmit.proofs.store.Store.drive_all.Goals as goal

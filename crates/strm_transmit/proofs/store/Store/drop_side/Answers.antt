@@ -3,7 +3,7 @@ use Rattle.strm_machine.specs.declared.acts.EndAct.TheVariants.{Drop}
 use Rattle.strm_machine.proofs.ReactionLemmas.{refusal-on_end}
 use Rattle.strm_machine.proofs.RefusalLemmas.{drop_fits}
 use Rattle.strm_host_machine.proofs.OutcomeLemmas.{refusal_in-on_end}
-use Rattle.strm_host_turns.proofs.TurnLemmas.{handed_on}
+use Rattle.strm_host_turns.proofs.WriterTurnLemmas.{handed_on}
 use Rattle.strm_transmit.proofs.StepLemmas.{is_admitted, meets_not_admitted}
 use Rattle.strm_transmit.proofs.HostStepLemmas.{hosted_not_admitted}
 use Rattle.strm_transmit.proofs.DropLemmas.{drops-end, drops-end-alone, dropped-fits, drops-hosted}

@@ -2,8 +2,8 @@ use Rattle.std.proofs.Common.{sym, subst}
 use Rattle.strm_machine.specs.Reactions.{Reaction}
 use Rattle.strm_machine.specs.declared.replies.Reply.TheVariants as replies
 use Rattle.strm_machine.proofs.ContextStepLemmas.{lower_context_fits}
-use Rattle.strm_host_turns.proofs.TurnLemmas.{handed_on}
-use Rattle.strm_transmit.specs.Meets.{Meets, replied}
+use Rattle.strm_host_turns.proofs.WriterTurnLemmas.{handed_on}
+use Rattle.strm_transmit.specs.Meets.{Meets, as_reply}
 use Rattle.strm_transmit.proofs.ContextLemmas.{is_lowered, meets_not_lowered}
 use Rattle.strm_transmit.proofs.StillLemmas.{lowered_fits}
 use Rattle.strm_transmit.proofs.store.Store.error_context_lower.Goals as goal
@@ -14,7 +14,7 @@ share-requires c =
 
 pub returns-clause-meets : goal.returns-clause-meets
 returns-clause-meets c =
-    subst (λ (r : Reaction). Meets c.args.self.now c.share.new.self (replied replies.Number c.share.result) r)
+    subst (λ (r : Reaction). Meets c.args.self.now c.share.new.self (as_reply replies.Number c.share.result) r)
     (sym (is_lowered c.args.self.now c.args.rep c.args.guest _ _ _ c.lower_context_fits.ensures c.in_ok-admit.ensures.exact).shared)
     c.share.ensures
 
@@ -25,4 +25,4 @@ returns-in_err-admit-clause-meets c =
 
 pub returns-clause-fits : goal.returns-clause-fits
 returns-clause-fits c =
-    lowered_fits _ _ c.args.rep c.args.guest (replied replies.Number c.share.result) c.in_ok-admit.ensures.served (returns-clause-meets c)
+    lowered_fits _ _ c.args.rep c.args.guest (as_reply replies.Number c.share.result) c.in_ok-admit.ensures.served (returns-clause-meets c)

@@ -2,8 +2,8 @@ use Rattle.std.proofs.Common.{refl}
 use Rattle.strm_machine.specs.Reactions.{shares, performs}
 use Rattle.strm_machine.specs.declared.replies.Reply.TheVariants as replies
 use Rattle.strm_machine.proofs.ContextStepLemmas.{transfer_fits}
-use Rattle.strm_host_turns.proofs.TurnLemmas.{handed_on}
-use Rattle.strm_transmit.specs.Meets.{replied}
+use Rattle.strm_host_turns.proofs.WriterTurnLemmas.{handed_on}
+use Rattle.strm_transmit.specs.Meets.{as_reply}
 use Rattle.strm_transmit.proofs.StepLemmas.{is_admitted, reacts, meets_admitted, meets_not_admitted}
 use Rattle.strm_transmit.proofs.StillLemmas.{still_fits}
 use Rattle.strm_transmit.proofs.store.Store.error_context_transfer.Goals as goal
@@ -16,7 +16,7 @@ share-requires c =
 pub returns-clause-meets : goal.returns-clause-meets
 unfolding performs
 returns-clause-meets c =
-    meets_admitted c.args.self.now c.share.new.self _ (replied replies.Number c.share.result) _
+    meets_admitted c.args.self.now c.share.new.self _ (as_reply replies.Number c.share.result) _
     (reacts _ _ _ _ (λ number. shares c.args.self.now number c.args.to)
     (is_admitted c.args.self.now _ _ _ _ c.transfer_found.ensures c.in_ok-context.ensures.exact) refl)
     c.share.ensures
@@ -28,4 +28,4 @@ returns-in_err-context-clause-meets c =
 
 pub returns-clause-fits : goal.returns-clause-fits
 returns-clause-fits c =
-    still_fits _ _ _ (replied replies.Number c.share.result) c.in_ok-context.ensures.sound c.in_ok-context.ensures.served (returns-clause-meets c)
+    still_fits _ _ _ (as_reply replies.Number c.share.result) c.in_ok-context.ensures.sound c.in_ok-context.ensures.served (returns-clause-meets c)

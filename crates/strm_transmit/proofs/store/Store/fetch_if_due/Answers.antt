@@ -31,9 +31,9 @@ returns-in-Ok-clause-part g c = record {
 
 pub returns-in-Err-clause-part : goal.returns-in-Err-clause-part
 returns-in-Err-clause-part g c = record {
-  does = rw c.stop_of.ensures (fetch-stops c.args.self.now _ c.args.stream c.args.writer c.args.reader (rounds c.args.self.now _ c.args.stream c.args.writer c.args.reader c.served.ensures c.requires.pipe) _ _ _ (search rules) c.trap.ensures c.in-Err.error c.in-Err.ensures);
+  does = rw c.stop_of_writer.ensures (fetch-stops c.args.self.now _ c.args.stream c.args.writer c.args.reader (rounds c.args.self.now _ c.args.stream c.args.writer c.args.reader c.served.ensures c.requires.pipe) _ _ _ (search rules) c.trap.ensures c.in-Err.error c.in-Err.ensures);
   fits = (returns-in-Err-clause-pipe g c).fits;
   stop = search rules;
   trapped = search rules;
-  wanting = rw c.stop_of.ensures (fetch-wants c.args.self.now _ c.args.stream c.args.writer c.args.reader (rounds c.args.self.now _ c.args.stream c.args.writer c.args.reader c.served.ensures c.requires.pipe) _ _ _ (search rules) c.trap.ensures c.in-Err.error c.in-Err.ensures);
+  wanting = rw c.stop_of_writer.ensures (fetch-wants c.args.self.now _ c.args.stream c.args.writer c.args.reader (rounds c.args.self.now _ c.args.stream c.args.writer c.args.reader c.served.ensures c.requires.pipe) _ _ _ (search rules) c.trap.ensures c.in-Err.error c.in-Err.ensures);
 }

@@ -1,7 +1,7 @@
 use Rattle.std.proofs.Common.{◌≡◌, true, false, refl}
 use Rattle.strm_machine.specs.declared.acts.HostAct.TheVariants.{Grant}
 use Rattle.strm_machine.specs.declared.acts.Act.TheVariants.{OnHost}
-use Rattle.strm_host_turns.proofs.TurnLemmas.{handed_on}
+use Rattle.strm_host_turns.proofs.WriterTurnLemmas.{handed_on}
 use Rattle.strm_transmit.proofs.HostStepLemmas.{hosted_not_admitted}
 use Rattle.strm_transmit.proofs.HostingLemmas.{no_logs, host_refusal-same, host_admitted, grant_fits, hosted_grant, hosted_wanting}
 use Rattle.strm_transmit.proofs.store.Store.grant.Goals as goal

@@ -1,7 +1,7 @@
 use Rattle.std.proofs.Common.{◌≡◌, true, false}
 use Rattle.strm_machine.specs.declared.acts.HostAct.TheVariants.{New}
 use Rattle.strm_machine.specs.declared.acts.Act.TheVariants.{OnHost}
-use Rattle.strm_host_turns.proofs.TurnLemmas.{any_held, handed_on}
+use Rattle.strm_host_turns.proofs.WriterTurnLemmas.{any_held, handed_on}
 use Rattle.strm_transmit.proofs.HostStepLemmas.{hosted_not_admitted}
 use Rattle.strm_transmit.proofs.HostingLemmas.{no_logs, host_refusal-same, host_admitted, host_fits, hosted_made}
 use Rattle.strm_transmit.proofs.store.Store.host_new.Goals as goal

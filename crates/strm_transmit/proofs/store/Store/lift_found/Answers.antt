@@ -3,7 +3,7 @@ use Rattle.strm_codes.specs.declared.refusals.Refusal.TheVariants.{UnknownGuest}
 use Rattle.strm_machine.specs.Tests.{named, stream_named, is_unknown_guest}
 use Rattle.strm_machine.specs.Refusals.{handle_reasons, own_reasons, last_reasons, refusal}
 use Rattle.strm_machine.specs.declared.acts.EndAct.TheVariants.{Lift}
-use Rattle.strm_host_turns.proofs.TurnLemmas.{handed_on}
+use Rattle.strm_host_turns.proofs.WriterTurnLemmas.{handed_on}
 use Rattle.strm_transmit.proofs.OperationLemmas.{first_refused, then_refused, behind, known}
 use Rattle.strm_transmit.proofs.store.Store.lift_found.Goals as goal
 

@@ -4,7 +4,7 @@ use Rattle.strm_machine.specs.declared.acts.EndAct.TheVariants.{Lift}
 use Rattle.strm_machine.specs.declared.replies.Reply.TheVariants as replies
 use Rattle.strm_machine.proofs.ReactionLemmas.{refusal-on_end, performs-on_end}
 use Rattle.strm_machine.proofs.RefusalLemmas.{lift_fits}
-use Rattle.strm_host_turns.proofs.TurnLemmas.{handed_on}
+use Rattle.strm_host_turns.proofs.WriterTurnLemmas.{handed_on}
 use Rattle.strm_transmit.proofs.StepLemmas.{is_admitted, reacts, meets_not_admitted}
 use Rattle.strm_transmit.proofs.StillLemmas.{done_fits}
 use Rattle.strm_transmit.proofs.store.Store.lift_side.Goals as goal

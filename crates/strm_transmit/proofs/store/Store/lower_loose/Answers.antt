@@ -4,7 +4,7 @@ use Rattle.strm_transmit.specs.Telling.{Retells}
 use Rattle.strm_transmit.proofs.StoreLemmas.{set_at}
 use Rattle.std.proofs.lemmas.List.{length-map, length-set}
 use Rattle.strm_machine.proofs.RefusalLemmas.{lower_fits}
-use Rattle.strm_channels.specs.Guests.{guest_of, seen}
+use Rattle.strm_channels.specs.Guests.{guest_of, guests_of}
 use Rattle.strm_transmit.specs.Inside.{state_of}
 use Rattle.strm_transmit.proofs.MoveLemmas.{lower_made, IsStore-lowered}
 use Rattle.strm_transmit.proofs.store.Store.lower_loose.Goals as goal
@@ -41,7 +41,7 @@ invariant_of-self-2 c =
       live_sets = refl;
       counted = c.set_owner.ensures.counted;
       streams = c.set_owner.ensures.streams;
-      retold = subst (λ (x : Stream). Retells (seen c.give_end.new.guests.items) x c.self.inside.ready.items c.retell.new.ready.items)
+      retold = subst (λ (x : Stream). Retells (guests_of c.give_end.new.guests.items) x c.self.inside.ready.items c.retell.new.ready.items)
           (set_at c.self.inside.streams.items c.set_owner.new.streams.items c.args.reader _ c.index.result.now (lower_made (state_of c.self.inside) c.args.reader c.args.guest c.args.ty (rw (← c.self.view_is) at c.requires.may)) c.set_owner.ensures.streams c.index.ensures) c.retell.ensures;
     })
     (record { counter = c.in_ok-handle.ensures.counter; live = c.in_ok-handle.ensures.live; guests = c.in_ok-handle.ensures.guests })

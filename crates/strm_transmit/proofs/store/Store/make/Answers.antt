@@ -6,7 +6,7 @@ use Rattle.strm_machine.proofs.RefusalLemmas.{pair_fits}
 use Rattle.strm_handles.specs.Handles.{next_index}
 use Rattle.strm_machine.specs.Making.{with_read_end, with_ends}
 use Rattle.strm_machine.specs.declared.streams.Stream.{Stream}
-use Rattle.strm_channels.specs.Guests.{guest_of, seen}
+use Rattle.strm_channels.specs.Guests.{guest_of, guests_of}
 use Rattle.strm_transmit.proofs.StoreLemmas.{MakesStream, IsStore-made, performs-made, numbers_of, joined_is, pair_is}
 use Rattle.strm_transmit.specs.Inside.{state_of}
 use Rattle.strm_transmit.specs.Telling.{Retells}
@@ -31,7 +31,7 @@ insert_ends-requires-clause-write c =
     let old = c.self.inside in
     let fits = pair_fits (state_of old) c.args.writer c.args.reader c.args.ty (rw (← c.self.view_is) at c.requires) in
     let number : c.len-stream.result ≡ length old.streams.items = omega (arith, c.len-stream.ensures, old.streams.ok) in
-    subst (λ s. next_index (guest_in (with_read_end (seen old.guests.items) c.args.reader c.args.ty s) c.args.writer).handles < 268435456) (sym number) fits.write
+    subst (λ s. next_index (guest_in (with_read_end (guests_of old.guests.items) c.args.reader c.args.ty s) c.args.writer).handles < 268435456) (sym number) fits.write
 
 pub insert_ends-requires-clause-below : goal.insert_ends-requires-clause-below
 insert_ends-requires-clause-below c =
@@ -57,9 +57,9 @@ invariant_of-self-2 c =
       live_streams = refl;
       live_sets = refl;
       bytes = refl;
-      guests = c.in_ok-numbers.ensures.guests ∙ ap (with_ends (seen old.guests.items) c.args.writer c.args.reader c.args.ty) number;
+      guests = c.in_ok-numbers.ensures.guests ∙ ap (with_ends (guests_of old.guests.items) c.args.writer c.args.reader c.args.ty) number;
       streams = c.push_reserved.ensures.items ∙ rw c.in_ok-reserve.ensures.items (ap (λ (s : Stream). old.streams.items ++ s ∷ []) joined);
-      retold = subst (λ (s : Stream). Retells (seen c.insert_ends.new.guests.items) s old.ready.items c.retell.new.ready.items) joined c.retell.ensures;
+      retold = subst (λ (s : Stream). Retells (guests_of c.insert_ends.new.guests.items) s old.ready.items c.retell.new.ready.items) joined c.retell.ensures;
     } in
     IsStore-made old _ c.args.writer c.args.reader c.args.ty made (rw (← c.self.view_is) at c.requires) c.self.invariant
 
@@ -77,9 +77,9 @@ returns c =
       live_streams = refl;
       live_sets = refl;
       bytes = refl;
-      guests = c.in_ok-numbers.ensures.guests ∙ ap (with_ends (seen old.guests.items) c.args.writer c.args.reader c.args.ty) number;
+      guests = c.in_ok-numbers.ensures.guests ∙ ap (with_ends (guests_of old.guests.items) c.args.writer c.args.reader c.args.ty) number;
       streams = c.push_reserved.ensures.items ∙ rw c.in_ok-reserve.ensures.items (ap (λ (s : Stream). old.streams.items ++ s ∷ []) joined);
-      retold = subst (λ (s : Stream). Retells (seen c.insert_ends.new.guests.items) s old.ready.items c.retell.new.ready.items) joined c.retell.ensures;
+      retold = subst (λ (s : Stream). Retells (guests_of c.insert_ends.new.guests.items) s old.ready.items c.retell.new.ready.items) joined c.retell.ensures;
     } in
     rw (← c.self.view_is)
     (performs-made old _ c.args.writer c.args.reader c.args.ty _ made

@@ -3,7 +3,7 @@ use Rattle.std.specs.Prelude.{◌||◌}
 use Rattle.strm_codes.specs.declared.refusals.Refusal.TheVariants.{UnknownGuest}
 use Rattle.strm_machine.specs.Tests.{named, stream_named, side_named, is_unknown_guest}
 use Rattle.strm_machine.specs.Refusals.{handle_reasons, leave_reasons, given_reasons, refusal}
-use Rattle.strm_host_turns.proofs.TurnLemmas.{handed_on}
+use Rattle.strm_host_turns.proofs.WriterTurnLemmas.{handed_on}
 use Rattle.strm_transmit.proofs.OperationLemmas.{first_refused, then_refused, both_none, behind, both_known}
 use Rattle.strm_transmit.proofs.store.Store.move_found.Goals as goal
 

@@ -6,7 +6,7 @@ use Rattle.std.proofs.lemmas.List.{length-map, length-set}
 use Rattle.strm_machine.specs.Tests.{named, side_named}
 use Rattle.strm_machine.specs.declared.streams.Side.{Side}
 use Rattle.strm_machine.proofs.RefusalLemmas.{move_fits}
-use Rattle.strm_channels.specs.Guests.{guest_of, seen}
+use Rattle.strm_channels.specs.Guests.{guest_of, guests_of}
 use Rattle.strm_transmit.specs.Inside.{state_of}
 use Rattle.strm_transmit.proofs.EndingLemmas.{removable_named, named_made}
 use Rattle.strm_transmit.proofs.MoveLemmas.{IsStore-moved}
@@ -66,7 +66,7 @@ invariant_of-self-2 c =
       live_sets = refl;
       counted = c.set_owner.ensures.counted;
       streams = c.set_owner.ensures.streams;
-      retold = subst (λ (x : Stream). Retells (seen c.move_end.new.guests.items) x c.leave.new.ready.items c.retell.new.ready.items)
+      retold = subst (λ (x : Stream). Retells (guests_of c.move_end.new.guests.items) x c.leave.new.ready.items c.retell.new.ready.items)
           (set_at c.self.inside.streams.items c.set_owner.new.streams.items c.args.found.0 _ c.index.result.now made c.set_owner.ensures.streams c.index.ensures) c.retell.ensures;
     })
     (record { counter = c.in_ok-handle.ensures.counter; live = c.in_ok-handle.ensures.live; guests = c.in_ok-handle.ensures.guests })

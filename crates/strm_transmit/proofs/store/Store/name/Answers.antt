@@ -6,7 +6,7 @@ use Rattle.strm_machine.specs.declared.acts.NamedEnd.{NamedEnd}
 use Rattle.strm_machine.specs.Tests.{Name, named, named_by}
 use Rattle.strm_machine.specs.State.{Guest}
 use Rattle.strm_machine.proofs.NameLemmas.{named_there, named_payload, IsNameError, named_by-error}
-use Rattle.strm_channels.specs.Guests.{guest_of, seen}
+use Rattle.strm_channels.specs.Guests.{guest_of, guests_of}
 use Rattle.strm_transmit.specs.Inside.{state_of}
 use Rattle.strm_channels.specs.declared.guests.Guest as ours
 use Rattle.strm_transmit.specs.declared.store.Store.TheInside.{Inside}
@@ -14,7 +14,7 @@ use Rattle.strm_channels.proofs.GuestLemmas.{guest_in-seen}
 use Rattle.strm_transmit.proofs.store.Store.name.Goals as goal
 
 -- what the table of a guest answers is what the machine finds
-answer : (s : Inside) (end : NamedEnd) (x : ours.Guest) (r : Name) → end.guest < length (seen s.guests.items) → x ≡ get_or s.guests.items end.guest x → r ≡ named_by end.ty x.table.handles end.handle → r ≡ named (state_of s) end
+answer : (s : Inside) (end : NamedEnd) (x : ours.Guest) (r : Name) → end.guest < length (guests_of s.guests.items) → x ≡ get_or s.guests.items end.guest x → r ≡ named_by end.ty x.table.handles end.handle → r ≡ named (state_of s) end
 answer s end x r l e h = h ∙ sym (ap (λ (q : Guest). named_by end.ty q.handles end.handle) (guest_in-seen s.guests.items end.guest x (omega (arith, l, length-map s.guests.items guest_of)) e))
 
 pub returns-in-Stream-clause-there : goal.returns-in-Stream-clause-there

@@ -3,8 +3,8 @@ use Rattle.strm_machine.specs.Reactions.{performs}
 use Rattle.strm_machine.specs.declared.acts.Act.TheVariants.{Make}
 use Rattle.strm_machine.specs.declared.acts.Making.TheVariants.{Between}
 use Rattle.strm_machine.specs.declared.replies.Reply.TheVariants as replies
-use Rattle.strm_host_turns.proofs.TurnLemmas.{handed_on}
-use Rattle.strm_transmit.specs.Meets.{replied}
+use Rattle.strm_host_turns.proofs.WriterTurnLemmas.{handed_on}
+use Rattle.strm_transmit.specs.Meets.{as_reply}
 use Rattle.strm_transmit.proofs.StepLemmas.{is_admitted, reacts, meets_admitted, meets_not_admitted}
 use Rattle.strm_transmit.proofs.StillLemmas.{still_fits}
 use Rattle.strm_transmit.proofs.store.Store.new_between.Goals as goal
@@ -14,7 +14,7 @@ make-requires c = (is_admitted c.args.self.now _ _ _ _ (c.pair_fits.ensures c.ar
 
 pub returns-clause-meets : goal.returns-clause-meets
 returns-clause-meets c =
-    meets_admitted c.args.self.now c.make.new.self _ (replied replies.Pair c.make.result) _
+    meets_admitted c.args.self.now c.make.new.self _ (as_reply replies.Pair c.make.result) _
     (reacts _ _ _ _ (λ _. performs c.args.self.now (Make (Between c.args.writer c.args.reader c.args.ty))) (is_admitted c.args.self.now _ _ _ _ (c.pair_fits.ensures c.args.ty) c.in_ok-admit.ensures.exact) refl)
     c.make.ensures
 
@@ -25,4 +25,4 @@ returns-in_err-admit-clause-meets c =
 
 pub returns-clause-fits : goal.returns-clause-fits
 returns-clause-fits c =
-    still_fits _ _ _ (replied replies.Pair c.make.result) c.in_ok-admit.ensures.sound c.in_ok-admit.ensures.served (returns-clause-meets c)
+    still_fits _ _ _ (as_reply replies.Pair c.make.result) c.in_ok-admit.ensures.sound c.in_ok-admit.ensures.served (returns-clause-meets c)

@@ -5,7 +5,7 @@ use Rattle.strm_machine.specs.Soundness.{sizes_of}
 use Rattle.strm_machine.specs.declared.streams.Operation.{Operation}
 use Rattle.strm_machine.specs.declared.streams.Stream.{Stream}
 use Rattle.strm_machine.proofs.SideLemmas.{with_operation-keeps}
-use Rattle.strm_channels.specs.Guests.{seen}
+use Rattle.strm_channels.specs.Guests.{guests_of}
 use Rattle.strm_transmit.specs.Inside.{state_of}
 use Rattle.strm_transmit.specs.Telling.{Retells}
 use Rattle.strm_transmit.proofs.StoreLemmas.{stream_at-there}
@@ -19,7 +19,7 @@ invariant_of-self c =
     let here = stream_at-there c.self.inside c.args.stream c.index_mut-meeting.result.now there c.index_mut-meeting.ensures.value in
     let stream = stream_at (state_of c.self.inside) c.args.stream in
     IsStore-set c.self.inside _ c.args.stream (with_operation c.args.side stream c.args.operation) there
-    (λ h. with_operation-keeps c.args.side (sizes_of (seen c.self.inside.guests.items)) stream c.args.operation h placed)
+    (λ h. with_operation-keeps c.args.side (sizes_of (guests_of c.self.inside.guests.items)) stream c.args.operation h placed)
     (record {
       same = record { tag = refl; limits = refl; producers = refl; kept = refl; consumers = refl; contexts = refl; trapped = refl };
       counter = refl;
@@ -28,6 +28,6 @@ invariant_of-self c =
       live_sets = refl;
       bytes = refl;
       streams = ap (set c.self.inside.streams.items c.args.stream) (c.begin.ensures ∙ ap (λ (o : Operation). with_operation c.args.side c.index_mut-meeting.result.now o) (sym c.requires.begun) ∙ ap (λ (s : Stream). with_operation c.args.side s c.args.operation) (sym here));
-      retold = subst (λ (x : Stream). Retells (seen c.self.inside.guests.items) x c.self.inside.ready.items c.retell.new.ready.items) (c.begin.ensures ∙ ap (λ (o : Operation). with_operation c.args.side c.index_mut-meeting.result.now o) (sym c.requires.begun) ∙ ap (λ (s : Stream). with_operation c.args.side s c.args.operation) (sym here)) c.retell.ensures;
+      retold = subst (λ (x : Stream). Retells (guests_of c.self.inside.guests.items) x c.self.inside.ready.items c.retell.new.ready.items) (c.begin.ensures ∙ ap (λ (o : Operation). with_operation c.args.side c.index_mut-meeting.result.now o) (sym c.requires.begun) ∙ ap (λ (s : Stream). with_operation c.args.side s c.args.operation) (sym here)) c.retell.ensures;
     })
     c.self.invariant

@@ -4,7 +4,7 @@ use Rattle.strm_machine.specs.Reactions.{on_stream}
 use Rattle.strm_machine.specs.declared.replies.Reply.TheVariants as replies
 use Rattle.strm_machine.specs.declared.acts.EndAct.TheVariants.{Operate}
 use Rattle.strm_machine.proofs.ReactionLemmas.{performs-on_end}
-use Rattle.strm_transmit.specs.Meets.{replied}
+use Rattle.strm_transmit.specs.Meets.{as_reply}
 use Rattle.strm_transmit.proofs.StepLemmas.{is_admitted, reacts, meets_admitted, meets_not_admitted}
 use Rattle.strm_transmit.proofs.HostStepLemmas.{hosted_alone, hosted_not_admitted}
 use Rattle.strm_host_machine.proofs.OutcomeLemmas.{refusal_in-on_end}
@@ -42,10 +42,10 @@ returns-in-Some-clause-held g c = λ held.
 pub returns-in-None-clause-meets : goal.returns-in-None-clause-meets
 returns-in-None-clause-meets g c =
     let found = is_admitted c.args.self.now _ _ _ _ c.operation_found.ensures.exact c.in-Ok.ensures.exact in
-    hosted_alone c.args.self.now _ _ _ (replied replies.Code c.take_apart.result) c.sound.ensures c.served.ensures.made
+    hosted_alone c.args.self.now _ _ _ (as_reply replies.Code c.take_apart.result) c.sound.ensures c.served.ensures.made
     (operate-alone c.args.self.now c.args.side c.args.end.now c.args.address c.args.count _ (ap (λ q. q.0) found.same) c.in-None.ensures.none)
     (settled_code c.take_apart.result)
-    (meets_admitted c.args.self.now c.take_apart.new.self _ (replied replies.Code c.take_apart.result) _
+    (meets_admitted c.args.self.now c.take_apart.new.self _ (as_reply replies.Code c.take_apart.result) _
     (reacts _ _ _ _ (λ q. on_stream c.args.self.now q.0 c.args.side (begun c.args.end.now.guest c.args.address q.1)) found
     (performs-on_end c.args.self.now c.args.side c.args.end.now (Operate c.args.address c.args.count)))
     c.take_apart.ensures.meets)

@@ -1,6 +1,6 @@
 use Rattle.std.proofs.Common.{rules}
 use Rattle.strm_host_machine.proofs.PipeLemmas.{Does-round}
-use Rattle.strm_host_turns.proofs.TurnLemmas.{handed_on}
+use Rattle.strm_host_turns.proofs.WriterTurnLemmas.{handed_on}
 use Rattle.strm_transmit.proofs.RoundLemmas.{round-stops, round-fetch_wants, round-offer_wants}
 use Rattle.strm_transmit.proofs.WantsLemmas.{wanting_as, wanting_result}
 use Rattle.strm_transmit.proofs.store.Store.pipe_round.Goals as goal

@@ -1,5 +1,5 @@
 use Rattle.std.proofs.Common.{rules}
-use Rattle.strm_host_turns.proofs.TurnLemmas.{handed_on}
+use Rattle.strm_host_turns.proofs.WriterTurnLemmas.{handed_on}
 use Rattle.strm_transmit.proofs.OperateLemmas.{opened-fits, turn-answers, turn-stops, turn-wants}
 use Rattle.strm_transmit.proofs.WantsLemmas.{wanting_as}
 use Rattle.strm_transmit.proofs.store.Store.poll_across.Goals as goal

@@ -1,5 +1,5 @@
 use Rattle.std.proofs.Common.{rules}
-use Rattle.strm_transmit.proofs.ProduceLemmas.{stream_goes, is_served, mid-made, mid-length, mid-fits, mid-duty, told-there, produced-stays, stop-stops, stops-does, stops-fits, stops-length, stops-wants, left-does, left-fits_as, left-length}
+use Rattle.strm_transmit.proofs.WriterTurnLemmas.{stream_goes, is_served, mid-made, mid-length, mid-fits, mid-duty, told-there, produced-stays, stop-stops, stops-does, stops-fits, stops-length, stops-wants, left-does, left-fits_as, left-length}
 use Rattle.strm_transmit.proofs.store.Store.produce.Goals as goal
 
 pub stream-requires : goal.stream-requires
@@ -41,13 +41,13 @@ returns-clause-there g c =
 pub returns-in-Err-clause-part : goal.returns-in-Err-clause-part
 returns-in-Err-clause-part g c = record {
   does = let h = is_served _ _ _ _ _ c.sound.ensures c.served.ensures c.requires.there c.requires.owner c.requires.fits c.requires.placed in
-      rw c.stop_of.ensures (stops-does _ _ _ _ _ h _ _ _ c.in-Err.error c.in-Err.ensures c.trap.ensures);
+      rw c.stop_of_writer.ensures (stops-does _ _ _ _ _ h _ _ _ c.in-Err.error c.in-Err.ensures c.trap.ensures);
   fits = let h = is_served _ _ _ _ _ c.sound.ensures c.served.ensures c.requires.there c.requires.owner c.requires.fits c.requires.placed in
       stops-fits _ _ _ _ _ h _ _ _ c.in-Err.error c.in-Err.ensures c.trap.ensures;
-  stop = rw c.stop_of.ensures (stop-stops c.in-Err.error c.args.number);
+  stop = rw c.stop_of_writer.ensures (stop-stops c.in-Err.error c.args.number);
   trapped = search rules;
   wanting = let h = is_served _ _ _ _ _ c.sound.ensures c.served.ensures c.requires.there c.requires.owner c.requires.fits c.requires.placed in
-      rw c.stop_of.ensures (stops-wants _ _ _ _ _ h _ _ _ c.in-Err.error c.in-Err.ensures c.trap.ensures);
+      rw c.stop_of_writer.ensures (stops-wants _ _ _ _ _ h _ _ _ c.in-Err.error c.in-Err.ensures c.trap.ensures);
 }
 
 pub returns-then-ne-clause-part : goal.returns-then-ne-clause-part

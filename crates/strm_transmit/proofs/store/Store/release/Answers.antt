@@ -3,7 +3,7 @@ use Rattle.std.proofs.lemmas.List.{length-set}
 use Rattle.strm_machine.specs.Moments.{is_end}
 use Rattle.strm_machine.specs.Tests.{end_named}
 use Rattle.strm_machine.specs.declared.streams.Stream.{Stream}
-use Rattle.strm_channels.specs.Guests.{seen}
+use Rattle.strm_channels.specs.Guests.{guests_of}
 use Rattle.strm_transmit.specs.Telling.{Retells}
 use Rattle.strm_transmit.proofs.StoreLemmas.{set_at}
 use Rattle.strm_transmit.specs.Inside.{state_of}
@@ -41,7 +41,7 @@ invariant_of-self c =
       live_sets = refl;
       counted = c.set_owner.ensures.counted;
       streams = c.set_owner.ensures.streams;
-      retold = subst (λ (x : Stream). Retells (seen c.remove_end.new.guests.items) x c.leave.new.ready.items c.retell.new.ready.items)
+      retold = subst (λ (x : Stream). Retells (guests_of c.remove_end.new.guests.items) x c.leave.new.ready.items c.retell.new.ready.items)
           (set_at i.streams.items c.set_owner.new.streams.items c.args.stream _ c.index.result.now made c.set_owner.ensures.streams c.index.ensures) c.retell.ensures;
     })
     c.self.invariant c.args.end.now.guest c.args.end.now.handle fits.there

@@ -2,7 +2,7 @@ use Rattle.std.proofs.Common.{refl, sym, ap, ◌∙◌}
 use Rattle.strm_machine.specs.Reactions.{goes, on_set, performs}
 use Rattle.strm_machine.specs.declared.acts.SetAct.TheVariants.{Drop}
 use Rattle.strm_machine.specs.declared.replies.Reply.TheVariants as replies
-use Rattle.strm_host_turns.proofs.TurnLemmas.{handed_on}
+use Rattle.strm_host_turns.proofs.WriterTurnLemmas.{handed_on}
 use Rattle.strm_transmit.proofs.StepLemmas.{is_admitted, reacts, meets_not_admitted}
 use Rattle.strm_transmit.proofs.StillLemmas.{done_fits}
 use Rattle.strm_transmit.proofs.store.Store.set_drop.Goals as goal

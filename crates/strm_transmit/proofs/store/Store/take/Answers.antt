@@ -3,7 +3,7 @@ use Rattle.std.proofs.lemmas.Grind.{common_steps}
 use Rattle.strm_machine.specs.Turns.{Turn, turn}
 use Rattle.strm_machine.proofs.TurnLemmas.{turn-keeps}
 use Rattle.strm_machine.proofs.SoundLemmas.{placed_at}
-use Rattle.strm_channels.specs.Guests.{seen}
+use Rattle.strm_channels.specs.Guests.{guests_of}
 use Rattle.strm_transmit.specs.Inside.{state_of}
 use Rattle.strm_transmit.specs.Telling.{Retells}
 use Rattle.strm_transmit.proofs.StoreLemmas.{IsStore-turn, stream_at-there}
@@ -11,7 +11,7 @@ use Rattle.strm_transmit.proofs.store.Store.take.Goals as goal
 
 pub invariant_of-self : goal.invariant_of-self
 invariant_of-self c =
-    let e = ap (λ s. turn c.args.side (seen c.self.inside.guests.items) s c.args.mine) (stream_at-there c.self.inside c.args.stream c.index_mut-meeting.result.now (rw (← c.self.view_is) at c.requires.there) c.index_mut-meeting.ensures.value) ∙ c.meet_or_wait-taken.ensures in
+    let e = ap (λ s. turn c.args.side (guests_of c.self.inside.guests.items) s c.args.mine) (stream_at-there c.self.inside c.args.stream c.index_mut-meeting.result.now (rw (← c.self.view_is) at c.requires.there) c.index_mut-meeting.ensures.value) ∙ c.meet_or_wait-taken.ensures in
     let there = rw (← c.self.view_is) at c.requires.there in
     IsStore-turn c.self.inside _ c.args.stream _ there
     (turn-keeps c.args.side _ _ c.args.mine (placed_at (state_of c.self.inside) c.args.stream there c.self.invariant.sound) (rw (← c.self.view_is) at c.requires.mine))
@@ -34,7 +34,7 @@ invariant_of-self c =
 
 pub invariant_of-self-in-Err : goal.invariant_of-self-in-Err
 invariant_of-self-in-Err c =
-    let e = ap (λ s. turn c.args.side (seen c.self.inside.guests.items) s c.args.mine) (stream_at-there c.self.inside c.args.stream c.index_mut-meeting.result.now (rw (← c.self.view_is) at c.requires.there) c.index_mut-meeting.ensures.value) ∙ c.meet_or_wait-taken.ensures in
+    let e = ap (λ s. turn c.args.side (guests_of c.self.inside.guests.items) s c.args.mine) (stream_at-there c.self.inside c.args.stream c.index_mut-meeting.result.now (rw (← c.self.view_is) at c.requires.there) c.index_mut-meeting.ensures.value) ∙ c.meet_or_wait-taken.ensures in
     let there = rw (← c.self.view_is) at c.requires.there in
     IsStore-turn c.self.inside _ c.args.stream _ there
     (turn-keeps c.args.side _ _ c.args.mine (placed_at (state_of c.self.inside) c.args.stream there c.self.invariant.sound) (rw (← c.self.view_is) at c.requires.mine))

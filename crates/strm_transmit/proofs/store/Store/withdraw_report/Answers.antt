@@ -2,7 +2,7 @@ use Rattle.std.proofs.Common.{refl, ap, ◌∙◌, sym, set, subst}
 use Rattle.strm_machine.specs.State.{stream_at}
 use Rattle.strm_machine.specs.Soundness.{sizes_of}
 use Rattle.strm_machine.specs.declared.streams.Stream.{Stream}
-use Rattle.strm_channels.specs.Guests.{seen}
+use Rattle.strm_channels.specs.Guests.{guests_of}
 use Rattle.strm_transmit.specs.Inside.{state_of}
 use Rattle.strm_transmit.specs.Telling.{Retells}
 use Rattle.strm_transmit.specs.Piping.{report_withdrawn}
@@ -17,7 +17,7 @@ invariant_of-self c =
     let here = stream_at-there c.self.inside c.args.stream c.index_mut-meeting.result.now there c.index_mut-meeting.ensures.value in
     let stream = stream_at (state_of c.self.inside) c.args.stream in
     IsStore-set c.self.inside _ c.args.stream (report_withdrawn stream) there
-    (withdrawn-keeps (sizes_of (seen c.self.inside.guests.items)) stream)
+    (withdrawn-keeps (sizes_of (guests_of c.self.inside.guests.items)) stream)
     (record {
       same = record { tag = refl; limits = refl; producers = refl; kept = refl; consumers = refl; contexts = refl; trapped = refl };
       counter = refl;
@@ -26,6 +26,6 @@ invariant_of-self c =
       live_sets = refl;
       bytes = refl;
       streams = ap (set c.self.inside.streams.items c.args.stream) (c.withdraw.ensures ∙ ap report_withdrawn (sym here));
-      retold = subst (λ (x : Stream). Retells (seen c.self.inside.guests.items) x c.self.inside.ready.items c.retell.new.ready.items) (c.withdraw.ensures ∙ ap report_withdrawn (sym here)) c.retell.ensures;
+      retold = subst (λ (x : Stream). Retells (guests_of c.self.inside.guests.items) x c.self.inside.ready.items c.retell.new.ready.items) (c.withdraw.ensures ∙ ap report_withdrawn (sym here)) c.retell.ensures;
     })
     c.self.invariant

@@ -6,15 +6,15 @@ use Rattle.std.specs.BTreeMap.{BTreeMap}
 use Rattle.std.specs.Cmp.{nat_eq_equiv}
 use Rattle.std.specs.Ordering.{nat_cmp}
 use Rattle.std.specs.Prelude.{Result, Ok, Err, OnErr}
-use Rattle.strm_waitable_sets.specs.Sets.{Sets, is_number, is_there, is_member, joined}
+use Rattle.strm_waitable_sets.specs.Sets.{Sets, is_number, is_set_there, is_member, handle_joined}
 use Rattle.strm_waitable_sets.specs.Slots.{slot_at}
 use Rattle.strm_waitable_sets.proofs.HomeLemmas.{get-seen, seen-inserted, insert_again}
 use Rattle.strm_waitable_sets.proofs.TieLemmas.{seen, is_number-is, flag-at, some_inside, flags-set, home_inside, tied-joined, tied-moved, tied-undone}
 use Rattle.strm_waitable_sets.proofs.sets.WaitableSets.join.Goals as goal
 
 -- the set that is named is there
-named_there : (slots : _) (homes : BTreeMap ℕ ℕ) (now : Sets) (number : ℕ) → seen slots homes ≡ now → is_there now number ≡ true → is_some (slot_at slots number) ≡ true
-named_there slots homes now number view there = sym (flag-at slots number) ∙ ap (λ s. is_there s number) view ∙ there
+named_there : (slots : _) (homes : BTreeMap ℕ ℕ) (now : Sets) (number : ℕ) → seen slots homes ≡ now → is_set_there now number ≡ true → is_some (slot_at slots number) ≡ true
+named_there slots homes now number view there = sym (flag-at slots number) ∙ ap (λ s. is_set_there s number) view ∙ there
 
 -- the handle is not in the set that is named
 not_yet : (slots : _) (homes : BTreeMap ℕ ℕ) (now : Sets) (number handle : ℕ) → seen slots homes ≡ now → is_member now number handle ≡ false → is_number (tree.get nat_cmp homes handle) number ≡ false
@@ -96,11 +96,11 @@ returns-in-Ok-Some-clause-ok c =
     let below = home_inside s.sets.items s.homes s.hint c.self.invariant c.args.handle c.in-Ok-Some.home (sym c.in-Ok-Some.ensures.old ∙ c.in-Ok-Some.field-0-is) in
     let home = get_or_read more c.in-Ok-Some.home c.index_mut-in-Ok-Some.result.now (omega (arith, length-set s.sets.items c.args.set c.add_member.new.slot)) c.index_mut-in-Ok-Some.ensures.value None in
     rw (flags-set more c.in-Ok-Some.home c.remove_member.new.slot (c.remove_member.ensures.there ∙ ap is_some home), flags-set s.sets.items c.args.set c.add_member.new.slot (c.add_member.ensures.there ∙ sym there), seen-inserted s.homes c.insert.new.self c.args.handle c.args.set c.in-Ok-Some.ensures.updates)
-    (ap (λ v. joined v c.args.handle c.args.set) c.self.view_is)
+    (ap (λ v. handle_joined v c.args.handle c.args.set) c.self.view_is)
 
 pub returns-in-Ok-None-clause-ok : goal.returns-in-Ok-None-clause-ok
 returns-in-Ok-None-clause-ok c =
     let s = c.self.inside in
     let there = named_there s.sets.items s.homes c.args.self.now c.args.set c.self.view_is c.requires.there in
     rw (flags-set s.sets.items c.args.set c.add_member.new.slot (c.add_member.ensures.there ∙ sym there), seen-inserted s.homes c.insert.new.self c.args.handle c.args.set c.in-Ok-None.ensures.updates)
-    (ap (λ v. joined v c.args.handle c.args.set) c.self.view_is)
+    (ap (λ v. handle_joined v c.args.handle c.args.set) c.self.view_is)

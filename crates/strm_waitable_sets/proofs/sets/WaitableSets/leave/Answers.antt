@@ -1,6 +1,6 @@
 use Rattle.std.proofs.Common.{None, is_some, ap, sym, ◌∙◌, arith}
 use Rattle.std.proofs.lemmas.List.{get_or_read}
-use Rattle.strm_waitable_sets.specs.Sets.{left}
+use Rattle.strm_waitable_sets.specs.Sets.{handle_left}
 use Rattle.strm_waitable_sets.proofs.HomeLemmas.{seen-removed}
 use Rattle.strm_waitable_sets.proofs.TieLemmas.{flags-set, home_inside, tied-left}
 use Rattle.strm_waitable_sets.proofs.sets.WaitableSets.leave.Goals as goal
@@ -24,9 +24,9 @@ returns-in-Some c =
     let s = c.self.inside in
     let was = sym c.in-Some.ensures.value in
     let at = get_or_read s.sets.items c.in-Some.home c.index_mut.result.now (home_inside s.sets.items s.homes s.hint c.self.invariant c.args.handle c.in-Some.home was) c.index_mut.ensures.value None in
-    rw (flags-set s.sets.items c.in-Some.home c.remove_member.new.slot (c.remove_member.ensures.there ∙ ap is_some at), seen-removed s.homes c.remove.new.self c.args.handle c.remove.ensures.updates) (ap (λ v. left v c.args.handle) c.self.view_is)
+    rw (flags-set s.sets.items c.in-Some.home c.remove_member.new.slot (c.remove_member.ensures.there ∙ ap is_some at), seen-removed s.homes c.remove.new.self c.args.handle c.remove.ensures.updates) (ap (λ v. handle_left v c.args.handle) c.self.view_is)
 
 pub returns-in_default : goal.returns-in_default
 returns-in_default c =
     let s = c.self.inside in
-    rw (seen-removed s.homes c.remove.new.self c.args.handle c.remove.ensures.updates) (ap (λ v. left v c.args.handle) c.self.view_is)
+    rw (seen-removed s.homes c.remove.new.self c.args.handle c.remove.ensures.updates) (ap (λ v. handle_left v c.args.handle) c.self.view_is)

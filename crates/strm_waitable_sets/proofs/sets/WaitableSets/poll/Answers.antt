@@ -2,8 +2,8 @@ use Rattle.std.proofs.Common.{◌≡◌, ◌<◌, ℕ, Bool, List, true, false, 
 use Rattle.std.proofs.lemmas.List.{get_or_read}
 use Rattle.std.specs.BTreeMap.{BTreeMap}
 use Rattle.std.specs.Prelude.{IfSome, IfNone}
-use Rattle.strm_waitable_sets.specs.Sets.{Sets, is_there, is_member, IsLeastReady, NoneReady}
-use Rattle.strm_waitable_sets.specs.Slots.{Slot, has, AreTied}
+use Rattle.strm_waitable_sets.specs.Sets.{Sets, is_set_there, is_member, IsLeastReady, NoneReady}
+use Rattle.strm_waitable_sets.specs.Slots.{Slot, has, AreSlotsTied}
 use Rattle.strm_waitable_sets.proofs.TieLemmas.{seen, is_member-has, flag-at, some_inside}
 use Rattle.strm_waitable_sets.proofs.sets.WaitableSets.poll.Goals as goal
 
@@ -21,11 +21,11 @@ module _ (says : ℕ → Bool → Type 0) (sets : Sets) (number : ℕ) (slot : S
   its_none None none = λ handle in_it. none handle (sym (is handle) ∙ in_it)
   its_none (Some handle) none = tt
 
-module _ (slots : List Slot) (homes : BTreeMap ℕ ℕ) (hint : ℕ) (now : Sets) (number : ℕ) (slot : Slot) (are : AreTied slots homes hint) (view : seen slots homes ≡ now) where
+module _ (slots : List Slot) (homes : BTreeMap ℕ ℕ) (hint : ℕ) (now : Sets) (number : ℕ) (slot : Slot) (are : AreSlotsTied slots homes hint) (view : seen slots homes ≡ now) where
   -- a set's members are those of its slot
-  its : is_there now number ≡ true → slot ≡ Rattle.std.specs.Prelude.slice_index_or slots number slot → (handle : ℕ) → is_member now number handle ≡ has slot handle
+  its : is_set_there now number ≡ true → slot ≡ Rattle.std.specs.Prelude.slice_index_or slots number slot → (handle : ℕ) → is_member now number handle ≡ has slot handle
   its there at handle =
-      let inside = some_inside slots number (sym (flag-at slots number) ∙ ap (λ v. is_there v number) view ∙ there) in
+      let inside = some_inside slots number (sym (flag-at slots number) ∙ ap (λ v. is_set_there v number) view ∙ there) in
       sym (ap (λ v. is_member v number handle) view)
       ∙ is_member-has slots homes hint are number handle
       ∙ ap (λ s. has s handle) (sym (get_or_read slots number slot inside at None))
