@@ -99,8 +99,6 @@ impl Copies {
 fn filled(alloc: Global, byte: u8, len: usize) -> Result<Vec<u8>, OutOfMemory>
     ensures { IfOk result (λ bytes. vec_len bytes ≡ len) }
 {
-    match vec![in alloc; byte; len] {
-        Ok(bytes) => Ok(bytes),
-        Err(_) => Err(OutOfMemory),
-    }
+    let bytes = vec![in alloc; byte; len]?;
+    Ok(bytes)
 }

@@ -49,7 +49,7 @@ IfAnswered (Ready r) P = P (answer_of_result r)
 IfAnswered Failed P = P answer.Failed
 IfAnswered NoMemory P = Unit {0}
 
--- what holds where memory was wanting
+-- what holds where memory had run out
 abbrev pub IfNoMemory : Turn StreamResult → Type 0 → Type 0
 IfNoMemory NoMemory P = P
 IfNoMemory Pending P = Unit {0}

@@ -133,7 +133,7 @@ abbrev pub writer_record : Lent → Bool → List Item → List Item → Answer 
 writer_record window finish marked holds answer =
     record { room = room_of window.place; finish = finish; payload = window.payload; items = marked ++ holds; answer = answer }
 
--- a poll for which memory was wanting adds no record, and holds what it held
+-- a poll for which memory had run out adds no record, and holds what it held
 pub record KeepsWriter (old new : WriterTells) : Type 0 where
   pub said : new.said ≡ old.said
   pub holds : new.holds ≡ old.holds
@@ -185,7 +185,7 @@ reader_record old new finish answer =
       answer = answer;
     }
 
--- a poll for which memory was wanting adds no record, and tells that it took what it took before
+-- a poll for which memory had run out adds no record, and tells that it took what it took before
 pub record KeepsReader (old new : ReaderTells) : Type 0 where
   pub said : new.said ≡ old.said
   pub holds : new.holds ≡ old.holds

@@ -27,7 +27,7 @@ pub enum Turn<T> {
 pub type HostTurn = Turn<StreamResult>;
 
 impl Turn<StreamResult> {
-    /// The answer of this turn; none where memory was wanting.
+    /// The answer of this turn; none where memory had run out.
     #[inline(always)]
     pub fn answer(self) -> Option<Answer>
         ensures answered { IfAnswered self (λ answer. result ≡ Some answer) }

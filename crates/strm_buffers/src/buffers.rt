@@ -51,10 +51,7 @@ pub trait WriteBuffer<T> {
         ensures err { OnErr result (items self.new ≡ items self.old) }
     {
         let count = self.len();
-        let mut all = match Vec::with_capacity(alloc, count) {
-            Ok(all) => all,
-            Err(_) => return Err(OutOfMemory),
-        };
+        let mut all = Vec::with_capacity(alloc, count)?;
         self.take(count, &mut all);
         Ok(all)
     }

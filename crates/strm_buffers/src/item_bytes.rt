@@ -143,10 +143,8 @@ impl ItemBytes {
 fn copy_of(alloc: Global, bytes: &[u8]) -> Result<ItemBytes, OutOfMemory>
     ensures { IfOk result (λ copy. copy ≡ bytes.now) }
 {
-    match Vec::from_slice(alloc, bytes) {
-        Ok(bytes) => Ok(ItemBytes::of_vec(bytes)),
-        Err(_) => Err(OutOfMemory),
-    }
+    let bytes = Vec::from_slice(alloc, bytes)?;
+    Ok(ItemBytes::of_vec(bytes))
 }
 
 // The part of a block from a place on. After `OutOfMemory` nothing was kept.

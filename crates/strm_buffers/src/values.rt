@@ -9,6 +9,7 @@ use crate::vec_buffer::VecBuffer;
 use strm_codes::payloads::Payload;
 use strm_codes::values::Value;
 use strm_memory::payloaded::Payloaded;
+use thiserror::Error;
 
 /// A buffer whose items are seen as values of one payload.
 pub trait ValueBuffer {
@@ -96,7 +97,8 @@ impl<T: Payloaded> ValueBuffer for VecBuffer<T> {
 }
 
 /// Another payload was found than was expected.
-#[derive(Clone, Copy, Debug, PartialEq, Eq)]
+#[derive(Clone, Copy, Debug, PartialEq, Eq, Error)]
+#[error("the payloads differ")]
 pub struct TypeMismatch {
     pub expected: Payload,
     pub found: Payload,

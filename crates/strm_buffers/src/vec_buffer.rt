@@ -24,10 +24,8 @@ impl<T: Copy> VecBuffer<T> {
         ensures room { IfOk result (λ buffer. capacity ≤ vec_capacity buffer.buffer) }
         ensures whole { IfOk result (λ buffer. buffer.first ≡ 0) }
     {
-        match Vec::with_capacity(alloc, capacity) {
-            Ok(buffer) => Ok(VecBuffer { buffer, first: 0 }),
-            Err(_) => Err(OutOfMemory),
-        }
+        let buffer = Vec::with_capacity(alloc, capacity)?;
+        Ok(VecBuffer { buffer, first: 0 })
     }
 
     /// The items of this vector.

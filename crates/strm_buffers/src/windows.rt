@@ -104,10 +104,7 @@ impl Window {
     {
         let most = most_to_keep(self.payload, self.room);
         if most > self.kept.capacity() {
-            match self.kept.reserve_exact(most - self.kept.len()) {
-                Ok(()) => {}
-                Err(_) => return Err(OutOfMemory),
-            }
+            self.kept.reserve_exact(most - self.kept.len())?;
         }
         self.is_prepared = true;
         Ok(())

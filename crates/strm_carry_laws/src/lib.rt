@@ -11,7 +11,7 @@ ghost use Rattle.strm_machine.specs.Reactions.{react};
 ghost use Rattle.strm_machine.specs.declared.replies.Reply.TheVariants as replies;
 ghost use Rattle.strm_machine.specs.declared.steps.Step.TheVariants as steps;
 ghost use Rattle.strm_memory.specs.Bytes.{IsBytes, put_at};
-ghost use Rattle.strm_carry_laws.specs.OneStream.{new_store, byte_stream, reads_of, piece_of, piece_steps, script_of, CanCarry, bytes_as_items, dumped, AreSettled};
+ghost use Rattle.strm_carry_laws.specs.OneStream.{new_store, carried_type, reads_of, piece_of, piece_steps, script_of, CanCarry, bytes_as_items, dumped, AreSettled};
 ghost use Rattle.strm_carry_laws.specs.Serving.{rests, serving, Drains, Brings};
 
 // Bytes are put into the writer's memory.
@@ -25,7 +25,7 @@ fn pokes()
 #[tactic(none)]
 fn opens()
     ensures { (m0 m1 : List ℕ) (n k : ℕ) → length m0 ≡ 64 → 0 < k → k ≤ 64 →
-        react (rests m0 m1 n) (steps.Write 0 byte_stream 1 0 k) ≡ record { reply = replies.Code codes.Blocked; state = serving m0 m1 n 0 k 0 false } }
+        react (rests m0 m1 n) (steps.Write 0 carried_type 1 0 k) ≡ record { reply = replies.Code codes.Blocked; state = serving m0 m1 n 0 k 0 false } }
 {}
 
 // A read meets it.
@@ -33,7 +33,7 @@ fn opens()
 fn serves()
     ensures { (m0 m1 : List ℕ) (n a i j r : ℕ) (met : Bool) → IsBytes m0 → length m0 ≡ 64 → length m1 ≡ 64 →
         n + 64 < 2 ^ 128 → 0 < j → a + j ≤ 64 → 0 < r → r ≤ 64 →
-        react (serving m0 m1 n a j i met) (steps.Read 1 byte_stream 1 0 r)
+        react (serving m0 m1 n a j i met) (steps.Read 1 carried_type 1 0 r)
         ≡ record {
           reply = replies.Code (codes.Completed (min r j));
           state = serving m0 (take (min r j) (drop a m0) ++ drop (min r j) m1) (n + min r j) (a + 1 * min r j) (j - min r j) (i + min r j) true;
@@ -59,11 +59,11 @@ fn tells()
 fn gets()
     ensures read { (m0 m1 : List ℕ) (n a i j r : ℕ) (met : Bool) → IsBytes m0 → length m0 ≡ 64 → length m1 ≡ 64 →
         n + 64 < 2 ^ 128 → 0 < j → a + j ≤ 64 → 0 < r → r ≤ 64 →
-        got_in 0 (moment_of (serving m0 m1 n a j i met) (steps.Read 1 byte_stream 1 0 r)) ≡ bytes_as_items (take (min r j) (drop a m0)) }
+        got_in 0 (moment_of (serving m0 m1 n a j i met) (steps.Read 1 carried_type 1 0 r)) ≡ bytes_as_items (take (min r j) (drop a m0)) }
     ensures poke { (m0 m1 p : List ℕ) (n : ℕ) → length m0 ≡ 64 → 0 < length p → length p ≤ 64 →
         got_in 0 (moment_of (rests m0 m1 n) (steps.Poke 0 0 p)) ≡ [] }
     ensures write { (m0 m1 : List ℕ) (n k : ℕ) → length m0 ≡ 64 → 0 < k → k ≤ 64 →
-        got_in 0 (moment_of (rests m0 m1 n) (steps.Write 0 byte_stream 1 0 k)) ≡ [] }
+        got_in 0 (moment_of (rests m0 m1 n) (steps.Write 0 carried_type 1 0 k)) ≡ [] }
     ensures dump { (m0 m1 : List ℕ) (n a j i c : ℕ) (met : Bool) → length m1 ≡ 64 → 0 < c → c ≤ 64 →
         got_in 0 (moment_of (serving m0 m1 n a j i met) (steps.Dump 1 0 c)) ≡ [] }
     ensures event { (m0 m1 : List ℕ) (n a i : ℕ) →

@@ -17,7 +17,7 @@ fault_of stages input =
     else (if nat_lt 2 (count_by is_twice stages) then Some TooManyTwice
     else (if nat_lt 65536 input then Some TooLong else None))
 
--- an error is the fault of the stages and the input, or memory was wanting where there is none
+-- an error is the fault of the stages and the input, or memory had run out where there is none
 abbrev pub IsChainFault : List Stage → ℕ → ChainError → Type 0
 IsChainFault stages input error =
     (fault_of stages input ≡ Some error) ⊎ ((fault_of stages input ≡ None) × (error ≡ OutOfMemory))

@@ -18,7 +18,7 @@ use Rattle.strm_chain.specs.Linking.{Sends, Takes}
 use Rattle.strm_chain.specs.Reporting.{is_told}
 use Rattle.strm_chain.specs.Running.{making_of}
 
--- what a chain has come to: what was played, its guests, and whether memory was wanting
+-- what a chain has come to: what was played, its guests, and whether memory had run out
 pub record ChainState : Type 0 where
   pub play : ChainPlay
   pub workers : List Worker
@@ -144,7 +144,7 @@ pub record IsGoing (play : ChainPlay) (workers : List Worker) : Type 0 where
   pub joined : IsJoined play workers
   pub told : is_told (length workers - 1) play.steps play.replies ≡ (sink_of workers).closed
 
--- the same, but where memory was wanting
+-- the same, but where memory had run out
 abbrev pub IsGoingUnless : Bool → ChainPlay → List Worker → Type 0
 IsGoingUnless true play workers = Unit {0}
 IsGoingUnless false play workers = IsGoing play workers

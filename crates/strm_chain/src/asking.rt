@@ -75,10 +75,7 @@ fn stages_of(alloc: Global, words: &[String]) -> Result<Option<Vec<Stage>>, OutO
         let Some(stage) = stage_of(word.as_bytes()) else {
             return Ok(None);
         };
-        match stages.push(stage) {
-            Ok(()) => {}
-            Err(_) => return Err(OutOfMemory),
-        }
+        stages.push(stage)?;
     }
     Ok(Some(stages))
 }

@@ -174,7 +174,7 @@ impl Chain {
         })
     }
 
-    /// One turn of a guest. After want of memory each turn answers that.
+    /// One turn of a guest. After running out of memory each turn answers that.
     pub fn turn(&mut self, who: u32) -> Result<ChainTurn, ChainError>
         requires { who < length self.old.workers }
 
@@ -191,7 +191,7 @@ impl Chain {
         ensures many { length self.new.workers ≡ length self.old.workers }
         ensures error { IfErr result (λ error. error ≡ ChainError.OutOfMemory) }
 
-        // It is at most two steps. A play without room for these is answered as want of memory: since a turn that
+        // It is at most two steps. A play without room for these is answered as running out of memory: since a turn that
         // is idle may be a step too, a caller who gives turns without end comes to that.
         ensures short { OnOk result (length self.new.play.steps ≤ length self.old.play.steps + 2) }
         ensures full { ¬ HasRoomForSteps 2 self.old.play → result ≡ Err ChainError.OutOfMemory }
@@ -271,7 +271,7 @@ impl Chain {
         self.player.played();
     }
 
-    /// What the chain has come to, ended or not. After want of memory it answers that.
+    /// What the chain has come to, ended or not. After running out of memory it answers that.
     #[tactic(auto, using(crate::proofs::ChainLemmas::going_of))]
     pub fn finish(self) -> Result<ChainEnd, ChainError>
         // All that was played, with the machine's replies.

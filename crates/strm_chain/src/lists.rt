@@ -44,20 +44,16 @@ impl Bytes8 {
         ensures ok { OnOk result (self.new ≡ self.old ++ item ∷ []) }
         ensures err { OnErr result (self.new ≡ self.old) }
     {
-        match self.items.push(item) {
-            Ok(()) => Ok(()),
-            Err(_) => Err(OutOfMemory),
-        }
+        self.items.push(item)?;
+        Ok(())
     }
 
     /// Adds these bytes at the end.
     pub fn extend(&mut self, bytes: &[u8]) -> Result<(), OutOfMemory>
         ensures { OnOk result (self.new ≡ self.old ++ bytes.now) }
     {
-        match self.items.extend_from_slice(bytes) {
-            Ok(()) => Ok(()),
-            Err(_) => Err(OutOfMemory),
-        }
+        self.items.extend_from_slice(bytes)?;
+        Ok(())
     }
 
     /// The bytes, lent.

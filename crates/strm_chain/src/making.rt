@@ -156,8 +156,6 @@ fn new_worker(alloc: Global, stage: Stage, read: u32, write: Option<u32>) -> Wor
 fn add_worker(workers: &mut Vec<Worker>, worker: Worker) -> Result<(), OutOfMemory>
     ensures { OnOk result (workers.new.items ≡ workers.old.items ++ worker ∷ []) }
 {
-    match workers.push(worker) {
-        Ok(()) => Ok(()),
-        Err(_) => Err(OutOfMemory),
-    }
+    workers.push(worker)?;
+    Ok(())
 }

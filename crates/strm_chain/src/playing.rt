@@ -100,7 +100,7 @@ impl Player {
     {
         let number = match self.store.add_guest(size) {
             Ok(number) => number,
-            Err(error) => return Err(wanting(error)),
+            Err(error) => return Err(out_of_memory(error)),
         };
         let step = Step::Guest { size };
         keep(
@@ -123,7 +123,7 @@ impl Player {
     {
         let pair = match self.store.new_between(writer, reader, BYTES) {
             Ok(pair) => pair,
-            Err(error) => return Err(wanting(error)),
+            Err(error) => return Err(out_of_memory(error)),
         };
         let step = Step::Between {
             writer,
@@ -426,7 +426,7 @@ fn operation(side: Side, guest: u32, handle: u32, address: u32, count: u32) -> S
 }
 
 // Where the store does not do a step that the machine does, memory is wanting.
-fn wanting(error: StoreError) -> OutOfMemory
+fn out_of_memory(error: StoreError) -> OutOfMemory
     requires { error ≡ NoMemory }
 {
     match error {

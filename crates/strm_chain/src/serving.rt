@@ -65,7 +65,7 @@ pub fn chain_serve<S: Source, K: Sink>(
         × (length front ≤ MAX_INPUT + 1) }
     ensures unread { ¬ IsChainAsked (map string_bytes words.now.items) → source.new ≡ source.old }
 
-    // What the stages make of an input within the limit is written, but for faults and want of memory;
+    // What the stages make of an input within the limit is written, but for faults and running out of memory;
     // else it is told that the input is too long, or how to call it.
     ensures complete { (input : List ℕ) →
         IsChainFaultless (map string_bytes words.now.items) (S.left source.old) input

@@ -6,6 +6,7 @@ ghost use Rattle.std.specs.Prelude.{◌≡◌, ◌+◌, ◌/◌, ◌<◌, ◌≤
 ghost use Rattle.std.specs.Ordering.{nat_cmp};
 ghost use Rattle.std.specs.Prelude.{Some, decimal};
 
+use std::alloc::{AllocError, AllocFailed};
 use std::cmp::Ordering;
 use std::fmt;
 use std::marker::Model;
@@ -20,6 +21,18 @@ pub struct StreamOpTooBig;
 #[derive(Clone, Copy, Debug, PartialEq, Eq, Error)]
 #[error("out of memory")]
 pub struct OutOfMemory;
+
+impl From<AllocError> for OutOfMemory {
+    fn from(_error: AllocError) -> OutOfMemory {
+        OutOfMemory
+    }
+}
+
+impl<T: Drop> From<AllocFailed<T>> for OutOfMemory {
+    fn from(_error: AllocFailed<T>) -> OutOfMemory {
+        OutOfMemory
+    }
+}
 
 /// A number of items, below [`ItemCount::MAX`].
 #[derive(Clone, Copy, PartialEq, Eq, PartialOrd, Ord)]

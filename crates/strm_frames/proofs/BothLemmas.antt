@@ -155,7 +155,7 @@ again b left frames old mid new w a h n x r =
         let few : length (get_or mid lane []) - c.0 ≡ length (get_or old lane []) = omega (arith, count, ap length was, length-append (get_or old lane []) (lane_in lane frames)) in
         c.2 ∙ rw (few, was) (take_at (get_or old lane []) (lane_in lane frames) (length (get_or old lane [])) refl)
 
--- where memory was wanting the lanes are as they were
+-- where memory had run out the lanes are as they were
 pub again_some : (b : List ℕ) (done : ℕ) (old mid new : List (List ℕ)) → AppendsSome b old mid done → Retracts (take done b) mid new → new ≡ old
 again_some b done old mid new a r =
     let front : take done b ≡ encoding a.frames = ap (take done) a.whole ∙ take_at (encoding a.frames) a.left done (sym a.done_is) in

@@ -106,7 +106,7 @@ pub(crate) fn no_ends() -> [bool; 256]
     [false; 256]
 }
 
-// One data frame at the end; where memory is wanting, at most a part of it.
+// One data frame at the end; where memory has run out, at most a part of it.
 fn push_frame(out: &mut Vec<u8>, lane: u8, bytes: &[u8]) -> bool
     requires { length bytes.now < 256 }
     ensures ok { IsTrue result → out.new.items ≡ out.old.items ++ spelled (Data lane bytes.now) }
@@ -119,7 +119,7 @@ fn push_frame(out: &mut Vec<u8>, lane: u8, bytes: &[u8]) -> bool
     out.extend_from_slice(bytes).is_ok()
 }
 
-// The data frames of bytes at the end; where memory is wanting, a part of them.
+// The data frames of bytes at the end; where memory has run out, a part of them.
 fn push_frames(out: &mut Vec<u8>, lane: u8, bytes: &[u8]) -> bool
     ensures ok { IsTrue result → out.new.items ≡ out.old.items ++ encoding (pieces_of lane bytes.now) }
     ensures none { bytes.now ≡ [] → IsTrue result }

@@ -121,14 +121,14 @@ pub(crate) fn survey_both(
     survey(second, place.saturating_add(first.len() as u64), ended)
 }
 
-// Bytes at the end of a list; where memory is wanting, none.
+// Bytes at the end of a list; where memory has run out, none.
 fn keep(kept: &mut Vec<u8>, bytes: &[u8]) -> bool
     ensures { kept.new.items ≡ (if result then kept.old.items ++ bytes.now else kept.old.items) }
 {
     kept.extend_from_slice(bytes).is_ok()
 }
 
-// Bytes at the end of a lane; where memory is wanting, none.
+// Bytes at the end of a lane; where memory has run out, none.
 fn keep_in(lanes: &mut [Vec<u8>; 256], lane: u8, bytes: &[u8]) -> bool
     ensures kept { IsTrue result → map (λ v. v.items) lanes.new ≡ slice_set (map (λ v. v.items) lanes.old) lane
         (slice_index_or (map (λ v. v.items) lanes.old) lane [] ++ bytes.now) }
@@ -207,7 +207,7 @@ fn cut_in(lanes: &mut [Vec<u8>; 256], lane: u8, count: usize)
 }
 
 // Takes the bytes of these frames out of the lanes, at whose ends they are. All frames are gone over for
-// each lane: this is done only where memory is wanting.
+// each lane: this is done only where memory has run out.
 pub(crate) fn retract(lanes: &mut [Vec<u8>; 256], bytes: &[u8])
     ensures { Retracts bytes.now (map (λ v. v.items) lanes.old) (map (λ v. v.items) lanes.new) }
 {
@@ -217,7 +217,7 @@ pub(crate) fn retract(lanes: &mut [Vec<u8>; 256], bytes: &[u8])
     }
 }
 
-// Puts the frames of two pieces into lanes; where memory is wanting, none.
+// Puts the frames of two pieces into lanes; where memory has run out, none.
 fn append_both(lanes: &mut [Vec<u8>; 256], first: &[u8], second: &[u8]) -> bool
     requires { AreSpelled first.now }
     ensures ok { IsTrue result → Appends (first.now ++ second.now) (map (λ v. v.items) lanes.old) (map (λ v. v.items) lanes.new) }
@@ -246,7 +246,7 @@ fn leave(bytes: &mut Vec<u8>, used: usize)
 }
 
 // Puts the frame that was completed, and so many bytes of frames behind it, into the lanes, and keeps what follows
-// those; where memory is wanting, nothing changes.
+// those; where memory has run out, nothing changes.
 pub(crate) fn put_both(
     lanes: &mut [Vec<u8>; 256],
     rest: &mut Vec<u8>,

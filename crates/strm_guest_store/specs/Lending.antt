@@ -6,5 +6,5 @@ use Rattle.strm_transmit.specs.Lending.{with_bytes_in}
 use Rattle.strm_guest_store.specs.contracts.guest_store.GuestStore.{the_row}
 
 -- the store ends with the bytes that were last written behind r in a guest's memory, and is else as it was
-abbrev pub LendsMemory : MutBor State → ℕ → MutBor (List ℕ) → Fml
-LendsMemory store g r = Lends the_row (Array u8 0) store r (with_bytes_in store.now g)
+abbrev pub LendsGuestMemory : MutBor State → ℕ → MutBor (List ℕ) → Fml
+LendsGuestMemory store g r = Lends the_row (Array u8 0) store r (with_bytes_in store.now g)

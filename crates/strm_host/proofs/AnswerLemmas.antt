@@ -11,7 +11,7 @@ whatever_answered (Ready result) p = p
 whatever_answered Failed p = p
 whatever_answered NoMemory p = tt
 
--- and where memory was wanting
+-- and where memory had run out
 pub whatever_wanted : {P : Type 0} (turn : Turn StreamResult) → P → IfNoMemory turn P
 whatever_wanted Pending p = tt
 whatever_wanted (Ready result) p = tt

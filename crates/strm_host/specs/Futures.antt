@@ -18,12 +18,12 @@ abbrev pub IfFailed : {A : Type 0} → Turn A → Type 0 → Type 0
 IfFailed Failed P = P
 IfFailed turn P = Unit {0}
 
--- what holds of a poll, unless memory was wanting
+-- what holds of a poll, unless memory had run out
 abbrev pub IfPolled : {A : Type 0} → Turn A → Type 0 → Type 0
 IfPolled NoMemory P = Unit {0}
 IfPolled turn P = P
 
--- a poll answers what was planned, or memory was wanting
+-- a poll answers what was planned, or memory had run out
 abbrev pub IsPlanned : {A : Type 0} → Option (FuturePlan A) → Bool → Turn (Option A) → Type 0
 IsPlanned None finish turn = Unit {0}
 IsPlanned (Some plan) finish turn = IfPolled turn (turn ≡ plan finish)

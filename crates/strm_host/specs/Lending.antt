@@ -21,7 +21,7 @@ module _ (T B : RattleType) where
   LendsDestination d r = Lends (the_row (record { mir = named 0; lft = [] }) T B) (produced_row B) d r (with_produced d.now)
 
 module _ (B : RattleType) where
-  -- what a destination lent ends as r left it last; where memory was wanting, as it was
+  -- what a destination lent ends as r left it last; where memory had run out, as it was
   abbrev pub LendsDirect : MutBor (Produced B.Denot) → Result (DirectDestination B.Denot) OutOfMemory → Fml
   LendsDirect produced r =
       follows_if (produced_row B) (produced_row B) produced.ghost_name (name_if_ok (λ d. d.produced.ghost_name) r) (λ w. w) produced.now

@@ -36,7 +36,7 @@ loose_read_end tag stream = record { tag = tag; id = stream }
 abbrev pub used_read_end : ReadEnd → ReadEnd
 used_read_end end = record end { id = 4294967295 }
 
--- memory was wanting
+-- memory had run out
 abbrev pub reader_no_memory : ReaderError
 reader_no_memory = Store OutOfMemory
 

@@ -98,9 +98,7 @@ impl StreamProducer for BytesMut {
         ensures payload { IfOk result (λ items. items.payload ≡ One U8) }
         ensures items { IfOk result (λ items. items.items ≡ byte_items buffer.items) }
     {
-        match buffer.freeze() {
-            Ok(bytes) => Ok(Items::of_shared(alloc, bytes)),
-            Err(_) => Err(OutOfMemory),
-        }
+        let bytes = buffer.freeze()?;
+        Ok(Items::of_shared(alloc, bytes))
     }
 }

@@ -49,7 +49,7 @@ pub trait StreamConsumer: Drop {
     /// - `Ready(Cancelled)`: it is done with this write before its end. Only where `finish` is set; items
     ///   may be taken.
     /// - `Failed`: it cannot go on.
-    /// - `NoMemory`: memory was wanting. What memory it needs it should take before it reads, since
+    /// - `NoMemory`: memory had run out. What memory it needs it should take before it reads, since
     ///   an item that was taken cannot be put back.
     ///
     /// # A write of no items

@@ -7,7 +7,7 @@ ghost use Rattle.std.specs.Prelude.{◌≡◌, ◌==◌, ◌≤◌, false, IfSom
 ghost use Rattle.strm_buffers.specs.Tells.{SameOffer, Rose};
 ghost use Rattle.strm_host.specs.Futures.{IfFailed, IfPolled};
 ghost use Rattle.strm_host.specs.Consuming.{offering_of, took_more};
-ghost use Rattle.strm_host.specs.FutureConsuming.{KeepsTaking, IfTurnWanting, stream_turn};
+ghost use Rattle.strm_host.specs.FutureConsuming.{KeepsTaking, IfTurnOutOfMemory, stream_turn};
 
 use crate::consumers::StreamConsumer;
 use crate::sources::Source;
@@ -32,7 +32,7 @@ pub trait FutureConsumer: Drop {
     // Its next poll, where it tells that.
     ghost plan: { Self → FutureConsumerPlan } = { λ _. None };
 
-    // What a poll leaves of it, unless memory was wanting: the consumer before, what it is offered,
+    // What a poll leaves of it, unless memory had run out: the consumer before, what it is offered,
     // whether it is asked to finish, and the consumer after.
     ghost leaves: { Self → ItemOffer → Bool → Self → Type 0 } = { λ _ _ _ _. ⊤ };
 
@@ -47,7 +47,7 @@ pub trait FutureConsumer: Drop {
     ///   was not and will not be, where `finish` is set.
     /// - `Pending`: it is not done. It may have taken the value: the next poll is then offered none.
     /// - `Failed`: it cannot go on.
-    /// - `NoMemory`: memory was wanting. What memory it needs it should take before it reads.
+    /// - `NoMemory`: memory had run out. What memory it needs it should take before it reads.
     ///
     /// With `finish` the guest has asked to cancel its write, and waits for the answer. Then it should not
     /// answer `Pending`, unless the value was taken. A value that is a bad item is as for
@@ -62,12 +62,12 @@ pub trait FutureConsumer: Drop {
         requires nothing_taken { source.offer.now.taken ≡ 0 }
         requires not_bad { source.offer.now.bad ≡ false }
         ensures same { SameOffer source.entry.offer.now source.exit.0.now }
-        ensures untaken { IfTurnWanting result (source.exit.0.now.taken ≡ 0) }
+        ensures untaken { IfTurnOutOfMemory result (source.exit.0.now.taken ≡ 0) }
         ensures later { faults self.old ≤ faults self.new }
         ensures failed { IfFailed result (Rose (faults self.old) (faults self.new)) }
         ensures took { IfPolled result (took self.new ≡ took_more (took self.old)
             source.exit.0.now.taken (offering_of source.entry.offer.now)) }
-        ensures kept { IfTurnWanting result (took self.new ≡ took self.old) }
+        ensures kept { IfTurnOutOfMemory result (took self.new ≡ took self.old) }
         ensures planned { KeepsTaking (plan self.old) (offering_of source.entry.offer.now) finish
             source.exit.0.now.taken result }
         ensures leaves { IfPolled result

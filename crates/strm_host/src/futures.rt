@@ -25,7 +25,7 @@ pub trait FutureProducer: Drop {
     // What its next poll answers, asked to finish or not, where it tells.
     ghost plan: { Self → Option (FuturePlan Self.Item) } = { λ _. None };
 
-    // What a poll leaves of it, unless memory was wanting: the producer before, whether it is asked to
+    // What a poll leaves of it, unless memory had run out: the producer before, whether it is asked to
     // finish, and the producer after.
     ghost leaves: { Self → Bool → Self → Type 0 } = { λ _ _ _. ⊤ };
 
@@ -42,7 +42,7 @@ pub trait FutureProducer: Drop {
     /// - `Ready(None)`: it gave up. Only where `finish` is set, since the guest has asked to cancel its
     ///   read; a later read of the guest polls it again.
     /// - `Failed`: it will never give a value. A future has no other end than its value.
-    /// - `NoMemory`: memory was wanting.
+    /// - `NoMemory`: memory had run out.
     ///
     /// # What a breach does
     ///

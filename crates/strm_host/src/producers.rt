@@ -52,7 +52,7 @@ pub trait StreamProducer: Drop {
     /// - `Ready(Cancelled)`: nothing was produced, and nothing will be for this read. Only where `finish`
     ///   is set.
     /// - `Failed`: it cannot go on.
-    /// - `NoMemory`: memory was wanting.
+    /// - `NoMemory`: memory had run out.
     ///
     /// # A read of no items
     ///

@@ -138,7 +138,7 @@ module _ (old : State) (tells : Tells) (r s : ℕ) (write : Operation) (said : R
       (λ logs x. judged logs x ∙ ap (failed_or logs) f ∙ ap (bad_or logs) g ∙ ap (broke_or logs) b ∙ stops-by new logs (HostBroke (ends.Reader r)) e)
       tt
 
--- a poll for which memory was wanting
+-- a poll for which memory had run out
 pub turn-reader_wanting : (old new : State) (tells : Tells) (r : ℕ) (t : ReaderTells) (machine : World → Outcome) → r < length tells.readers → KeepsReader (told_by_reader tells r) t
     → Does old new tells (with_told_reader tells r t) (Err None) machine
 turn-reader_wanting old new tells r t machine l k =

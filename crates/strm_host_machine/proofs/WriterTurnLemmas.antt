@@ -212,8 +212,8 @@ module _ (old : State) (tells : Tells) (n s : ℕ) (read : Operation) (i : IsSer
       ∙ stops-by new logs (HostBroke (ends.Writer n)) e)
       tt
 
--- a poll for which memory was wanting
-pub turn-wanting : (old new : State) (tells : Tells) (n : ℕ) (w : WriterTells) (machine : World → Outcome) → n < length tells.writers → KeepsWriter (told_by tells n) w
+-- a poll for which memory had run out
+pub turn-out_of_memory : (old new : State) (tells : Tells) (n : ℕ) (w : WriterTells) (machine : World → Outcome) → n < length tells.writers → KeepsWriter (told_by tells n) w
     → Does old new tells (with_told tells n w) (Err None) machine
-turn-wanting old new tells n w machine l k =
+turn-out_of_memory old new tells n w machine l k =
     Does-told old new tells n w (Err None) machine l (grows-kept (told_by tells n) w k) (λ logs e. tt) tt

@@ -10,7 +10,7 @@ use Rattle.strm_buffers.specs.Said.{IfAnswered, IfNoMemory}
 use Rattle.strm_buffers.specs.Tells.{SameOffer, RisesOnFailed}
 use Rattle.strm_buffers.specs.declared.answers.Answer.TheVariants.{Completed}
 use Rattle.strm_host.specs.Futures.{IfFailed}
-use Rattle.strm_host.specs.FutureConsuming.{IfTurnWanting}
+use Rattle.strm_host.specs.FutureConsuming.{IfTurnOutOfMemory}
 use Rattle.strm_host.specs.Consuming.{ConsumerPoll, offering_of, took_more}
 use Rattle.strm_host.proofs.OfferingLemmas.{all_left, taken_whole}
 use Rattle.strm_host_tests.specs.Consumers.{TakesAll, Copies, TurnGoesOn}
@@ -71,7 +71,7 @@ module _ (had has : List ℕ) (old new : Offered) (turn : Turn StreamResult) (e 
 
 -- FUTURES
 
-pub never_wants : (P : Type 0) (turn : Turn (Unit {0})) → TurnGoesOn turn → IfTurnWanting turn P
+pub never_wants : (P : Type 0) (turn : Turn (Unit {0})) → TurnGoesOn turn → IfTurnOutOfMemory turn P
 never_wants P Pending g = tt
 never_wants P (Ready u) g = tt
 never_wants P Failed g = tt

@@ -10,7 +10,7 @@ use Rattle.strm_host.specs.Producing.{with_written}
 abbrev pub greeted : Lent → Lent
 greeted w = let d = with_direct w 2 in with_written d (take (min (length d.unmarked) 2) (7 ∷ 8 ∷ []))
 
--- they were written; or memory was wanting
+-- they were written; or memory had run out
 abbrev pub Greets : Lent → Lent → Type 0
 Greets old new = (new ≡ old) ⊎ (new ≡ greeted old)
 

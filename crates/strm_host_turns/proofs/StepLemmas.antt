@@ -20,7 +20,7 @@ use Rattle.strm_host_machine.proofs.PollLemmas.{IsServing}
 use Rattle.strm_machine.proofs.TableLemmas.{OwnersStay}
 use Rattle.strm_host_machine.proofs.SettleLemmas.{IsLeft}
 use Rattle.strm_host_machine.proofs.BackLemmas.{Does-stays, Does-left}
-use Rattle.strm_host_machine.proofs.WriterTurnLemmas.{turned_but, lowered_in, moved_in, WritesBack, told-same, turn-hands_over, turn-ended, IsPolledFor, turn-produced, turn-failed, turn-broke, turn-wanting}
+use Rattle.strm_host_machine.proofs.WriterTurnLemmas.{turned_but, lowered_in, moved_in, WritesBack, told-same, turn-hands_over, turn-ended, IsPolledFor, turn-produced, turn-failed, turn-broke, turn-out_of_memory}
 use Rattle.strm_host_turns.specs.WriterPolls.{IsPolledForRead}
 use Rattle.strm_host_turns.specs.WriterTurns.{WriterScene, writer_scene, handed_over, read_ended, WriterGoes, IsWriterPoll, IsEmptyWriterTurn, IsHoldingWriterTurn, IsWriterTurn}
 use Rattle.strm_host_turns.specs.declared.writer_turns.WriterStops.{WriterStops}
@@ -119,7 +119,7 @@ module _ (old : State) (tells : Tells) (n s : ℕ) (read : Operation) (i : IsSer
       → StopsBy e new after
   polls_stop Failed new after h o k t = turn-failed old tells n s read i t.0 new.tells (polled_for h o t.0 new.tells t.1.polled) after t.1.failed k
   polls_stop Broke new after h o k t = turn-broke old tells n s read i t.0 new.tells (polled_for h o t.0 new.tells t.1.polled) after t.1.failed t.1.broke k
-  polls_stop OutOfMemory new after h o k t = turn-wanting old after tells n new.tells its_turn i.there t.1.tells
+  polls_stop OutOfMemory new after h o k t = turn-out_of_memory old after tells n new.tells its_turn i.there t.1.tells
 
   empty_stops : (over : Bool) (e : WriterStops) (new : WriterScene) (after : State) → (told_by tells n).holds ≡ [] → (producer_at old n).over ≡ over → after.producers ≡ old.producers → IsEmptyWriterTurn over (Err e) (scene_in old tells n s) new read
       → StopsBy e new after

@@ -17,7 +17,7 @@ use Rattle.strm_host_machine.specs.WriterTurn.{lowered_items}
 use Rattle.strm_host_turns.specs.WriterPolls.{PollsInto}
 use Rattle.strm_host_turns.proofs.RegionLemmas.{Returns, marked_lowered}
 
--- an answer was read off a turn, or none where memory was wanting
+-- an answer was read off a turn, or none where memory had run out
 pub record Reads (turn : Turn StreamResult) (read : Option Answer) : Type 0 where
   pub answered : IfAnswered turn (λ answer. read ≡ Some answer)
   pub no_memory : IfNoMemory turn (read ≡ None)

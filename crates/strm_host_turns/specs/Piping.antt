@@ -77,7 +77,7 @@ pub record FetchBreaks (kind : TransmitKind) (old new : Fetching) (said : Writer
   pub broke : breaks_as_writer kind said ≡ true
   pub after : new ≡ record old { tells = new.tells }
 
--- a poll for which memory was wanting adds no record
+-- a poll for which memory had run out adds no record
 pub record FetchWants (old new : Fetching) : Type 0 where
   pub tells : KeepsWriter old.tells new.tells
   pub after : new ≡ record old { tells = new.tells }
@@ -176,11 +176,11 @@ pub record HoldsStill (old new : WriterTells) : Type 0 where
   pub some : old.holds ≢ []
   pub same : new ≡ old
 
--- what a writer tells where memory was wanting for what is held: it holds its items still, or gave them all
+-- what a writer tells where memory had run out for what is held: it holds its items still, or gave them all
 abbrev pub GathersNone : WriterTells → WriterTells → Type 0
 GathersNone old new = HoldsStill old new ⊎ (new ≡ writer_given old None)
 
--- memory was wanting before the poll: the writer's items were not kept, and the reader was not polled
+-- memory had run out before the poll: the writer's items were not kept, and the reader was not polled
 pub record Ungathered (old new : Offering) : Type 0 where
   pub writer : HoldsStill old.writer new.writer
   pub reader : new.reader ≡ old.reader
@@ -190,8 +190,8 @@ pub record Unoffered (old new : Offering) : Type 0 where
   pub writer : new.writer ≡ writer_given old.writer None
   pub reader : KeepsReader old.reader new.reader
 
--- an offer for which memory was wanting adds no record
-pub record OfferWants (old new : Offering) : Type 0 where
+-- an offer for which memory had run out adds no record
+pub record OfferRunsOut (old new : Offering) : Type 0 where
   pub ends : Ungathered old new ⊎ Unoffered old new
   pub stream : new.stream ≡ old.stream
   pub consumer : new.consumer ≡ old.consumer
@@ -202,4 +202,4 @@ Offers (Ok answer) old new = (said : ReaderSaid) × OfferGoes old new answer sai
 Offers (Err reader_stops.Failed) old new = (said : ReaderSaid) × OfferFails old new said
 Offers (Err reader_stops.BadItem) old new = (said : ReaderSaid) × OfferSpoils old new said
 Offers (Err reader_stops.Broke) old new = (said : ReaderSaid) × OfferBreaks old new said
-Offers (Err reader_stops.OutOfMemory) old new = OfferWants old new
+Offers (Err reader_stops.OutOfMemory) old new = OfferRunsOut old new

@@ -93,8 +93,8 @@ pub record ReaderBreaks (old new : ReaderScene) (write : Operation) (said : Read
   pub broke : breaks_as_reader old.stream.kind said ≡ true
   pub after : new ≡ reader_turn_stopped old new.tells
 
--- a poll for which memory was wanting adds no record
-pub record ReaderWants (old new : ReaderScene) : Type 0 where
+-- a poll for which memory had run out adds no record
+pub record ReaderRunsOut (old new : ReaderScene) : Type 0 where
   pub tells : KeepsReader old.tells new.tells
   pub after : new ≡ reader_turn_stopped old new.tells
 
@@ -104,4 +104,4 @@ IsReaderTurn (Ok v) old new write = (said : ReaderSaid) × ReaderGoes old new wr
 IsReaderTurn (Err Failed) old new write = (said : ReaderSaid) × ReaderFails old new write said
 IsReaderTurn (Err BadItem) old new write = (said : ReaderSaid) × ReaderSpoils old new write said
 IsReaderTurn (Err Broke) old new write = (said : ReaderSaid) × ReaderBreaks old new write said
-IsReaderTurn (Err OutOfMemory) old new write = ReaderWants old new
+IsReaderTurn (Err OutOfMemory) old new write = ReaderRunsOut old new

@@ -107,8 +107,8 @@ pub record WriterBreaks (old new : WriterScene) (read : Operation) (said : Write
   pub broke : breaks_as_writer old.stream.kind said ≡ true
   pub stopped : WriterTurnStopped old new read (take read.left said.items)
 
--- a poll for which memory was wanting adds no record
-pub record WriterWants (old new : WriterScene) (read : Operation) (items : List Item) : Type 0 where
+-- a poll for which memory had run out adds no record
+pub record WriterRunsOut (old new : WriterScene) (read : Operation) (items : List Item) : Type 0 where
   pub tells : KeepsWriter old.tells new.tells
   pub stopped : WriterTurnStopped old new read items
 
@@ -117,7 +117,7 @@ abbrev pub IsWriterPoll : Result (Unit {0}) WriterStops → WriterScene → Writ
 IsWriterPoll (Ok v) old new read = (said : WriterSaid) × WriterGoes old new read said
 IsWriterPoll (Err Failed) old new read = (said : WriterSaid) × WriterFails old new read said
 IsWriterPoll (Err Broke) old new read = (said : WriterSaid) × WriterBreaks old new read said
-IsWriterPoll (Err OutOfMemory) old new read = (items : List Item) × WriterWants old new read items
+IsWriterPoll (Err OutOfMemory) old new read = (items : List Item) × WriterRunsOut old new read items
 
 -- THE TURN
 

@@ -24,7 +24,7 @@ pub record IsFaultless (left : Option (List ℕ)) (input : List ℕ)
   pub source : ¬ Rose source_before source_after
   pub sink : ¬ Rose sink_before sink_after
 
--- this status, or that of want of memory
+-- this status, or that of running out of memory
 abbrev pub IsOr : ℕ → ℕ → Type 0
 IsOr expected status = (status ≡ expected) ⊎ (status ≡ 9)
 

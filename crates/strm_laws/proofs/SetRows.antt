@@ -20,7 +20,8 @@ use Rattle.strm_machine.specs.Refusals.{refusal}
 use Rattle.strm_machine.specs.Moments.{decoded}
 use Rattle.strm_machine.specs.WaitableSets.{is_in_set, has_member, is_ready, ready_member}
 use Rattle.strm_memory.specs.Items.{decode_from, encode_from, items, stored}
-use Rattle.strm_waitable_sets.specs.Sets.{Sets, no_sets, set_of, is_number, is_member, with_new_set, handle_joined, handle_left}
+use Rattle.strm_waitable_sets.specs.Sets.{Sets, no_sets, set_of, is_member, with_new_set, handle_joined, handle_left}
+use Rattle.strm_codes.specs.OptionalNumbers.{is_number}
 use Rattle.strm_waitable_sets.proofs.SetLemmas.{is_member-left_same, is_member-left_other, is_member-joined_same, is_member-joined_other}
 use Rattle.strm_machine.proofs.SetStepLemmas.{ready_member-least, ready_member-none, has_member-some, has_member-none}
 use Rattle.strm_laws.specs.Conservation.{moments, handed, all_handed}

@@ -215,7 +215,7 @@ lines_unended bytes n e h f =
 
 -- lines that spell steps, and are not too many, are not read by running out of memory alone
 module _ (lines : List (List ℕ)) (steps : List Step) (spelled : Spells lines steps) where
-  pub wants_memory : {T L : Type 0} (r : Result T ParseError) (e : ParseError) → r ≡ Err e → (r ≡ Err error.TooLong → L) → ((line : ℕ) → r ≡ Err (error.BadLine line) → IsFirstBadLine lines line) → ¬ L → e ≡ error.OutOfMemory
-  wants_memory r error.TooLong is long bad within = absurd (within (long is))
-  wants_memory r (error.BadLine line) is long bad within = absurd (spelled_not_bad lines steps line spelled (bad line is))
-  wants_memory r error.OutOfMemory is long bad within = refl
+  pub runs_out_of_memory : {T L : Type 0} (r : Result T ParseError) (e : ParseError) → r ≡ Err e → (r ≡ Err error.TooLong → L) → ((line : ℕ) → r ≡ Err (error.BadLine line) → IsFirstBadLine lines line) → ¬ L → e ≡ error.OutOfMemory
+  runs_out_of_memory r error.TooLong is long bad within = absurd (within (long is))
+  runs_out_of_memory r (error.BadLine line) is long bad within = absurd (spelled_not_bad lines steps line spelled (bad line is))
+  runs_out_of_memory r error.OutOfMemory is long bad within = refl

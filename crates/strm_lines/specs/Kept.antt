@@ -2,7 +2,8 @@
 use Rattle.std.specs.Prelude.{◌≡◌, ℕ, List, length}
 use Rattle.std.specs.List.{count_by}
 use Rattle.strm_machine.specs.declared.replies.Reply.{Reply}
-use Rattle.strm_lines.specs.Text.{reply_lines, is_refusal, is_blocked}
+use Rattle.strm_lines.specs.Text.{reply_lines, is_refusal}
+use Rattle.strm_machine.specs.Moments.{is_blocked}
 
 -- a text is the lines of these replies, which are so many
 abbrev pub AreLines : List ℕ → ℕ → List Reply → Type 0

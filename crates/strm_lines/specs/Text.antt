@@ -3,7 +3,6 @@ use Rattle.std.specs.Prelude.{◌≡◌, ℕ, ◌+◌, ◌/◌, ◌%◌, Bool, t
 use Rattle.std.specs.List.{flat_map, count_by}
 use Rattle.strm_codes.specs.Codes.{word_of}
 use Rattle.strm_codes.specs.declared.codes.ReturnCode.{ReturnCode}
-use Rattle.strm_codes.specs.declared.codes.ReturnCode.TheVariants.{Blocked}
 use Rattle.strm_codes.specs.Refusals.{refusal_name}
 use Rattle.strm_machine.specs.declared.replies.Member as members
 use Rattle.strm_machine.specs.declared.replies.Reply.{Reply}
@@ -11,6 +10,7 @@ use Rattle.strm_machine.specs.declared.replies.Reply.TheVariants.{Done, Number, 
 use Rattle.strm_machine.specs.declared.stops.Stop.{Stop}
 use Rattle.strm_machine.specs.declared.stops.Stop.TheVariants as stops
 use Rattle.strm_machine.specs.declared.streams.HostEnd.{HostEnd}
+use Rattle.strm_machine.specs.Moments.{is_blocked}
 use Rattle.strm_machine.specs.declared.streams.HostEnd.TheVariants as ends
 use Rattle.strm_lines.specs.Words.{hex_pair, hex_pairs}
 use Rattle.strm_lines.specs.Grammar.{words}
@@ -86,11 +86,6 @@ transcript_text replies moved =
 abbrev pub is_refusal : Reply → Bool
 is_refusal (Refused refusal) = true
 is_refusal _ = false
-
--- a read or write that waits
-abbrev pub is_blocked : Reply → Bool
-is_blocked (Code Blocked) = true
-is_blocked _ = false
 
 -- how many replies there are of a kind, behind its word
 abbrev pub count_text : List ℕ → ℕ → List ℕ

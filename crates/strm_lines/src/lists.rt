@@ -16,10 +16,8 @@ fn push_item<T: Copy>(items: &mut Vec<T>, item: &T) -> Result<(), OutOfMemory>
     ensures ok { OnOk result (items.new.items ≡ items.old.items ++ item.now ∷ []) }
     ensures err { OnErr result (items.new.items ≡ items.old.items) }
 {
-    match items.push(*item) {
-        Ok(()) => Ok(()),
-        Err(_) => Err(OutOfMemory),
-    }
+    items.push(*item)?;
+    Ok(())
 }
 
 // Adds an item at the end, where there is room for it.
@@ -36,10 +34,8 @@ fn reserve_items<T>(items: &mut Vec<T>, additional: usize) -> Result<(), OutOfMe
     ensures same { items.new.items ≡ items.old.items }
     ensures ok { OnOk result (vec_len items.new + additional ≤ vec_capacity items.new) }
 {
-    match items.reserve(additional) {
-        Ok(()) => Ok(()),
-        Err(_) => Err(OutOfMemory),
-    }
+    items.reserve(additional)?;
+    Ok(())
 }
 
 /// A list of steps.
@@ -313,10 +309,8 @@ impl TextBytes {
         ensures ok { OnOk result (self.new ≡ self.old ++ bytes.now) }
         ensures err { OnErr result (self.new ≡ self.old) }
     {
-        match self.items.extend_from_slice(bytes) {
-            Ok(()) => Ok(()),
-            Err(_) => Err(OutOfMemory),
-        }
+        self.items.extend_from_slice(bytes)?;
+        Ok(())
     }
 
     /// How many bytes there are.

@@ -104,10 +104,8 @@ impl TakesSteps for StepRows {
     ghost room = { λ s. s.room };
 
     fn reserve(&mut self, additional: usize) -> Result<(), OutOfMemory> {
-        match self.rows.reserve(additional) {
-            Ok(()) => Ok(()),
-            Err(_) => Err(OutOfMemory),
-        }
+        self.rows.reserve(additional)?;
+        Ok(())
     }
 
     #[inline(always)]

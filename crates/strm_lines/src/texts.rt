@@ -6,7 +6,8 @@ ghost use Rattle.std.specs.Prelude.{◌≡◌, ◌∷◌, ◌++◌, [], ◌≤�
 ghost use Rattle.std.specs.List.{flat_map, count_by};
 ghost use Rattle.strm_lines.specs.Grammar.{words};
 ghost use Rattle.strm_lines.specs.Words.{hex_digit, hex_pairs};
-ghost use Rattle.strm_lines.specs.Text.{HasPart, line_ended, hex_word, count_text, reply_text, reply_lines, stream_text, stream_lines, done_text, transcript_text, is_refusal, is_blocked, summary_text, host_end_text, stop_text, stopped_text, usage_text, bad_line_text, too_long_text, read_fault_text};
+ghost use Rattle.strm_lines.specs.Text.{HasPart, line_ended, hex_word, count_text, reply_text, reply_lines, stream_text, stream_lines, done_text, transcript_text, is_refusal, summary_text, host_end_text, stop_text, stopped_text, usage_text, bad_line_text, too_long_text, read_fault_text};
+ghost use Rattle.strm_machine.specs.Moments.{is_blocked};
 
 use crate::lists::TextBytes;
 use itoa::{Buffer, Integer};

@@ -12,7 +12,8 @@ use Rattle.strm_handles.specs.Handles.{handle_limit, entry_at, next_index, inser
 use Rattle.strm_handles.specs.Lookups.{end_rep_in, end_rep_of, waitable_set_rep_in}
 use Rattle.strm_handles.specs.declared.entries.Entry.TheVariants as entries
 use Rattle.strm_handles.proofs.HandleLemmas.{IsTable-no_handles, IsTable-inserted, IsTable-removed, entry_at-next_index, entry_at-inserted-same, entry_at-inserted-other, entry_at-removed-same, entry_at-removed-other}
-use Rattle.strm_waitable_sets.specs.Sets.{is_set_there, is_number, is_member, least_free, with_new_set, handle_joined, handle_left, without_set}
+use Rattle.strm_waitable_sets.specs.Sets.{is_set_there, is_member, least_free, with_new_set, handle_joined, handle_left, without_set}
+use Rattle.strm_codes.specs.OptionalNumbers.{is_number}
 use Rattle.strm_waitable_sets.proofs.SetLemmas.{is_member-left_same, is_member-left_other, is_member-joined_same, is_member-joined_other, is_set_there-free, is_set_there-new, is_set_there-new_other, is_set_there-without_same, is_set_there-without_other}
 use Rattle.strm_machine.specs.Soundness.{handles_of, NamesSet}
 use Rattle.strm_machine.proofs.TurnLemmas.{sets_of}

@@ -62,10 +62,8 @@ impl GuestMemory {
     pub fn new(alloc: Global, size: u32) -> Result<GuestMemory, OutOfMemory>
         ensures { IfOk result (λ memory. memory ≡ untold (replicate size 0)) }
     {
-        match vec![in alloc; 0u8; size as usize] {
-            Ok(bytes) => Ok(GuestMemory::of_bytes(bytes)),
-            Err(_) => Err(OutOfMemory),
-        }
+        let bytes = vec![in alloc; 0u8; size as usize]?;
+        Ok(GuestMemory::of_bytes(bytes))
     }
 
     /// No bytes: what stands in place of a memory that is lent. Takes no memory.

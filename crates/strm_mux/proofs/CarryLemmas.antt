@@ -24,7 +24,7 @@ use Rattle.strm_frames.specs.Demuxes.{LanesHeard, IsDemuxFed}
 use Rattle.strm_frames.specs.Muxes.{Written, MuxCarries}
 use Rattle.strm_frames.proofs.ReadingLemmas.{one_split}
 use Rattle.strm_frames.proofs.DemuxLemmas.{nothing_part}
-use Rattle.strm_carry_laws.specs.OneStream.{byte_stream, reads_of, piece_of, piece_steps, script_of, CanCarry, AreSettled}
+use Rattle.strm_carry_laws.specs.OneStream.{carried_type, reads_of, piece_of, piece_steps, script_of, CanCarry, AreSettled}
 use Rattle.strm_mux.specs.Carrying.{DeliversFrames, IsOneCount}
 
 -- THE SCRIPT
@@ -57,7 +57,7 @@ few_reads (suc f) r zero o = few_none 0
 few_reads (suc f) r (suc j) o =
     let k : ℕ = min r (suc j) in
     let more = few_reads f r (suc j - k) o in
-    few_more (steps.Read 1 byte_stream 1 0 r) (steps.Dump 1 0 k ∷ reads_of f r (suc j - k)) (2 * (suc j - k) + 1) (2 * suc j) refl
+    few_more (steps.Read 1 carried_type 1 0 r) (steps.Dump 1 0 k ∷ reads_of f r (suc j - k)) (2 * (suc j - k) + 1) (2 * suc j) refl
     (few_more (steps.Dump 1 0 k) (reads_of f r (suc j - k)) (2 * (suc j - k)) (2 * (suc j - k) + 1) refl more (omega arith)) (omega arith)
 
 few_piece : (r : ℕ) (p : List ℕ) → 0 < r → 0 < length p → AreFew (piece_of r p) (5 * length p)
@@ -65,8 +65,8 @@ few_piece r p o h =
     let n : ℕ = length p in
     let told = few_more (steps.Event 0 1) [] 0 1 refl (few_none 0) (omega arith) in
     let late = few_both (reads_of n r n) (steps.Event 0 1 ∷ []) (2 * n) 1 (2 * n + 1) (few_reads n r n o) told (omega arith) in
-    few_more (steps.Poke 0 0 p) (steps.Write 0 byte_stream 1 0 n ∷ (reads_of n r n ++ steps.Event 0 1 ∷ [])) (2 * n + 2) (5 * n) refl
-    (few_more (steps.Write 0 byte_stream 1 0 n) (reads_of n r n ++ steps.Event 0 1 ∷ []) (2 * n + 1) (2 * n + 2) refl late (omega arith)) (omega arith)
+    few_more (steps.Poke 0 0 p) (steps.Write 0 carried_type 1 0 n ∷ (reads_of n r n ++ steps.Event 0 1 ∷ [])) (2 * n + 2) (5 * n) refl
+    (few_more (steps.Write 0 carried_type 1 0 n) (reads_of n r n ++ steps.Event 0 1 ∷ []) (2 * n + 1) (2 * n + 2) refl late (omega arith)) (omega arith)
 
 few_pieces : (f w r : ℕ) (bytes : List ℕ) → 0 < w → 0 < r → AreFew (piece_steps f w r bytes) (5 * length bytes)
 unfolding piece_steps
@@ -83,9 +83,9 @@ few_script : (w r : ℕ) (bytes : List ℕ) → CanCarry w r bytes → AreFew (s
 few_script w r bytes c =
     let n : ℕ = 5 * length bytes in
     let all : List Step = piece_steps (length bytes) w r bytes in
-    few_more (steps.Guest 64) (steps.Guest 64 ∷ steps.Between 0 1 byte_stream ∷ all) (n + 2) (n + 3) refl
-    (few_more (steps.Guest 64) (steps.Between 0 1 byte_stream ∷ all) (n + 1) (n + 2) refl
-    (few_more (steps.Between 0 1 byte_stream) all n (n + 1) refl (few_pieces (length bytes) w r bytes c.some_written c.some_read) (omega arith)) (omega arith)) (omega arith)
+    few_more (steps.Guest 64) (steps.Guest 64 ∷ steps.Between 0 1 carried_type ∷ all) (n + 2) (n + 3) refl
+    (few_more (steps.Guest 64) (steps.Between 0 1 carried_type ∷ all) (n + 1) (n + 2) refl
+    (few_more (steps.Between 0 1 carried_type) all n (n + 1) refl (few_pieces (length bytes) w r bytes c.some_written c.some_read) (omega arith)) (omega arith)) (omega arith)
 
 pub can_carry : (w r : ℕ) (bytes : List ℕ) → IsBytes bytes → length bytes ≤ 1048576 → (16 ≤ w) × (w ≤ 64) → (16 ≤ r) × (r ≤ 64) → CanCarry w r bytes
 can_carry w r bytes b l h k = record { are_bytes = b; few = l; some_written = omega (arith, h.0); most_written = h.1; some_read = omega (arith, k.0); most_read = k.1 }

@@ -3,7 +3,7 @@ use Rattle.std.proofs.Common.{◌≡◌, ℕ, zero, suc, ◌-◌, ◌<◌, ◌�
 use Rattle.std.proofs.lemmas.List.{append-nil, append_assoc, take_min, drop_min, nil_from_length}
 use Rattle.strm_machine.specs.declared.steps.Step.{Step}
 use Rattle.strm_machine.specs.declared.steps.Step.TheVariants as steps
-use Rattle.strm_carry_laws.specs.OneStream.{byte_stream, reads_of, piece_of, piece_steps, script_of}
+use Rattle.strm_carry_laws.specs.OneStream.{carried_type, reads_of, piece_of, piece_steps, script_of}
 
 -- it doesn't matter how many reads may come, if it's enough
 reads_enough : (f g r j : ℕ) → 0 < r → j ≤ f → j ≤ g → reads_of f r j ≡ reads_of g r j
@@ -15,18 +15,18 @@ reads_enough (suc f) zero r zero o h k = refl
 reads_enough (suc f) zero r (suc j) o h k = absurd (omega arith)
 reads_enough (suc f) (suc g) r zero o h k = refl
 reads_enough (suc f) (suc g) r (suc j) o h k =
-    ap (λ (more : List Step). steps.Read 1 byte_stream 1 0 r ∷ steps.Dump 1 0 (min r (suc j)) ∷ more)
+    ap (λ (more : List Step). steps.Read 1 carried_type 1 0 r ∷ steps.Dump 1 0 (min r (suc j)) ∷ more)
     (reads_enough f g r (suc j - min r (suc j)) o (omega arith) (omega arith))
 
 reads_none : (r : ℕ) → reads_of 0 r 0 ≡ []
 unfolding reads_of
 reads_none r = refl
 
-reads_some : (r j : ℕ) → 0 < r → 0 < j → reads_of j r j ≡ steps.Read 1 byte_stream 1 0 r ∷ steps.Dump 1 0 (min r j) ∷ reads_of (j - min r j) r (j - min r j)
+reads_some : (r j : ℕ) → 0 < r → 0 < j → reads_of j r j ≡ steps.Read 1 carried_type 1 0 r ∷ steps.Dump 1 0 (min r j) ∷ reads_of (j - min r j) r (j - min r j)
 unfolding reads_of
 reads_some r zero o p = absurd (omega arith)
 reads_some r (suc j) o p =
-    ap (λ (more : List Step). steps.Read 1 byte_stream 1 0 r ∷ steps.Dump 1 0 (min r (suc j)) ∷ more)
+    ap (λ (more : List Step). steps.Read 1 carried_type 1 0 r ∷ steps.Dump 1 0 (min r (suc j)) ∷ more)
     (reads_enough j (suc j - min r (suc j)) r (suc j - min r (suc j)) o (omega arith) (omega arith))
 
 -- the steps so far, and the reads of what is left, are all
@@ -36,12 +36,12 @@ pub record ReadsSoFar (old now : List Step) (r len left : ℕ) : Type 0 where
 pub reads_begin : (old : List Step) (r len : ℕ) → ReadsSoFar old old r len len
 reads_begin old r len = record { goes_on = refl }
 
-pub reads_more : (old now new : List Step) (r len left count : ℕ) → 0 < r → 0 < left → count ≡ min r left → new ≡ now ++ steps.Read 1 byte_stream 1 0 r ∷ steps.Dump 1 0 count ∷ [] → ReadsSoFar old now r len left → ReadsSoFar old new r len (left - count)
+pub reads_more : (old now new : List Step) (r len left count : ℕ) → 0 < r → 0 < left → count ≡ min r left → new ≡ now ++ steps.Read 1 carried_type 1 0 r ∷ steps.Dump 1 0 count ∷ [] → ReadsSoFar old now r len left → ReadsSoFar old new r len (left - count)
 reads_more old now new r len left count o p c n a =
-    let here : reads_of left r left ≡ steps.Read 1 byte_stream 1 0 r ∷ steps.Dump 1 0 count ∷ reads_of (left - count) r (left - count) = rw c (reads_some r left o p) in
+    let here : reads_of left r left ≡ steps.Read 1 carried_type 1 0 r ∷ steps.Dump 1 0 count ∷ reads_of (left - count) r (left - count) = rw c (reads_some r left o p) in
     record {
       goes_on = ap (λ (s : List Step). s ++ reads_of (left - count) r (left - count)) n
-          ∙ append_assoc now (steps.Read 1 byte_stream 1 0 r ∷ steps.Dump 1 0 count ∷ []) (reads_of (left - count) r (left - count))
+          ∙ append_assoc now (steps.Read 1 carried_type 1 0 r ∷ steps.Dump 1 0 count ∷ []) (reads_of (left - count) r (left - count))
           ∙ ap (λ (s : List Step). now ++ s) (sym here) ∙ a.goes_on;
     }
 
@@ -80,8 +80,8 @@ pieces_some w r (b ∷ bytes) o p =
 pub record PiecesSoFar (now : List Step) (w r : ℕ) (bytes left : List ℕ) : Type 0 where
   pub goes_on : now ++ piece_steps (length left) w r left ≡ script_of w r bytes
 
-pub pieces_begin : (none now : List Step) (w r : ℕ) (bytes : List ℕ) → none ≡ [] → now ≡ none ++ steps.Guest 64 ∷ steps.Guest 64 ∷ steps.Between 0 1 byte_stream ∷ [] → PiecesSoFar now w r bytes bytes
-pieces_begin none now w r bytes z n = record { goes_on = ap (λ (s : List Step). s ++ piece_steps (length bytes) w r bytes) (n ∙ ap (λ (s : List Step). s ++ steps.Guest 64 ∷ steps.Guest 64 ∷ steps.Between 0 1 byte_stream ∷ []) z) }
+pub pieces_begin : (none now : List Step) (w r : ℕ) (bytes : List ℕ) → none ≡ [] → now ≡ none ++ steps.Guest 64 ∷ steps.Guest 64 ∷ steps.Between 0 1 carried_type ∷ [] → PiecesSoFar now w r bytes bytes
+pieces_begin none now w r bytes z n = record { goes_on = ap (λ (s : List Step). s ++ piece_steps (length bytes) w r bytes) (n ∙ ap (λ (s : List Step). s ++ steps.Guest 64 ∷ steps.Guest 64 ∷ steps.Between 0 1 carried_type ∷ []) z) }
 
 -- the next piece, and what follows it
 pub record IsCut (w : ℕ) (left piece more : List ℕ) : Type 0 where

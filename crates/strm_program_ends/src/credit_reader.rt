@@ -130,10 +130,7 @@ impl HostReader for CreditReader {
             records: self.said.len(),
             count,
         };
-        match self.heard.push(grant) {
-            Ok(()) => {}
-            Err(_) => return Err(OutOfMemory),
-        }
+        self.heard.push(grant)?;
         self.credit = self.credit.saturating_add(count as u64);
         self.is_ended = self.is_ended || count == 0;
         Ok(())

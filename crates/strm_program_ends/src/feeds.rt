@@ -197,8 +197,6 @@ fn append(bytes: &mut Vec<u8>, more: &[u8]) -> Result<(), OutOfMemory>
     if more.is_empty() {
         return Ok(());
     }
-    match bytes.extend_from_slice(more) {
-        Ok(()) => Ok(()),
-        Err(_) => Err(OutOfMemory),
-    }
+    bytes.extend_from_slice(more)?;
+    Ok(())
 }

@@ -198,10 +198,7 @@ impl QueueWriter {
         ensures closed { self.new.closed ≡ self.old.closed }
         ensures fills { Fills window.old window.new }
     {
-        match self.polls.reserve(1) {
-            Ok(()) => {}
-            Err(_) => return Err(OutOfMemory),
-        }
+        self.polls.reserve(1)?;
         self.fed.sound();
         let room = window.room();
         let queued = self.fed.len() - self.given;

@@ -198,10 +198,8 @@ fn make_room(kept: &mut Vec<u8>, keeps: bool, more: usize) -> Result<(), OutOfMe
     if !keeps {
         return Ok(());
     }
-    match kept.reserve(more) {
-        Ok(()) => Ok(()),
-        Err(_) => Err(OutOfMemory),
-    }
+    kept.reserve(more)?;
+    Ok(())
 }
 
 // Puts bytes behind others, where they are to be kept.

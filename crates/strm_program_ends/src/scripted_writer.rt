@@ -202,10 +202,8 @@ impl ScriptedWriter {
             items: Items::new(self.alloc, self.payload),
             answer: Answer::Pending,
         };
-        match self.turns.push(turn) {
-            Ok(()) => Ok(()),
-            Err(_) => Err(OutOfMemory),
-        }
+        self.turns.push(turn)?;
+        Ok(())
     }
 
     // Does the next turn: what there is room for is marked, and the rest is held.
@@ -234,10 +232,7 @@ impl ScriptedWriter {
         ensures fills { Fills window.old window.new }
     {
         let room = window.room();
-        match self.said.reserve(1) {
-            Ok(()) => {}
-            Err(_) => return Err(OutOfMemory),
-        }
+        self.said.reserve(1)?;
         let next = &self.turns[0].items;
         next.sound();
         let count = mark_in_room(window, next)?;

@@ -7,7 +7,8 @@ use Rattle.std.specs.Cmp.{unsigned_Decides, nat_eq_equiv}
 use Rattle.std.specs.FinSet as set
 use Rattle.std.specs.Prelude.{Result, Ok, Err, IfOk, OnOk, nat_eq, nat_lt, ◌↔◌, IsTrue}
 use Rattle.strm_resources.specs.Nodes.{node_at}
-use Rattle.strm_resources.specs.Links.{is_among, is_number}
+use Rattle.strm_resources.specs.Links.{is_among}
+use Rattle.strm_codes.specs.OptionalNumbers.{is_number}
 use Rattle.strm_resources.specs.Entries.{Entries, value_at, parent_of, children_of, next_number, pushed}
 use Rattle.strm_resources.specs.WellKept.{IsWellKept}
 use Rattle.strm_resources.proofs.SlotLemmas.{slot-filled}

@@ -13,7 +13,8 @@ use Rattle.std.specs.List.{IsDistinct, AllByRecursion}
 use Rattle.std.specs.Ordering.{nat_cmp}
 use Rattle.std.specs.Prelude.{nat_eq, nat_lt, is_none, option_map, option_and_then}
 use Rattle.strm_resources.specs.Nodes.{Node, node_at, children_of, parent_at, children_at, is_childless, new_node, with_parent, with_child, without_child, with_node, linked, unlinked, cut_from, cut, next_node, filled}
-use Rattle.strm_resources.specs.Links.{is_among, is_number, is_vacant, IsLinked}
+use Rattle.strm_resources.specs.Links.{is_among, is_vacant, IsLinked}
+use Rattle.strm_codes.specs.OptionalNumbers.{is_number}
 use Rattle.strm_resources.proofs.NodeLemmas.{contains-inserted, contains-removed, lacks-childless}
 use Rattle.strm_resources.proofs.SlotLemmas.{by_eq, eq-other, slot-set, slot-filled, node_at-changed, length-changed}
 

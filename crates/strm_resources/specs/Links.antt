@@ -4,6 +4,7 @@ use Rattle.std.specs.Prelude.{◌≡◌, ℕ, ◌≤◌, Bool, true, false, ◌&
 use Rattle.std.specs.Coded.{Coded, code_by, coded×, coded_ℕ, coded_list, coded_option}
 use Rattle.std.specs.FinSet as set
 use Rattle.std.specs.List.{list_any, IsDistinct}
+use Rattle.strm_codes.specs.OptionalNumbers.{is_number}
 use Rattle.strm_resources.specs.Nodes.{Node, node_code, node_at, parent_at, children_at}
 
 -- the node of each number from 0 on, the freed numbers, the last freed first, and how many
@@ -26,11 +27,6 @@ links_code =
 -- the number is among these
 abbrev pub is_among : List ℕ → ℕ → Bool
 is_among numbers number = list_any (nat_eq number) numbers
-
--- the optional number is this one
-abbrev pub is_number : Option ℕ → ℕ → Bool
-is_number None number = false
-is_number (Some other) number = nat_eq other number
 
 -- a number below the length, with no node
 abbrev pub is_vacant : List (Option Node) → ℕ → Bool

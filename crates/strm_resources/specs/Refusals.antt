@@ -3,7 +3,8 @@
 -- are ours, in place of assertions.
 use Rattle.std.specs.Prelude.{ℕ, nat_eq, length, if◌then◌else◌, Option, Some, None, is_some, is_none}
 use Rattle.strm_resources.specs.Nodes.{is_childless}
-use Rattle.strm_resources.specs.Links.{is_number, is_full}
+use Rattle.strm_resources.specs.Links.{is_full}
+use Rattle.strm_codes.specs.OptionalNumbers.{is_number}
 use Rattle.strm_resources.specs.Entries.{Entries, EntryTable, value_at, parent_of, children_of}
 use Rattle.strm_resources.specs.declared.errors.ResourceTableError.{ResourceTableError}
 use Rattle.strm_resources.specs.declared.errors.ResourceTableError.TheVariants.{Full, NotPresent, WrongType, HasChildren, HasParent, NotChild}

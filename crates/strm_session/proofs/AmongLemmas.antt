@@ -30,9 +30,9 @@ use Rattle.strm_host_machine.specs.Does.{Logs, saids, Extends, is_ended, first_d
 use Rattle.strm_host_machine.proofs.DoesLemmas.{rose_more, extends_self}
 use Rattle.strm_host_machine.proofs.GrowLemmas.{supplied_since_itself}
 use Rattle.strm_session.specs.Records.{HostsGoOn}
-use Rattle.strm_session.specs.Runs.{run_start, start_among, stop_of, halted_in, HaltsBy, Raised, StaysThere, StopsAsking, WantsUnmet, StopsAmong, WantsThere, Before, Behind, InPoll, BeforeOffer, StopsWanting, WantsStep, Polling, Untouched, Unkept, LeavesWanting}
+use Rattle.strm_session.specs.Runs.{run_start, start_among, stop_of, halted_in, HaltsBy, Raised, StaysThere, StopsAsking, RunsOutUnmet, StopsAmong, RunsOutThere, Before, Behind, InPoll, BeforeOffer, StopsOutOfMemory, RunsOutStep, Polling, Untouched, Unkept, LeavesOutOfMemory}
 use Rattle.strm_transmit.specs.Hosted.{lone}
-use Rattle.strm_transmit.specs.WantsMemory.{WantsInPoll, InAPoll, InADrive}
+use Rattle.strm_transmit.specs.OutOfMemory.{RunsOutInPoll, InAPoll, InADrive}
 use Rattle.strm_session.specs.declared.runs.RunCause.{RunCause}
 use Rattle.strm_session.specs.declared.runs.RunCause.TheVariants as causes
 use Rattle.strm_session.proofs.PlayLemmas.{IsAt, take-at}
@@ -173,7 +173,7 @@ module _ (old now new : Tells) (steps : List Step) (k : ℕ) (step : Step) (told
   asking gone _ n t d = tt
 
   -- in a step that wants memory guests do not meet at a bad item
-  unmet_there : (cause : RunCause) → length told ≡ k → (cause ≡ causes.OutOfMemory → (s : ℕ) → GuestAsksBad (lone state) step s → ⊥) → WantsUnmet before_it steps told cause
+  unmet_there : (cause : RunCause) → length told ≡ k → (cause ≡ causes.OutOfMemory → (s : ℕ) → GuestAsksBad (lone state) step s → ⊥) → RunsOutUnmet before_it steps told cause
   unmet_there causes.OutOfMemory n m = λ other s next g.
       let here : slice_get steps (length told) ≡ Some step = ap (slice_get steps) n ∙ slice_get-get_or steps k step at.inside ∙ ap Some at.is in
       let both = sym next ∙ here in
@@ -215,11 +215,11 @@ module _ (old now new : Tells) (steps : List Step) (k : ℕ) (step : Step) (told
   untouched same = replied (subst (λ t. Extends now (saids t)) (sym same) (extends_self now)) ∙ ap (λ t. Ends told (world_of state t (saids new))) (sym same)
 
   -- had the host end that was polled failed
-  polled_there : WantsInPoll state now new (λ w. outcome_of_step w step) → WantsThere old new steps told
+  polled_there : RunsOutInPoll state now new (λ w. outcome_of_step w step) → RunsOutThere old new steps told
   polled_there w =
       InPoll w.end w.more w.fails (halts_by old now w.more steps k step told state w.state at l (gone w.more) (Some (HostFailed w.end)) w.does)
 
-  pub wants_there : Extends now (saids new) → WantsStep state next now new step → WantsThere old new steps told
+  pub wants_there : Extends now (saids new) → RunsOutStep state next now new step → RunsOutThere old new steps told
   wants_there e (Polling (InAPoll w)) = polled_there w
   wants_there e (Polling (InADrive s m r drives b)) = BeforeOffer (record {
     world = world_of state now (saids new);
@@ -242,11 +242,11 @@ module _ (old now new : Tells) (steps : List Step) (k : ℕ) (step : Step) (told
       ∙ ap (host_play [] among) (sym (append-nil (take (k + 1) steps)))
       ∙ (more.led (saids new) (extends_self new)).goes_on [])
 
-  pub wanting_there : (cause : RunCause) → Extends now (saids new) → LeavesWanting state next now new step cause → StopsWanting old new steps told (stop_of cause)
-  wanting_there causes.OutOfMemory e w = wants_there e w
-  wanting_there (causes.HostFailed end) e w = tt
-  wanting_there (causes.HostBroke end) e w = tt
-  wanting_there (causes.BadItem s) e w = tt
+  pub out_of_memory_there : (cause : RunCause) → Extends now (saids new) → LeavesOutOfMemory state next now new step cause → StopsOutOfMemory old new steps told (stop_of cause)
+  out_of_memory_there causes.OutOfMemory e w = wants_there e w
+  out_of_memory_there (causes.HostFailed end) e w = tt
+  out_of_memory_there (causes.HostBroke end) e w = tt
+  out_of_memory_there (causes.BadItem s) e w = tt
 
 -- the records of before stay in front
 pub begins_among : (old new : Tells) (steps : List Step) (k : ℕ) (told : List Reply) (state : State) (now : Tells) → LedAmong old steps k told state now → Extends now (saids new) → Extends old (saids new)

@@ -23,11 +23,11 @@ use Rattle.strm_session.specs.declared.playing.Ended.{Ended}
 use Rattle.strm_session.specs.declared.runs.RunCause.{RunCause}
 use Rattle.strm_session.specs.declared.runs.RunCause.TheVariants as causes
 use Rattle.strm_session.specs.Records.{StopsByRecord, StopRules}
-use Rattle.strm_session.specs.Runs.{run_start, start_among, AreOfGuests, counts_of, stop_of, StopsAmong, StopsWanting, LeavesWanting, Before, StopsStep, StopsAt, HasStopped}
+use Rattle.strm_session.specs.Runs.{run_start, start_among, AreOfGuests, counts_of, stop_of, StopsAmong, StopsOutOfMemory, LeavesOutOfMemory, Before, StopsStep, StopsAt, HasStopped}
 use Rattle.strm_session.specs.Playing.{IsRunPlayed, HasRun}
 use Rattle.strm_session.proofs.PlayLemmas.{IsAt, stops, stopped_before}
 use Rattle.strm_host_machine.proofs.DoesLemmas.{extends_self}
-use Rattle.strm_session.proofs.AmongLemmas.{WritersGone, LedAmong, led_none, led_more, begins_among, runs_to, stops_among, stops_behind, wanting_there}
+use Rattle.strm_session.proofs.AmongLemmas.{WritersGone, LedAmong, led_none, led_more, begins_among, runs_to, stops_among, stops_behind, out_of_memory_there}
 use Rattle.strm_session.proofs.KeptLemmas.{LawsAmong, LeadsAmong, WritersClose, ReadersClose, WritersStop, ReadersStop, are_first, kept_among, stop_kept, stop_closes, stop_uses, delivers_each}
 use Rattle.strm_session.proofs.LawLemmas.{LawsHold, StepHolds, run_kept, front_kept}
 use Rattle.strm_session.proofs.RecordLemmas.{KeepOn, keep_none, rules_of_stop, rules_more, hosts_before, stops_by_record}
@@ -98,7 +98,7 @@ module _ (old now new : Tells) (steps left rest : List Step) (k : ℕ) (step : S
 
     module _ (cause : RunCause) (here : StepHasBytes step) (d : Does state next now new (Err (stop_of cause)) (λ w. outcome_of_step w step))
         (unmet : cause ≡ causes.OutOfMemory → (s : ℕ) → GuestAsksBad (lone state) step s → ⊥)
-        (wants : LeavesWanting state next now new step cause) (alone : Aside (StopsStep told state step cause × (new ≡ now))) where
+        (wants : LeavesOutOfMemory state next now new step cause) (alone : Aside (StopsStep told state step cause × (new ≡ now))) where
       stopped_so : IsRunPlayed old new steps told next (Err cause)
       stopped_so =
           let begins = begins_among old now steps k told state now p.led (extends_self now) in
@@ -109,7 +109,7 @@ module _ (old now new : Tells) (steps left rest : List Step) (k : ℕ) (step : S
             by_record = stops_by_record old now new state next step (stop_of cause) begins hold p.fits d;
             rules_kept = tt;
             rules = rules_of_stop old now new state next step (stop_of cause) p.keeps hold p.fits d;
-            wanting = wanting_there old now new steps k step told state next at.0 p.led p.count gone cause (d.begins _ (extends_self new)) wants;
+            out_of_memory = out_of_memory_there old now new steps k step told state next at.0 p.led p.count gone cause (d.begins _ (extends_self new)) wants;
             alone = λ _. tt;
             stop_alone = λ all.
                 let l = alone_before old now steps k told state p.alone all in (
@@ -144,7 +144,7 @@ played_all old now steps left k told state u p e =
       by_record = tt;
       rules_kept = p.keeps.rules;
       rules = tt;
-      wanting = tt;
+      out_of_memory = tt;
       alone = λ all.
           ap (play [] run_start) (sym (append-nil (take k steps) ∙ take_all k steps whole))
           ∙ (alone_before old now steps k told state p.alone all).so_far [];
@@ -176,14 +176,14 @@ module _ (laws : LawsHold) (aside : StepHolds StaysAside) (put : StepHolds LieTh
 
   -- why it stopped, and what held before
   stopped_by : (c : RunCause) → BytesTo (length told) → BytesTo (length told + 1) → StopsAmong old new steps told c → StopsByRecord old new (stop_of c) → StopRules (stop_of c) old new
-      → StopsWanting old new steps told (stop_of c) → StoppedAlone steps told c → HasStopped old new steps told c
-  stopped_by cause bytes there stop by_record rules wanting alone = record {
+      → StopsOutOfMemory old new steps told (stop_of c) → StoppedAlone steps told c → HasStopped old new steps told c
+  stopped_by cause bytes there stop by_record rules out_of_memory alone = record {
     stops = stop;
     by_record = by_record;
     rules = rules;
     closes = stop_closes (start_among old new) steps (writers_close old new steps) (readers_close old new steps) told new (stop_of cause) stop.halts;
     uses = stop_uses (start_among old new) steps (writers_stop old new steps) (readers_stop old new steps) told new (stop_of cause) stop.halts;
-    wanting = wanting;
+    out_of_memory = out_of_memory;
     kept_before = stop_kept old new (among old new) (leads old new) steps told cause (are_first steps (length told) few bytes) stop;
     kept_until = among old new (take (length told + 1) steps) (are_first steps (length told + 1) few there);
     alone = λ all.
@@ -200,7 +200,7 @@ module _ (laws : LawsHold) (aside : StepHolds StaysAside) (put : StepHolds LieTh
   run_stopped cause p = record {
     ok = tt;
     received = tt;
-    stop = stopped_by cause p.bytes p.bytes_there p.stop p.by_record p.rules p.wanting p.stop_alone;
+    stop = stopped_by cause p.bytes p.bytes_there p.stop p.by_record p.rules p.out_of_memory p.stop_alone;
     hosts = p.hosts;
     goes_on = p.goes_on;
     count = p.count;

@@ -82,7 +82,7 @@ module _ (old new : Tells) (steps : List Step) (told : List Reply) (status : ℕ
   stands_for (causes.BadItem x) why stop s h halts = subst (StandsFor status) (ap stop_in (sym h ∙ halts.3)) s.0
   stands_for causes.OutOfMemory why stop s h halts = absurd s
 
-  -- a run that stops but for want of memory has a cause
+  -- a run that stops but for running out of memory has a cause
   no_cause : (cause : RunCause) (why : Stop) → IsStatusOf status cause why → HasStopped old new steps told cause → NoneRose old new → ObeyRules old new → AsksItems (start_among old new) steps → ⊥
   no_cause cause why s h none obey items = untold cause why s (only_memory old new steps told cause h none obey items)
     where
@@ -330,7 +330,7 @@ module _ (words : List (List ℕ)) (a b d : List ℕ) (are : words ≡ a ∷ b �
         ap (λ k. Some (k, seed)) m ∙ ap (λ k. Some (n, k)) t),
   )
 
--- a status of a text is none of a fault of the sink, and none of want of memory
+-- a status of a text is none of a fault of the sink, and none of running out of memory
 pub known_status : (status : ℕ) → Known status → status ≤ 9
 known_status status k = ⊎_elim (λ l. omega (arith, l)) (λ s. omega (arith, s.1)) k
 

@@ -19,7 +19,7 @@ use Rattle.strm_transmit.specs.Meets.{Meets, act_takes_memory, takes_memory}
 use Rattle.strm_transmit.specs.Hosted.{call_answered, lone, Wanting, Leaves}
 use Rattle.strm_transmit.specs.declared.errors.StoreError.{StoreError}
 use Rattle.strm_transmit.specs.declared.errors.StoreError.TheVariants as errors
-use Rattle.strm_session.specs.Runs.{stop_of, StopsStep, WantsStep, Polling, Untouched, LeavesWanting}
+use Rattle.strm_session.specs.Runs.{stop_of, StopsStep, RunsOutStep, Polling, Untouched, LeavesOutOfMemory}
 use Rattle.strm_session.specs.declared.runs.RunCause.{RunCause}
 use Rattle.strm_session.specs.declared.runs.RunCause.TheVariants as causes
 use Rattle.strm_session.proofs.PlayLemmas.{goes_on_done}
@@ -37,8 +37,8 @@ never_trapped old new tells told step t d =
     subst Running (d.gives (saids told) (extends_self told)) (step-runs (world_of old tells (saids told)) step t) refl
 
 -- a step whose reply finds no memory
-pub does_wanting : (old new : State) (tells told : Tells) (reply : Reply) (machine : World → Outcome) → Does old new tells told (Ok reply) machine → Does old new tells told (Err None) machine
-does_wanting old new tells told reply machine d = record {
+pub does_out_of_memory : (old new : State) (tells told : Tells) (reply : Reply) (machine : World → Outcome) → Does old new tells told (Ok reply) machine → Does old new tells told (Err None) machine
+does_out_of_memory old new tells told reply machine d = record {
   begins = d.begins;
   gives = λ logs e. tt;
   supplied = d.supplied;
@@ -69,23 +69,23 @@ none_wanted (errors.BadItem s) e = cc
 none_wanted errors.StoreTrapped e = cc
 none_wanted errors.OutOfMemory e = refl
 
--- which error is told as want of memory
+-- which error is told as running out of memory
 pub wanted_error : (error : StoreError) (cause : RunCause) → ◌≡◌ {A = Answered} (call_answered (Err error)) (Err (stop_of cause)) → cause ≡ causes.OutOfMemory → error ≡ errors.OutOfMemory
 wanted_error error cause e o = none_wanted error (e ∙ ap (λ c. Err (stop_of c)) o)
 
 -- what a step leaves that found no memory
-pub leaves_wanting : (old new : State) (tells told : Tells) (step : Step) (error : StoreError) (cause : RunCause) → ◌≡◌ {A = Answered} (call_answered (Err error)) (Err (stop_of cause)) → Leaves (act_of step) old new tells told error → LeavesWanting old new tells told step cause
-leaves_wanting old new tells told step errors.OutOfMemory causes.OutOfMemory e l = by (may_poll (lone old) (act_of step)) l
+pub leaves_out_of_memory : (old new : State) (tells told : Tells) (step : Step) (error : StoreError) (cause : RunCause) → ◌≡◌ {A = Answered} (call_answered (Err error)) (Err (stop_of cause)) → Leaves (act_of step) old new tells told error → LeavesOutOfMemory old new tells told step cause
+leaves_out_of_memory old new tells told step errors.OutOfMemory causes.OutOfMemory e l = by (may_poll (lone old) (act_of step)) l
   where
-    by : (b : Bool) → Wanting b (act_of step) old new tells told → WantsStep old new tells told step
+    by : (b : Bool) → Wanting b (act_of step) old new tells told → RunsOutStep old new tells told step
     by true l = Polling l.wants
     by false l = Untouched l.same l.ends
-leaves_wanting old new tells told step (errors.Refused refusal) causes.OutOfMemory e l = cc
-leaves_wanting old new tells told step (errors.HostFailed end) causes.OutOfMemory e l = cc
-leaves_wanting old new tells told step (errors.HostBroke end) causes.OutOfMemory e l = cc
-leaves_wanting old new tells told step (errors.BadItem s) causes.OutOfMemory e l = cc
-leaves_wanting old new tells told step errors.StoreTrapped causes.OutOfMemory e l = cc
-leaves_wanting old new tells told step error _ e l = tt
+leaves_out_of_memory old new tells told step (errors.Refused refusal) causes.OutOfMemory e l = cc
+leaves_out_of_memory old new tells told step (errors.HostFailed end) causes.OutOfMemory e l = cc
+leaves_out_of_memory old new tells told step (errors.HostBroke end) causes.OutOfMemory e l = cc
+leaves_out_of_memory old new tells told step (errors.BadItem s) causes.OutOfMemory e l = cc
+leaves_out_of_memory old new tells told step errors.StoreTrapped causes.OutOfMemory e l = cc
+leaves_out_of_memory old new tells told step error _ e l = tt
 
 -- the same answer by another word
 pub does_answering : {old new : State} {tells told : Tells} {machine : World → Outcome} (a b : Answered) → a ≡ b → Does old new tells told a machine → Does old new tells told b machine

@@ -20,7 +20,7 @@ use Rattle.strm_host_machine.specs.Does.{RunsTo}
 use Rattle.strm_host_machine.proofs.AskingLemmas.{asks-stops}
 use Rattle.strm_machine.specs.declared.streams.HostEnd.TheVariants as ends
 use Rattle.strm_session.specs.Records.{NoneRose, ObeyRules}
-use Rattle.strm_session.specs.Runs.{start_among, AsksBad, AsksItems, WantsBy, WantsUnmet, StopsAmong, StopsIn, HasStopped, IsDecided}
+use Rattle.strm_session.specs.Runs.{start_among, AsksBad, AsksItems, RunsOutBy, RunsOutUnmet, StopsAmong, StopsIn, HasStopped, IsDecided}
 use Rattle.strm_session.specs.declared.runs.RunCause.{RunCause}
 use Rattle.strm_session.specs.declared.runs.RunStop.{RunStop}
 use Rattle.strm_session.specs.declared.runs.Transcript.{Transcript}
@@ -94,7 +94,7 @@ module _ (old new : Tells) (steps : List Step) where
   LedTo replies world = host_play [] first (take (length replies) steps) ≡ Ends replies world
 
   -- guests meet at a bad item where memory was not wanted
-  met-before : (replies told : List Reply) (s : ℕ) (a : AsksBad first steps told s) (g : GuestAsksBad a.world a.step s) (world : World) → LedTo replies world → WantsUnmet world steps replies causes.OutOfMemory → length replies ≤ length told → length replies < length told
+  met-before : (replies told : List Reply) (s : ℕ) (a : AsksBad first steps told s) (g : GuestAsksBad a.world a.step s) (world : World) → LedTo replies world → RunsOutUnmet world steps replies causes.OutOfMemory → length replies ≤ length told → length replies < length told
   met-before replies told s a g world before unmet l =
       ⊎_elim
       (λ m. m)
@@ -105,7 +105,7 @@ module _ (old new : Tells) (steps : List Step) where
       absurd (unmet a.step s (ap (slice_get steps) (sym same) ∙ a.next) (subst (λ w. GuestAsksBad w a.step s) there g)))
       (cases_lt (length replies) (length told))
 
-  wants-by : (replies told : List Reply) (s : ℕ) (a : AsksBad first steps told s) (bad : AsksBadItem a.world a.step s) (world : World) → LedTo replies world → WantsUnmet world steps replies causes.OutOfMemory → length replies ≤ length told → WantsBy a.world a.step s bad (length replies) (length told)
+  wants-by : (replies told : List Reply) (s : ℕ) (a : AsksBad first steps told s) (bad : AsksBadItem a.world a.step s) (w : World) → LedTo replies w → RunsOutUnmet w steps replies causes.OutOfMemory → length replies ≤ length told → RunsOutBy a.world a.step s bad (length replies) (length told)
   wants-by replies told s a (ByGuest g) world before unmet l = met-before replies told s a g world before unmet l
   wants-by replies told s a (InCall c) world before unmet l = l
   wants-by replies told s a (InDrive d) world before unmet l = l

@@ -15,14 +15,14 @@ use Rattle.strm_session.specs.declared.playing.Ended.{Ended}
 use Rattle.strm_session.specs.declared.runs.RunCause.{RunCause}
 use Rattle.strm_session.specs.declared.runs.RunCause.TheVariants as causes
 use Rattle.strm_session.specs.Records.{StopsByRecord, RulesKept, StopRules, HostsGoOn}
-use Rattle.strm_session.specs.Runs.{run_start, start_among, AreOfGuests, counts_of, stop_of, StopsAmong, StopsWanting, StopsAt, StopsStep, LeavesWanting, IsWhole, HasStopped}
+use Rattle.strm_session.specs.Runs.{run_start, start_among, AreOfGuests, counts_of, stop_of, StopsAmong, StopsOutOfMemory, StopsAt, StopsStep, LeavesOutOfMemory, IsWhole, HasStopped}
 
 -- a step was done from this state, and from what host ends told before, or it stopped the run: it is the machine's
 -- among host ends, and after it the store fits what they tell
 pub record IsStepped (old new : State) (tells told : Tells) (step : Step) (result : Result Reply RunCause) : Type 0 where
   pub ok : IfOk result (λ reply. Does old new tells told (Ok reply) (λ world. outcome_of_step world step))
   pub stop : IfErr result (λ cause. Does old new tells told (Err (stop_of cause)) (λ world. outcome_of_step world step))
-  pub wanting : IfErr result (LeavesWanting old new tells told step)
+  pub out_of_memory : IfErr result (LeavesOutOfMemory old new tells told step)
   -- where guests meet at a bad item no memory is wanted
   pub unmet : IfErr result (λ cause. cause ≡ causes.OutOfMemory → (s : ℕ) → ¬ GuestAsksBad (lone old) step s)
   pub fits : Fits new told
@@ -44,7 +44,7 @@ pub record IsRunPlayed (old new : Tells) (steps : List Step) (told : List Reply)
   pub by_record : IfErr result (λ cause. StopsByRecord old new (stop_of cause))
   pub rules_kept : OnOk result (RulesKept old new)
   pub rules : IfErr result (λ cause. StopRules (stop_of cause) old new)
-  pub wanting : IfErr result (λ cause. StopsWanting old new steps told (stop_of cause))
+  pub out_of_memory : IfErr result (λ cause. StopsOutOfMemory old new steps told (stop_of cause))
   pub alone : AreOfGuests steps → OnOk result (play [] run_start steps ≡ Ends told state)
   pub stop_alone : AreOfGuests steps → IfErr result (λ cause. (s : State)
       × (play [] run_start (take (length told) steps) ≡ Ends told s) × StopsAt steps told cause)

@@ -11,7 +11,7 @@ use Rattle.strm_host_machine.specs.Does.{saids, faults_of, Extends, AreSuppliedS
 
 -- THE LAST RECORD
 
--- where a run stops for a host end, that end says so by its last record; nothing is said for want of memory
+-- where a run stops for a host end, that end says so by its last record; nothing is said for running out of memory
 abbrev pub StopsByRecord : Tells → Tells → Option Stop → Type 0
 StopsByRecord old new None = Unit {0}
 StopsByRecord old new (Some stop) = HaltsByRecord old new stop

@@ -24,7 +24,7 @@ use Rattle.strm_machine.specs.Hosting.{HostsHold}
 use Rattle.strm_host_machine.specs.World.{World, writer_at, reader_at, stream_in}
 use Rattle.strm_host_machine.specs.HostPlays.{host_play as play_among}
 use Rattle.strm_host_machine.specs.HostPlays as world_plays
-use Rattle.strm_transmit.specs.WantsMemory.{FailsOnce, HoldsBefore, WantsIn, up_to_offer}
+use Rattle.strm_transmit.specs.OutOfMemory.{FailsOnce, HoldsBefore, RunsOutIn, up_to_offer}
 use Rattle.strm_host_machine.specs.Outcomes.{Goes}
 use Rattle.strm_host_machine.specs.Steps.{outcome_of_step}
 use Rattle.strm_host_machine.specs.Asking.{GuestAsksBad, AsksBadItem, ByGuest, stands_at}
@@ -178,7 +178,7 @@ pub record IsKeptBefore (first : World) (steps : List Step) (told : List Reply) 
   pub before : play_among [] first (take (length told) steps) ≡ world_plays.Ends told world
   pub kept : IsKeptAmong first (take (length told) steps) world
 
--- why the machine stops where a run does; none for want of memory
+-- why the machine stops where a run does; none for running out of memory
 abbrev pub stop_of : RunCause → Option Stop
 stop_of (causes.HostFailed end) = Some (stops.HostFailed end)
 stop_of (causes.HostBroke end) = Some (stops.HostBroke end)
@@ -191,7 +191,7 @@ abbrev pub halted_in : World → List Step → State
 halted_in first steps = (end_world first (host_moments first steps)).state
 
 -- the machine halts behind these replies by this stop, and the host ends tell what they do in its state there;
--- nothing is said for want of memory
+-- nothing is said for running out of memory
 abbrev pub HaltsBy : World → List Step → List Reply → Tells → Option Stop → Type 0
 HaltsBy first steps told new None = Unit {0}
 HaltsBy first steps told new (Some stop) = StopsWith first steps told stop new (halted_in first steps)
@@ -236,25 +236,25 @@ StopsAsking first steps told new _ = Unit {0}
 
 -- behind so many replies memory is wanted before the step that asks, or in it where it polls a host reader: a
 -- step in which guests meet takes none
-abbrev pub WantsBy : (world : World) (step : Step) (s : ℕ) → AsksBadItem world step s → ℕ → ℕ → Type 0
-WantsBy world step s (ByGuest asks) wanted asked = wanted < asked
-WantsBy world step s _ wanted asked = wanted ≤ asked
+abbrev pub RunsOutBy : (world : World) (step : Step) (s : ℕ) → AsksBadItem world step s → ℕ → ℕ → Type 0
+RunsOutBy world step s (ByGuest asks) wanted asked = wanted < asked
+RunsOutBy world step s _ wanted asked = wanted ≤ asked
 
--- a run that stops so stops at this bad item, or for want of memory before its step or, where that polls a
+-- a run that stops so stops at this bad item, or for running out of memory before its step or, where that polls a
 -- host reader, in it
 abbrev pub StopsIn : (first : World) (steps : List Step) (told : List Reply) (s : ℕ) →
     AsksBad first steps told s → List Reply → RunCause → Type 0
 StopsIn first steps told s asks replies (causes.BadItem stream) = (replies ≡ told) × (stream ≡ s)
 StopsIn first steps told s asks replies causes.OutOfMemory =
-    WantsBy asks.world asks.step s asks.bad (length replies) (length told)
+    RunsOutBy asks.world asks.step s asks.bad (length replies) (length told)
 StopsIn first steps told s asks replies (causes.HostFailed end) = ⊥
 StopsIn first steps told s asks replies (causes.HostBroke end) = ⊥
 
 -- where memory was wanted, guests do not meet at a bad item in the next step, if there is one
-abbrev pub WantsUnmet : World → List Step → List Reply → RunCause → Type 0
-WantsUnmet world steps told causes.OutOfMemory =
+abbrev pub RunsOutUnmet : World → List Step → List Reply → RunCause → Type 0
+RunsOutUnmet world steps told causes.OutOfMemory =
     (step : Step) (s : ℕ) → slice_get steps (length told) ≡ Some step → ¬ GuestAsksBad world step s
-WantsUnmet world steps told _ = Unit {0}
+RunsOutUnmet world steps told _ = Unit {0}
 
 -- WHAT HOST ENDS TELL THEN
 
@@ -275,7 +275,7 @@ StopUses first steps new (Some stop) =
 
 -- the step behind these replies is a drive round, in which memory was wanted before items that a host writer holds
 -- itself were offered along a pipe: host ends tell what they told then
-pub record WantsOffer (old new : Tells) (steps : List Step) (told : List Reply) : Type 0 where
+pub record RunsOutOffer (old new : Tells) (steps : List Step) (told : List Reply) : Type 0 where
   pub world : World
   pub before : play_among [] (start_among old new) (take (length told) steps) ≡ world_plays.Ends told world
   pub step : Step
@@ -291,34 +291,34 @@ pub record WantsOffer (old new : Tells) (steps : List Step) (told : List Reply) 
 -- what host ends tell where memory was wanted: what they told behind these replies, or behind one more, which was
 -- not kept; or what they would tell had one that was polled failed in that poll, with no items, so that the machine
 -- halted behind these replies, but for its record of it; or what they told in a drive round before an offer
-pub data WantsThere (old new : Tells) (steps : List Step) (told : List Reply) : Type 0 where
+pub data RunsOutThere (old new : Tells) (steps : List Step) (told : List Reply) : Type 0 where
   Before : (state : State) → play_among [] (start_among old new) (take (length told) steps) ≡ world_plays.Ends told (world_spent state new) →
-      WantsThere old new steps told
+      RunsOutThere old new steps told
   Behind : (reply : Reply) (state : State) →
       play_among [] (start_among old new) (take (length told + 1) steps) ≡ world_plays.Ends (told ++ reply ∷ []) (world_spent state new) →
-      WantsThere old new steps told
+      RunsOutThere old new steps told
   InPoll : (end : HostEnd) (more : Tells) → FailsOnce end new more →
       HaltsBy (start_among old more) steps told more (Some (stops.HostFailed end)) →
-      WantsThere old new steps told
-  BeforeOffer : WantsOffer old new steps told → WantsThere old new steps told
+      RunsOutThere old new steps told
+  BeforeOffer : RunsOutOffer old new steps told → RunsOutThere old new steps told
 
 -- the same of a run that stops by this cause
-abbrev pub StopsWanting : Tells → Tells → List Step → List Reply → Option Stop → Type 0
-StopsWanting old new steps told None = WantsThere old new steps told
-StopsWanting old new steps told (Some stop) = Unit {0}
+abbrev pub StopsOutOfMemory : Tells → Tells → List Step → List Reply → Option Stop → Type 0
+StopsOutOfMemory old new steps told None = RunsOutThere old new steps told
+StopsOutOfMemory old new steps told (Some stop) = Unit {0}
 
 -- a step that found no memory may have polled a host end; else it changed nothing, or was done, and its reply
 -- was not kept
-pub data WantsStep (old new : State) (tells told : Tells) (step : Step) : Type 0 where
-  Polling : WantsIn old tells told (act_of step) → WantsStep old new tells told step
-  Untouched : new ≡ old → told ≡ tells → WantsStep old new tells told step
+pub data RunsOutStep (old new : State) (tells told : Tells) (step : Step) : Type 0 where
+  Polling : RunsOutIn old tells told (act_of step) → RunsOutStep old new tells told step
+  Untouched : new ≡ old → told ≡ tells → RunsOutStep old new tells told step
   Unkept : (reply : Reply) → Does old new tells told (Ok reply) (λ world. outcome_of_step world step) →
-      WantsStep old new tells told step
+      RunsOutStep old new tells told step
 
 -- the same of a step that stops a run by this cause
-abbrev pub LeavesWanting : State → State → Tells → Tells → Step → RunCause → Type 0
-LeavesWanting old new tells told step causes.OutOfMemory = WantsStep old new tells told step
-LeavesWanting old new tells told step _ = Unit {0}
+abbrev pub LeavesOutOfMemory : State → State → Tells → Tells → Step → RunCause → Type 0
+LeavesOutOfMemory old new tells told step causes.OutOfMemory = RunsOutStep old new tells told step
+LeavesOutOfMemory old new tells told step _ = Unit {0}
 
 -- WHERE IT STOPS
 
@@ -329,7 +329,7 @@ pub record StopsAmong (old new : Tells) (steps : List Step) (told : List Reply) 
   pub halts : HaltsBy (start_among old new) steps told new (stop_of cause)
   pub raised : Raised old new cause
   pub asks : StopsAsking (start_among old new) steps told new cause
-  pub unmet : WantsUnmet world steps told cause
+  pub unmet : RunsOutUnmet world steps told cause
 
 -- OF GUESTS ALONE
 
@@ -342,7 +342,7 @@ StopsStep told state step causes.OutOfMemory =
 StopsStep told state step (causes.HostFailed end) = ⊥
 StopsStep told state step (causes.HostBroke end) = ⊥
 
--- a run stops for want of memory: the machine goes on from the step behind these replies, or there
+-- a run stops for running out of memory: the machine goes on from the step behind these replies, or there
 -- is none
 abbrev pub RunGoesOn : List Step → List Reply → Type 0
 RunGoesOn steps told =
@@ -390,7 +390,7 @@ pub record HasStopped (old new : Tells) (steps : List Step) (replies : List Repl
   pub rules : StopRules (stop_of cause) old new
   pub closes : StopCloses (start_among old new) steps new (stop_of cause)
   pub uses : StopUses (start_among old new) steps new (stop_of cause)
-  pub wanting : StopsWanting old new steps replies (stop_of cause)
+  pub out_of_memory : StopsOutOfMemory old new steps replies (stop_of cause)
   pub kept_before : IsKeptBefore (start_among old new) steps replies
   pub kept_until : (count : ℕ) → HasLawsFirst count (start_among old new) (take (length replies + 1) steps)
   pub alone : AreOfGuests steps → StopsBy steps replies cause

@@ -142,7 +142,7 @@ pub record InputWasRun (left : Option (List ℕ)) (old new : Tells) : Type 0 whe
   pub replies : List Reply
   pub run : EndsOrStops old new steps replies
 
--- what is left where memory was wanting for the text: host ends as they were, where nothing was run; else what the
+-- what is left where memory had run out for the text: host ends as they were, where nothing was run; else what the
 -- run of the input did to them
 abbrev pub LeavesUnwritten : Option (List ℕ) → Tells → Tells → Type 0
 LeavesUnwritten left old new = (new ≡ old) ⊎ InputWasRun left old new
@@ -161,7 +161,7 @@ pub record IsRunOfInput (words : List (List ℕ)) (left : Option (List ℕ))
   pub spelled : Spells (lines_of input) steps
   pub within : ¬ IsTooLong input
 
--- which status comes, but for a fault of source or sink and for want of memory, by causes that a caller sees:
+-- which status comes, but for a fault of source or sink and for running out of memory, by causes that a caller sees:
 -- an input in the grammar and the limits is run to its end where no host end fails, each record that one
 -- added obeys the rules, and each item asked for is one; a bad item that is asked for is told, and so are
 -- the first bad line, an input over the limits, and how to call the program

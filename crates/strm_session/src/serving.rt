@@ -62,7 +62,7 @@ pub fn serve<S: Source, K: Sink, H: HostEnds>(
         (K.taken sink.old) (K.taken sink.new) }
     ensures write_fault { result ≡ WRITE_FAULT → Rose (K.faults sink.old) (K.faults sink.new) }
     ensures nothing { result ≡ OUT_OF_MEMORY → sink.new ≡ sink.old }
-    ensures wanting { result ≡ OUT_OF_MEMORY →
+    ensures out_of_memory { result ≡ OUT_OF_MEMORY →
         LeavesUnwritten (S.left source.old) (H.tells hosts.old) (H.tells hosts.new) }
     ensures read { ReadsWithin MAX_BYTES (S.left source.old) (S.left source.new) }
     ensures unread { ¬ TellsToRun (map string_bytes words.now.items) → source.new ≡ source.old }
@@ -70,7 +70,7 @@ pub fn serve<S: Source, K: Sink, H: HostEnds>(
         H.tells hosts.new ≡ H.tells hosts.old }
     ensures goes_on { HostsGoOn (H.tells hosts.old) (H.tells hosts.new) }
 
-    // Which status comes, but for faults and want of memory, by causes that a caller sees.
+    // Which status comes, but for faults and running out of memory, by causes that a caller sees.
     ensures complete { IsComplete (map string_bytes words.now.items) (S.left source.old)
         (S.faults source.old) (S.faults source.new) (K.faults sink.old) (K.faults sink.new)
         (H.tells hosts.old) (H.tells hosts.new) result }
@@ -94,7 +94,7 @@ fn answer_words<S: Source, H: HostEnds>(
         IsRunOutput (map string_bytes words.now.items) (S.left source.old) (S.left source.new)
         (H.tells hosts.old) (H.tells hosts.new) (S.faults source.old) (S.faults source.new)
         a.status a.text) }
-    ensures wanting { IfErr result (λ _.
+    ensures out_of_memory { IfErr result (λ _.
         LeavesUnwritten (S.left source.old) (H.tells hosts.old) (H.tells hosts.new)) }
     ensures read { ReadsWithin MAX_BYTES (S.left source.old) (S.left source.new) }
     ensures unread { ¬ TellsToRun (map string_bytes words.now.items) → source.new ≡ source.old }
@@ -159,7 +159,7 @@ fn answer_source<S: Source, H: HostEnds>(
     ensures told { IfOk result (λ a.
         IsOfInput (S.left source.old) (S.left source.new) (H.tells hosts.old) (H.tells hosts.new)
         (S.faults source.old) (S.faults source.new) a.status a.text) }
-    ensures wanting { IfErr result (λ _.
+    ensures out_of_memory { IfErr result (λ _.
         LeavesUnwritten (S.left source.old) (H.tells hosts.old) (H.tells hosts.new)) }
     ensures read { ReadsWithin MAX_BYTES (S.left source.old) (S.left source.new) }
     ensures goes_on { HostsGoOn (H.tells hosts.old) (H.tells hosts.new) }
@@ -182,7 +182,7 @@ fn answer_input<H: HostEnds>(
     ensures told { (before after : ℕ) → IfOk result (λ a.
         IsOfInput (Some input.now) (Some []) (H.tells hosts.old) (H.tells hosts.new)
         before after a.status a.text) }
-    ensures wanting { IfErr result (λ _.
+    ensures out_of_memory { IfErr result (λ _.
         LeavesUnwritten (Some input.now) (H.tells hosts.old) (H.tells hosts.new)) }
     ensures goes_on { HostsGoOn (H.tells hosts.old) (H.tells hosts.new) }
 {
@@ -216,7 +216,7 @@ fn answer_steps<H: HostEnds>(
     ensures stopped { (input : List ℕ) → Spells (lines_of input) steps.now.items →
         IfOk result (λ a. IsStopStatus a.status →
         IsStopped (H.tells hosts.old) (H.tells hosts.new) a.status input a.text) }
-    ensures wanting { (input : List ℕ) → Spells (lines_of input) steps.now.items →
+    ensures out_of_memory { (input : List ℕ) → Spells (lines_of input) steps.now.items →
         ¬ IsTooLong input →
         IfErr result (λ _. InputWasRun (Some input) (H.tells hosts.old) (H.tells hosts.new)) }
     ensures goes_on { HostsGoOn (H.tells hosts.old) (H.tells hosts.new) }
@@ -236,7 +236,7 @@ fn answer_steps<H: HostEnds>(
     }
 }
 
-/// The status by which a run stops, and the cause that it stands for; want of memory has none.
+/// The status by which a run stops, and the cause that it stands for; running out of memory has none.
 pub fn status_of(cause: RunCause) -> Result<(u8, Stop), OutOfMemory>
     ensures stop { IfOk result (λ told. IsStopStatus told.0) }
     ensures cause { IfOk result (λ told. IsStatusOf told.0 cause told.1) }
@@ -268,7 +268,7 @@ fn answer_numbers<H: HostEnds>(
     answer_drawn(alloc, &mut Drawn::new(count, seed), hosts)
 }
 
-// What is to be written for steps that are drawn: their run stops for want of memory alone.
+// What is to be written for steps that are drawn: their run stops for running out of memory alone.
 fn answer_drawn<H: HostEnds>(
     alloc: Global,
     steps: &mut Drawn,

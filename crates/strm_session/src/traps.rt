@@ -1,6 +1,6 @@
 //! When a store is trapped, as each of its calls with host ends says of it.
 //!
-//! A call that traps its store answers so: HostFailed, HostBroke, BadItem, or want of memory where a host
+//! A call that traps its store answers so: HostFailed, HostBroke, BadItem, or running out of memory where a host
 //! end may be polled (`Leaves` of `strm_transmit`). What else it answers leaves the store untrapped, and
 //! only a store that such a call trapped answers StoreTrapped. Source: ours.
 

@@ -21,7 +21,8 @@ use Rattle.strm_transmit.specs.declared.errors.StoreError.{StoreError}
 use Rattle.strm_transmit.specs.declared.errors.StoreError.TheVariants as errors
 use Rattle.strm_shared.specs.declared.entry.Place.{Place}
 use Rattle.strm_shared.specs.declared.entry.Wait.{Wait}
-use Rattle.strm_shared.specs.Places.{is_host_act, is_blocked, place_named as names}
+use Rattle.strm_shared.specs.Places.{is_host_act, place_named as names}
+use Rattle.strm_machine.specs.Moments.{is_blocked}
 use Rattle.strm_shared.specs.Reaching.{IsStateReached}
 use Rattle.strm_shared.specs.Waits.{wait, Each, Has, IsClear}
 use Rattle.strm_shared.proofs.ReachedLemmas.{reached-alone, Looks, Trapped, Told, Untold}
@@ -84,8 +85,8 @@ meets_bad old new e s r is m = (meets_at old new e (errors.BadItem s) r is m).0
 pub meets_trapped : (old new : State) (e : StoreError) (r : Reaction) → e ≡ errors.StoreTrapped → Meets old new (Err e) r → r ≡ goes replies.StoreTrapped new
 meets_trapped old new e r is m = (meets_at old new e errors.StoreTrapped r is m).0
 
-pub meets_wanting : (old new : State) (e : StoreError) (r : Reaction) → e ≡ errors.OutOfMemory → Meets old new (Err e) r → new ≡ old
-meets_wanting old new e r is m = (meets_at old new e errors.OutOfMemory r is m).1
+pub meets_out_of_memory : (old new : State) (e : StoreError) (r : Reaction) → e ≡ errors.OutOfMemory → Meets old new (Err e) r → new ≡ old
+meets_out_of_memory old new e r is m = (meets_at old new e errors.OutOfMemory r is m).1
 
 pub meets_refused : (old new : State) (e : StoreError) (q : Refusal) (r : Reaction) → e ≡ errors.Refused q → Meets old new (Err e) r → r ≡ goes (replies.Refused q) new
 meets_refused old new e q r is m = (meets_at old new e (errors.Refused q) r is m).0

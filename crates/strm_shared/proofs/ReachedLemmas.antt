@@ -53,7 +53,8 @@ use Rattle.strm_machine.proofs.Shapes.{begun_on, turn_on, Operates}
 use Rattle.strm_machine.proofs.SoundStepLemmas.{operate-keeps, reaction-sound}
 use Rattle.strm_machine.proofs.TableLemmas.{owner-set_stays}
 use Rattle.strm_shared.specs.declared.entry.Place.{Place}
-use Rattle.strm_shared.specs.Places.{place, named_in, operated_in, told_in, is_blocked, IsBusy, IsInNoSet}
+use Rattle.strm_shared.specs.Places.{place, named_in, operated_in, told_in, IsBusy, IsInNoSet}
+use Rattle.strm_machine.specs.Moments.{is_blocked}
 use Rattle.strm_shared.specs.Reaching.{IsStateReached}
 use Rattle.strm_shared.proofs.StayLemmas.{IsWaiting, reaction-stays, not_both, out-same}
 

@@ -11,7 +11,7 @@ use Rattle.strm_shared.specs.declared.errors.SharedError.{SharedError}
 use Rattle.strm_shared.specs.declared.errors.SharedError.TheVariants.{HostStep, Worn, NoSeat, OutOfMemory, Waiting, InSet}
 use Rattle.strm_codes.specs.declared.codes.ReturnCode.{ReturnCode}
 use Rattle.strm_codes.specs.declared.codes.ReturnCode.TheVariants as codes
-use Rattle.strm_shared.specs.Places.{is_blocked}
+use Rattle.strm_machine.specs.Moments.{is_blocked}
 use Rattle.strm_shared.specs.Waits.{wait, waits_by, without, waits_begun, waits_for, DeliversReport}
 use Rattle.strm_shared.specs.Tokens.{Token, Idles, Delivered}
 use Rattle.strm_shared.specs.Causes.{GivesUp}

@@ -5,7 +5,8 @@ use Rattle.strm_machine.specs.declared.steps.Step.TheVariants as steps
 use Rattle.strm_machine.specs.declared.replies.Reply.{Reply}
 use Rattle.std.specs.Prelude.{Option, None}
 use Rattle.std.proofs.lemmas.Bool.{and_parts, eqb-true, and_from}
-use Rattle.strm_waitable_sets.specs.Sets.{is_number, set_of}
+use Rattle.strm_waitable_sets.specs.Sets.{set_of}
+use Rattle.strm_codes.specs.OptionalNumbers.{is_number}
 use Rattle.strm_machine.specs.Acts.{act_of}
 use Rattle.strm_machine.specs.State.{State, empty, sets_in}
 use Rattle.strm_machine.specs.Reactions.{Reaction, goes, react}
@@ -24,7 +25,7 @@ use Rattle.strm_machine.specs.declared.limits.Limits.{Limits}
 use Rattle.strm_shared.specs.declared.entry.Entry.{Entry}
 use Rattle.strm_shared.specs.declared.entry.Wait.{Wait}
 use Rattle.strm_shared.specs.Histories.{entry}
-use Rattle.strm_shared.specs.Places.{is_blocked}
+use Rattle.strm_machine.specs.Moments.{is_blocked}
 use Rattle.strm_shared.specs.Waits.{is_at, wait, Each, waits_by, is_others, without, Apart, operates_on, awaits_next, awaits, awaited, reports, waits_begun, IsClear, IsGood, AreWaits, IsSlotKept}
 use Rattle.strm_shared.proofs.HistoryLemmas.{grows}
 

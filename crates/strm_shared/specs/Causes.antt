@@ -15,7 +15,8 @@ use Rattle.strm_shared.specs.declared.store.SharedStore.{SharedStore}
 use Rattle.strm_shared.specs.declared.store.Closed.{Closed}
 use Rattle.strm_shared.specs.declared.view.View.{View}
 use Rattle.strm_shared.specs.Histories.{entry, IsLegal, state_after, calls_by, AreCallsIn}
-use Rattle.strm_shared.specs.Places.{place_named, operated, is_host_step, is_move, is_blocked, is_refused_busy}
+use Rattle.strm_shared.specs.Places.{place_named, operated, is_host_step, is_move, is_refused_busy}
+use Rattle.strm_machine.specs.Moments.{is_blocked}
 use Rattle.strm_shared.specs.Plays.{longer}
 use Rattle.strm_shared.specs.Waits.{wait, Has, IsClear, AnswersWait}
 use Rattle.strm_shared.specs.Tokens.{Token, last_number, IsOneHistory, TicketRises, HistoryStays, Idles, Later, Called, Begun, Delivered}

@@ -100,11 +100,6 @@ is_host_step step = is_host_act (act_of step)
 
 -- WHAT A REPLY SAYS
 
--- a read or write waits
-abbrev pub is_blocked : Reply → Bool
-is_blocked (replies.Code codes.Blocked) = true
-is_blocked _ = false
-
 -- a step is refused since the end that it names has an operation
 abbrev pub is_refused_busy : Reply → Bool
 is_refused_busy (replies.Refused refusals.Busy) = true

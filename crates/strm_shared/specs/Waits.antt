@@ -12,7 +12,8 @@ use Rattle.strm_shared.specs.declared.entry.Entry.{Entry}
 use Rattle.strm_shared.specs.declared.entry.Place.{Place}
 use Rattle.strm_shared.specs.declared.entry.Wait.{Wait}
 use Rattle.strm_shared.specs.Histories.{IsLegal, state_after}
-use Rattle.strm_shared.specs.Places.{place_named, operated, told_in, is_blocked, IsBusy, IsInNoSet}
+use Rattle.strm_shared.specs.Places.{place_named, operated, told_in, IsBusy, IsInNoSet}
+use Rattle.strm_machine.specs.Moments.{is_blocked}
 
 -- LISTS OF WAITS
 

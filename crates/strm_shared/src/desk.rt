@@ -40,10 +40,8 @@ impl Desk {
     pub(crate) fn new(alloc: Global, limits: Limits) -> Result<Desk, OutOfMemory>
         ensures { IfOk result (λ desk. desk ≡ opened limits) }
     {
-        match Box::new(alloc, Ledger::new(alloc, limits)) {
-            Ok(ledger) => Ok(Desk { ledger }),
-            Err(_) => Err(OutOfMemory),
-        }
+        let ledger = Box::new(alloc, Ledger::new(alloc, limits))?;
+        Ok(Desk { ledger })
     }
 
     // What is kept of the waits: it does nothing.

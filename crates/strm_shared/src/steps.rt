@@ -3,7 +3,8 @@
 //! Meaning: `Places.antt` and `Wakes.antt`. Ours.
 
 ghost use Rattle.std.specs.Prelude.{◌≡◌, false};
-ghost use Rattle.strm_shared.specs.Places.{is_blocked, is_refused_busy, is_host_step, is_move, place_named, operated};
+ghost use Rattle.strm_shared.specs.Places.{is_refused_busy, is_host_step, is_move, place_named, operated};
+ghost use Rattle.strm_machine.specs.Moments.{is_blocked};
 ghost use Rattle.strm_shared.specs.Wakes.{ends_waits, WakesNone};
 
 use crate::entry::Place;

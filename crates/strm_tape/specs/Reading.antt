@@ -1,5 +1,5 @@
 -- How the front of a tape is read, part by part: the inverse of `Spelling.antt`. Ours.
-use Rattle.std.specs.Prelude.{ℕ, zero, suc, ◌*◌, ◌==◌, ◌&&◌, nat_le, nat_lt, Bool, true, false, List, [], ◌∷◌, length, take, drop, slice_get, slice_index_or, if◌then◌else◌, Option, Some, None, option_and_then}
+use Rattle.std.specs.Prelude.{ℕ, zero, suc, ◌*◌, ◌==◌, ◌&&◌, nat_le, nat_lt, Bool, true, false, List, [], ◌∷◌, length, take, drop, slice_get, slice_index_or, if◌then◌else◌, Option, Some, None}
 use Rattle.std.specs.Option.{option_map}
 use Rattle.std.specs.Str.{bytes_eq}
 use Rattle.strm_codes.specs.Layout.{scalars_of, item_size}
@@ -19,16 +19,12 @@ use Rattle.strm_buffers.specs.Listing.{Item, TypedItems}
 use Rattle.strm_buffers.specs.Said.{WriterSaid}
 use Rattle.strm_machine.specs.declared.steps.Step.{Step}
 use Rattle.strm_machine.specs.declared.steps.Step.TheVariants.{Guest, New, Between, Write, Read, DropWrite, DropRead, CancelWrite, CancelRead, Move, Lift, Lower, Close, HostNew, Feed, Pipe, Grant, Drive, Event, SetNew, SetJoin, SetPoll, SetDrop, ErrNew, ErrText, ErrMove, ErrDrop, Poke, Dump}
+use Rattle.strm_lines.specs.Reading.{◌>>=◌}
 use Rattle.strm_tape.specs.Spelling.{region_bytes, head_bytes, WriterTape, ReaderTape, TapeOf}
 
 -- what was found at the front, and what follows it
 abbrev pub Found : Type 0 → Type 0
 Found A = Option (A × List ℕ)
-
--- a reading, and then another
-infixl 10 ◌>>=◌
-abbrev pub ◌>>=◌ : {A B : Type 0} → Option A → (A → Option B) → Option B
-o >>= f = option_and_then f o
 
 -- one part, and behind it another, which may rest on the first
 abbrev pub followed_by_its_part : {A B : Type 0} → (List ℕ → Found A) → (A → List ℕ → Found B) → List ℕ → Found (A × B)

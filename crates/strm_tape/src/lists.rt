@@ -22,10 +22,8 @@ use strm_machine::steps::Step;
 fn push_item<T: Drop>(items: &mut Vec<T>, item: T) -> Result<(), OutOfMemory>
     ensures { OnOk result (items.new.items ≡ items.old.items ++ item ∷ []) }
 {
-    match items.push(item) {
-        Ok(()) => Ok(()),
-        Err(_) => Err(OutOfMemory),
-    }
+    items.push(item)?;
+    Ok(())
 }
 
 // So many steps, and what follows them.

@@ -19,10 +19,8 @@ use strm_machine::steps::Step;
 pub(crate) fn put(out: &mut Vec<u8>, bytes: &[u8]) -> Result<(), OutOfMemory>
     ensures { OnOk result (out.new.items ≡ out.old.items ++ bytes.now) }
 {
-    match out.extend_from_slice(bytes) {
-        Ok(()) => Ok(()),
-        Err(_) => Err(OutOfMemory),
-    }
+    out.extend_from_slice(bytes)?;
+    Ok(())
 }
 
 // So many bytes that are 0.
@@ -33,10 +31,8 @@ pub(crate) fn put_zeros(out: &mut Vec<u8>, count: usize) -> Result<(), OutOfMemo
         return Err(OutOfMemory);
     }
     let end = out.len() + count;
-    match out.resize(end, 0) {
-        Ok(()) => Ok(()),
-        Err(_) => Err(OutOfMemory),
-    }
+    out.resize(end, 0)?;
+    Ok(())
 }
 
 // The four bytes of a number.

@@ -62,10 +62,8 @@ fn turn_for(said: &ReaderSaid) -> ReaderTurn
 fn push_turn(turns: &mut Vec<ReaderTurn>, turn: ReaderTurn) -> Result<(), OutOfMemory>
     ensures { OnOk result (turns.new.items ≡ turns.old.items ++ turn ∷ []) }
 {
-    match turns.push(turn) {
-        Ok(()) => Ok(()),
-        Err(_) => Err(OutOfMemory),
-    }
+    turns.push(turn)?;
+    Ok(())
 }
 
 // The turns that make such records.

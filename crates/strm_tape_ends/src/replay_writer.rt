@@ -72,10 +72,8 @@ fn push_copy(records: &mut Vec<WriterSaid>, said: &WriterSaid) -> Result<(), Out
     ensures { OnOk result (records.new.items ≡ records.old.items ++ said.now ∷ []) }
 {
     let copy = said.copy()?;
-    match records.push(copy) {
-        Ok(()) => Ok(()),
-        Err(_) => Err(OutOfMemory),
-    }
+    records.push(copy)?;
+    Ok(())
 }
 
 // Copies of records, the last one first.
@@ -289,10 +287,8 @@ impl ReplayWriter {
             items: Items::new(self.alloc, self.payload),
             answer: Answer::Pending,
         };
-        match self.backwards.push(nothing) {
-            Ok(()) => Ok(()),
-            Err(_) => Err(OutOfMemory),
-        }
+        self.backwards.push(nothing)?;
+        Ok(())
     }
 
     // Follows the next record: what there is room for is marked, and the rest is held.
@@ -316,10 +312,7 @@ impl ReplayWriter {
         ensures fills { Fills window.old window.new }
     {
         let room = window.room();
-        match self.said.reserve(1) {
-            Ok(()) => {}
-            Err(_) => return Err(OutOfMemory),
-        }
+        self.said.reserve(1)?;
         let next = &last_of(&self.backwards, &self.payload).items;
         next.sound();
         let count = mark_in_room(window, next)?;

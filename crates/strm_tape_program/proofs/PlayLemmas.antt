@@ -57,8 +57,8 @@ status_of_play tape old new status text h (inr s) end plays =
 module _ {R : Type 0} (result : Result R TapeError) (old new : Tells) (steps : List Step) where
   -- each replay that answers an error was run, or nothing was done
   pub run_or_not : (error : TapeError) → result ≡ Err error → ((e : TapeError) → IsErrOf result e → IsReplayError e) → (IsErrOf result OutOfMemory → WasRunOrNot old new steps) → ((r : Bool) (end at : ℕ) → IsErrOf result (Differs r end at) → WasRunInMemory old new steps) → WasRunOrNot old new steps
-  run_or_not OutOfMemory e other wanting adds = wanting e
-  run_or_not (Differs reader end at) e other wanting adds = let ran = adds reader end at e in inr (ran.0, ran.1)
-  run_or_not NotATape e other wanting adds = absurd (other NotATape e)
-  run_or_not NotTapable e other wanting adds = absurd (other NotTapable e)
-  run_or_not (Holding n) e other wanting adds = absurd (other (Holding n) e)
+  run_or_not OutOfMemory e other out_of_memory adds = out_of_memory e
+  run_or_not (Differs reader end at) e other out_of_memory adds = let ran = adds reader end at e in inr (ran.0, ran.1)
+  run_or_not NotATape e other out_of_memory adds = absurd (other NotATape e)
+  run_or_not NotTapable e other out_of_memory adds = absurd (other NotTapable e)
+  run_or_not (Holding n) e other out_of_memory adds = absurd (other (Holding n) e)

@@ -28,7 +28,7 @@ pub record IsNoTape (left : Option (List ℕ)) (before after status : ℕ) (text
   pub not_a_tape : status ≡ 11 →
       IfSome left (λ bytes. (length bytes ≤ most_bytes) × ¬ IsSpelling bytes) × (text ≡ not_a_tape_text)
 
--- why there is no tape; nothing is said for want of memory
+-- why there is no tape; nothing is said for running out of memory
 abbrev pub IsWhy : Option (List ℕ) → ℕ → ℕ → NoTape → Type 0
 IsWhy left before after causes.TooLong = IfSome left (λ bytes. most_bytes < length bytes)
 IsWhy left before after causes.Fault = Rose before after

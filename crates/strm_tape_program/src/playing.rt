@@ -51,7 +51,7 @@ pub fn tape_play<K: Sink, H: RecordedEnds>(
     ensures nothing { result ≡ OUT_OF_MEMORY → sink.new ≡ sink.old }
     ensures goes_on { HostsGoOn (H.tells hosts.old) (H.tells hosts.new) }
 
-    // Which comes, but for faults of the sink and want of memory: where the host ends recorded what the tape
+    // Which comes, but for faults of the sink and running out of memory: where the host ends recorded what the tape
     // says, the status of the machine's play of it; else that they did not. Without memory the steps were run,
     // or nothing was done.
     ensures complete { (end : Result Transcript RunStop) →
@@ -61,7 +61,7 @@ pub fn tape_play<K: Sink, H: RecordedEnds>(
     ensures differs { tape_of_run tape.now.steps (H.tells hosts.old)
         (H.tells hosts.new) ≢ tape.now →
         ¬ Rose (K.faults sink.old) (K.faults sink.new) → IsOr DIFFERS result }
-    ensures wanting { result ≡ OUT_OF_MEMORY →
+    ensures out_of_memory { result ≡ OUT_OF_MEMORY →
         WasRunOrNot (H.tells hosts.old) (H.tells hosts.new) tape.now.steps }
 {
     match replay(alloc, tape, hosts) {

@@ -60,7 +60,7 @@ pub fn tape_read<S: Source, K: Sink>(
     ensures nothing { IfErr result (λ status. status ≡ OUT_OF_MEMORY → sink.new ≡ sink.old) }
     ensures read { ReadsWithin MAX_TAPE_BYTES (S.left source.old) (S.left source.new) }
 
-    // Which comes, but for faults and want of memory: the tape that was spelled, or that there is too much, or
+    // Which comes, but for faults and running out of memory: the tape that was spelled, or that there is too much, or
     // that there is none.
     ensures complete { (tape : TapeOf) → IsTape tape →
         IsReadable (S.left source.old) (S.faults source.old) (S.faults source.new)

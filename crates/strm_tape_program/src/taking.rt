@@ -88,7 +88,7 @@ pub fn tape_take<S: Source, K: Sink, H: RecordedEnds>(
     ensures read { ReadsWithin MAX_BYTES (S.left source.old) (S.left source.new) }
     ensures goes_on { HostsGoOn (H.tells hosts.old) (H.tells hosts.new) }
 
-    // Lines in the grammar and the limits are run and taken, but for faults and want of memory; else the first
+    // Lines in the grammar and the limits are run and taken, but for faults and running out of memory; else the first
     // bad line is told, or that the input is too long.
     ensures complete { (input : List ℕ) (steps : List Step) →
         IsFaultless (S.left source.old) input

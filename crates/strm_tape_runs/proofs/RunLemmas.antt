@@ -180,7 +180,7 @@ halts_too told stop ws rs (Halts told' stop' us ts) h = record {
 halts_too told stop ws rs (Ends told' b) h = elim h [ ]
 halts_too told stop ws rs (Hangs told') h = elim h [ ]
 
--- the stop of a cause that is not want of memory
+-- the stop of a cause that is not running out of memory
 pub stop_found : (cause : RunCause) → cause ≢ causes.OutOfMemory → (why : Stop) × (stop_of cause ≡ Some why)
 stop_found (causes.HostFailed end) n = (_, refl)
 stop_found (causes.HostBroke end) n = (_, refl)

@@ -34,11 +34,11 @@ StepsWereRun old new steps = (end : Result Transcript RunStop) × IsRunOfSteps o
 abbrev pub WasRunOrNot : Tells → Tells → List Step → Type 0
 WasRunOrNot old new steps = (new ≡ old) ⊎ StepsWereRun old new steps
 
--- it did not stop for want of memory
+-- it did not stop for running out of memory
 abbrev pub FoundMemory : Result Transcript RunStop → Type 0
 FoundMemory end = IfErr end (λ s. s.cause ≢ causes.OutOfMemory)
 
--- and it did not stop for want of memory
+-- and it did not stop for running out of memory
 abbrev pub WasRunInMemory : Tells → Tells → List Step → Type 0
 WasRunInMemory old new steps = (end : Result Transcript RunStop) × IsRunOfSteps old new steps end × FoundMemory end
 

@@ -64,10 +64,8 @@ fn reader_mark<H: RecordedEnds>(hosts: &H, r: usize) -> Mark
 fn push_item<T: Copy>(items: &mut Vec<T>, item: T) -> Result<(), OutOfMemory>
     ensures { OnOk result (items.new.items ≡ items.old.items ++ item ∷ []) }
 {
-    match items.push(item) {
-        Ok(()) => Ok(()),
-        Err(_) => Err(OutOfMemory),
-    }
+    items.push(item)?;
+    Ok(())
 }
 
 // What host writers are.

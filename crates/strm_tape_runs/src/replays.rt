@@ -23,7 +23,7 @@ use strm_tape::tape::Tape;
 /// add are the tape's. Where they are not, it names the first host end whose records differ, host writers being
 /// before host readers, and the first of its records, from 0, that differs or is wanting on one side.
 ///
-/// `OutOfMemory` also comes where the run stops for want of memory.
+/// `OutOfMemory` also comes where the run stops for running out of memory.
 pub fn replay<H: RecordedEnds>(
     alloc: Global,
     tape: &Tape,
@@ -51,7 +51,7 @@ pub fn replay<H: RecordedEnds>(
     ensures other { (error : TapeError) → IsErrOf result error → IsReplayError error }
 
     // Without memory, it was run, or nothing was done.
-    ensures wanting { IsErrOf result TapeError.OutOfMemory →
+    ensures out_of_memory { IsErrOf result TapeError.OutOfMemory →
         WasRunOrNot (H.tells hosts.old) (H.tells hosts.new) tape.now.steps }
     ensures hosts { HostsGoOn (H.tells hosts.old) (H.tells hosts.new) }
 {

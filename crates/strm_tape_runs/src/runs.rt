@@ -36,7 +36,7 @@ pub struct Taped {
 /// Runs the steps as `run` does, and puts them on a tape with the records that the host ends add.
 ///
 /// It is refused before anything is run where a host writer holds items, and then where a step has no place on a
-/// tape. After `OutOfMemory` there is no tape; it also comes where the run stops for want of memory.
+/// tape. After `OutOfMemory` there is no tape; it also comes where the run stops for running out of memory.
 pub fn tape_run<H: RecordedEnds>(
     alloc: Global,
     steps: &[Step],
@@ -70,7 +70,7 @@ pub fn tape_run<H: RecordedEnds>(
     // What it did to the host ends: where it was refused, nothing; without memory, it was run, or nothing was done.
     ensures refused { (error : TapeError) → IsErrOf result error → error ≢ TapeError.OutOfMemory →
         H.tells hosts.new ≡ H.tells hosts.old }
-    ensures wanting { IsErrOf result TapeError.OutOfMemory →
+    ensures out_of_memory { IsErrOf result TapeError.OutOfMemory →
         WasRunOrNot (H.tells hosts.old) (H.tells hosts.new) steps.now }
     ensures hosts { HostsGoOn (H.tells hosts.old) (H.tells hosts.new) }
 {
@@ -90,13 +90,11 @@ pub fn tape_run<H: RecordedEnds>(
 fn copy_steps(alloc: Global, steps: &[Step]) -> Result<Vec<Step>, OutOfMemory>
     ensures { IfOk result (λ copy. copy.items ≡ steps.now) }
 {
-    match steps.to_vec(alloc) {
-        Ok(copy) => Ok(copy),
-        Err(_) => Err(OutOfMemory),
-    }
+    let copy = steps.to_vec(alloc)?;
+    Ok(copy)
 }
 
-/// Whether a run stopped for want of memory.
+/// Whether a run stopped for running out of memory.
 pub(crate) fn wanted_memory(end: &Result<Transcript, RunStop>) -> bool
     ensures { result ≡ false → FoundMemory end.now }
 {
@@ -122,7 +120,7 @@ fn run_on_tape<H: RecordedEnds>(
     ensures tape { IfOk result (λ t.
         t.tape ≡ tape_of_run steps.now (H.tells hosts.old) (H.tells hosts.new)) }
     ensures plays { IfOk result (λ t. IsPlayOf t.tape t.end) }
-    ensures wanting { IsErr result →
+    ensures out_of_memory { IsErr result →
         WasRunOrNot (H.tells hosts.old) (H.tells hosts.new) steps.now }
     ensures hosts { HostsGoOn (H.tells hosts.old) (H.tells hosts.new) }
 {

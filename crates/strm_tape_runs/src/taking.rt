@@ -42,10 +42,8 @@ fn sound_reader_record(said: ReaderSaid)
 fn push_said(records: &mut Vec<WriterSaid>, said: WriterSaid) -> Result<(), OutOfMemory>
     ensures { OnOk result (records.new.items ≡ records.old.items ++ said ∷ []) }
 {
-    match records.push(said) {
-        Ok(()) => Ok(()),
-        Err(_) => Err(OutOfMemory),
-    }
+    records.push(said)?;
+    Ok(())
 }
 
 // Adds a record of a host writer, by its place, at the end of others.
@@ -133,10 +131,8 @@ fn push_reader_record<H: RecordedEnds>(
 {
     let said = hosts.reader_record_at(number, index);
     sound_reader_record(said);
-    match records.push(said) {
-        Ok(()) => Ok(()),
-        Err(_) => Err(OutOfMemory),
-    }
+    records.push(said)?;
+    Ok(())
 }
 
 // The records of a host reader behind a mark.
@@ -182,20 +178,16 @@ fn reader_tape<H: RecordedEnds>(
 fn push_writer_tape(tapes: &mut Vec<WriterTape>, tape: WriterTape) -> Result<(), OutOfMemory>
     ensures { OnOk result (tapes.new.items ≡ tapes.old.items ++ tape ∷ []) }
 {
-    match tapes.push(tape) {
-        Ok(()) => Ok(()),
-        Err(_) => Err(OutOfMemory),
-    }
+    tapes.push(tape)?;
+    Ok(())
 }
 
 // Adds the tape of a host reader at the end.
 fn push_reader_tape(tapes: &mut Vec<ReaderTape>, tape: ReaderTape) -> Result<(), OutOfMemory>
     ensures { OnOk result (tapes.new.items ≡ tapes.old.items ++ tape ∷ []) }
 {
-    match tapes.push(tape) {
-        Ok(()) => Ok(()),
-        Err(_) => Err(OutOfMemory),
-    }
+    tapes.push(tape)?;
+    Ok(())
 }
 
 // What a tape has of host writers.

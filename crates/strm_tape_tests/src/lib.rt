@@ -22,4 +22,4 @@ mod rows;
 #[cfg(test)]
 mod scripts;
 #[cfg(test)]
-mod wanting;
+mod out_of_memory;

@@ -61,7 +61,7 @@ fn wants_a_record(alloc: Global, tape: &Tape, takings: &[Taking]) -> Result<bool
     }
 }
 
-fn is_wanting(
+fn is_out_of_memory(
     rt: &impl Abort,
     alloc: Global,
     on_tape: &[Taking],
@@ -75,6 +75,6 @@ fn is_wanting(
 
 #[test]
 fn a_record_is_wanting_on_one_side(rt: HostRuntime) -> Result<(), Fail> {
-    is_wanting(&rt, rt.alloc(), TAKING, WAITING)?;
-    is_wanting(&rt, rt.alloc(), WAITING, TAKING)
+    is_out_of_memory(&rt, rt.alloc(), TAKING, WAITING)?;
+    is_out_of_memory(&rt, rt.alloc(), WAITING, TAKING)
 }

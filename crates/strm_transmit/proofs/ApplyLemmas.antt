@@ -54,14 +54,14 @@ refused-record tells told (Err (BadItem stream)) l = l
 refused-record tells told (Err StoreTrapped) l = l
 refused-record tells told (Err OutOfMemory) l = l
 
-pub refused-wanting : (old : State) (tells : Tells) (act : Act) (result : Result Reply StoreError) → (result ≡ Err OutOfMemory → MayBeDone old tells act) → refused_too result ≡ Err OutOfMemory → MayBeDone old tells act
-refused-wanting old tells act (Ok reply) m w = cc w
-refused-wanting old tells act (Err (Refused refusal)) m w = cc w
-refused-wanting old tells act (Err (HostFailed end)) m w = cc w
-refused-wanting old tells act (Err (HostBroke end)) m w = cc w
-refused-wanting old tells act (Err (BadItem stream)) m w = cc w
-refused-wanting old tells act (Err StoreTrapped) m w = cc w
-refused-wanting old tells act (Err OutOfMemory) m w = m refl
+pub refused-out_of_memory : (old : State) (tells : Tells) (act : Act) (result : Result Reply StoreError) → (result ≡ Err OutOfMemory → MayBeDone old tells act) → refused_too result ≡ Err OutOfMemory → MayBeDone old tells act
+refused-out_of_memory old tells act (Ok reply) m w = cc w
+refused-out_of_memory old tells act (Err (Refused refusal)) m w = cc w
+refused-out_of_memory old tells act (Err (HostFailed end)) m w = cc w
+refused-out_of_memory old tells act (Err (HostBroke end)) m w = cc w
+refused-out_of_memory old tells act (Err (BadItem stream)) m w = cc w
+refused-out_of_memory old tells act (Err StoreTrapped) m w = cc w
+refused-out_of_memory old tells act (Err OutOfMemory) m w = m refl
 
 pub refused-settled : (result : Result Reply StoreError) → Settles result → Settles (refused_too result)
 refused-settled (Ok reply) s = s
@@ -80,5 +80,5 @@ refused-hosted old new tells told result act m = record {
   alone = λ u. refused-alone old new tells told result act (m.alone u);
   err = refused-leaves old new tells told act result m.err;
   by_record = refused-record tells told result m.by_record;
-  wanting = refused-wanting old tells act result m.wanting;
+  out_of_memory = refused-out_of_memory old tells act result m.out_of_memory;
 }

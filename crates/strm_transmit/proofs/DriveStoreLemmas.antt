@@ -33,11 +33,11 @@ use Rattle.strm_transmit.specs.Hosted.{call_answered, IsStop, MeetsHosted}
 use Rattle.strm_transmit.specs.Inside.{AreServed}
 use Rattle.strm_transmit.specs.Rounds.{ends_by, pipe_ends, IsPipe}
 use Rattle.strm_transmit.specs.Turning.{turn_for, due_in, due_on, IsNextAmong, all_ends, NextServed}
-use Rattle.strm_transmit.specs.WantsMemory.{WantsInPoll, WantsBefore, WantsAt, InPoll, BeforeOffer, WantsInTurn, WantsInDrive, WantsIn, InAPoll, InADrive, IfWanting, up_to_offer}
+use Rattle.strm_transmit.specs.OutOfMemory.{RunsOutInPoll, RunsOutBefore, RunsOutAt, InPoll, BeforeOffer, RunsOutInTurn, RunsOutInDrive, RunsOutIn, InAPoll, InADrive, IfOutOfMemory, up_to_offer}
 use Rattle.strm_transmit.specs.declared.errors.StoreError.{StoreError}
 use Rattle.strm_transmit.specs.declared.errors.StoreError.TheVariants as errors
 use Rattle.strm_transmit.proofs.RoundLemmas.{ends_are}
-use Rattle.strm_transmit.proofs.WantsLemmas.{wanting_result, poll_as}
+use Rattle.strm_transmit.proofs.OutOfMemoryLemmas.{out_of_memory_result, poll_as}
 use Rattle.strm_transmit.proofs.OperateLemmas.{Halts, FitStill, hosted_polled, cause_of, stop_is}
 
 -- ## One stream
@@ -163,13 +163,13 @@ piped-turn state tells s n r e logs =
     let ends = ends_are (stream_at state s).writer.owner (stream_at state s).reader.owner n r e in
     drive_turn-piped (world_of state tells logs) s n r ends.0 ends.1
 
--- memory was wanting in the turn of its host end
-pub due-wants : (side : Side) (state : State) (tells told : Tells) (s n : ℕ) (operation : Operation) → ◌≡◌ {A = Due} (due_on side (stream_at state s)) (Some (n, operation)) → WantsInPoll state tells told (turn_for side s n operation) → WantsInTurn s state tells told
+-- memory had run out in the turn of its host end
+pub due-wants : (side : Side) (state : State) (tells told : Tells) (s n : ℕ) (operation : Operation) → ◌≡◌ {A = Due} (due_on side (stream_at state s)) (Some (n, operation)) → RunsOutInPoll state tells told (turn_for side s n operation) → RunsOutInTurn s state tells told
 due-wants side state tells told s n operation e w =
     (0, 0, InPoll (poll_as state tells told (turn_for side s n operation) (λ v. drive_turn v s) (due-turn side state tells s n operation e) w))
 
 -- or in the round of a pipe
-pub piped-wants : (state : State) (tells told : Tells) (s n r : ℕ) → ◌≡◌ {A = Option (ℕ × ℕ)} (pipe_ends (stream_at state s)) (Some (n, r)) → WantsAt s n r state tells told (λ w. pipe_round w s n r) (λ w. fetches w s n r) → WantsInTurn s state tells told
+pub piped-wants : (state : State) (tells told : Tells) (s n r : ℕ) → ◌≡◌ {A = Option (ℕ × ℕ)} (pipe_ends (stream_at state s)) (Some (n, r)) → RunsOutAt s n r state tells told (λ w. pipe_round w s n r) (λ w. fetches w s n r) → RunsOutInTurn s state tells told
 piped-wants state tells told s n r e (InPoll w) =
     (n, r, InPoll (poll_as state tells told (λ v. pipe_round v s n r) (λ v. drive_turn v s) (piped-turn state tells s n r e) w))
 piped-wants state tells told s n r e (BeforeOffer b) = (n, r, BeforeOffer b)
@@ -186,7 +186,7 @@ module _ (old now : State) (tells told : Tells) (h : AreServed now.producers now
       (λ logs. are_alone now told logs next (s - next) h.serves (λ side n t e a b. none side n t e a (omega (arith, b, sum)))))
 
   -- before an offer along stream s, which is the next one that is served
-  before_offer : (after : Tells) (s n r : ℕ) → IsNextAmong now all_ends next s → WantsBefore s n r now told after (λ w. fetches w s n r) → WantsBefore s n r old tells after (up_to_offer s n r)
+  before_offer : (after : Tells) (s n r : ℕ) → IsNextAmong now all_ends next s → RunsOutBefore s n r now told after (λ w. fetches w s n r) → RunsOutBefore s n r old tells after (up_to_offer s n r)
   before_offer after s n r served b = record {
     state = b.state;
     does = Does-then old now b.state tells told after replies.Done (Ok replies.Done) (drives_first s) (λ w. fetches w s n r)
@@ -227,28 +227,28 @@ module _ (old new : State) (tells told : Tells) where
   drive_round result d =
       Does-as old new tells told result (drives_first (length old.streams)) (λ w. driven w (round_of w)) (λ logs. refl) d
 
-  drive-wants : old.trapped ≡ false → WantsInDrive old tells told → WantsIn old tells told Drive
+  drive-wants : old.trapped ≡ false → RunsOutInDrive old tells told → RunsOutIn old tells told Drive
   drive-wants t (s, n, r, InPoll w) =
       InAPoll (poll_as old tells told (λ w. driven w (round_of w)) (λ w. outcome w Drive) (λ logs. drive-is (world_of old tells logs) t) w)
   drive-wants t (s, n, r, BeforeOffer b) = InADrive s n r refl b
 
-  abbrev pub WantsDriven : {T : Type 0} → Result T StoreError → Type 0
-  WantsDriven result = IfErr result (λ error. IfWanting error (WantsInDrive old tells told))
+  abbrev pub RunsOutDriven : {T : Type 0} → Result T StoreError → Type 0
+  RunsOutDriven result = IfErr result (λ error. IfOutOfMemory error (RunsOutInDrive old tells told))
 
   -- it went round as the machine does
   abbrev pub DroveSo : Result Reply StoreError → Type 0
   DroveSo result = Does old new tells told (call_answered result) (λ w. driven w (round_of w))
 
-  pub hosted_drive : {T : Type 0} (f : T → Reply) (result : Result T StoreError) → old.trapped ≡ false → DroveSo (as_reply f result) → FitStill old new tells told → Halts result new → WantsDriven result → MeetsHosted old new tells told (as_reply f result) Drive
+  pub hosted_drive : {T : Type 0} (f : T → Reply) (result : Result T StoreError) → old.trapped ≡ false → DroveSo (as_reply f result) → FitStill old new tells told → Halts result new → RunsOutDriven result → MeetsHosted old new tells told (as_reply f result) Drive
   hosted_drive f result t does fits halts wants =
       hosted_polled old new tells told Drive refl f result
       (Does-as old new tells told (call_answered (as_reply f result)) (λ w. driven w (round_of w)) (λ w. outcome w Drive) (λ logs. drive-is (world_of old tells logs) t) does)
       (record { untrapped = t; none = λ logs. refusal_in-drive (world_of old tells logs) }) fits halts
-      (wanting_result result (drive-wants t) wants)
+      (out_of_memory_result result (drive-wants t) wants)
 
 module _ (old now : State) (tells told after : Tells) (h : AreServed now.producers now.consumers now.streams) (next : ℕ) (d : Does old now tells told (Ok replies.Done) (drives_first next)) (s : ℕ) (served : IsNextAmong now all_ends next s) where
-  -- memory was wanting in the turn of stream s, which is the next one that is served
-  pub drive_wants : s + 1 ≤ length old.streams → WantsInTurn s now told after → WantsInDrive old tells after
+  -- memory had run out in the turn of stream s, which is the next one that is served
+  pub drive_wants : s + 1 ≤ length old.streams → RunsOutInTurn s now told after → RunsOutInDrive old tells after
   drive_wants made (n, r, InPoll w) = (
     s,
     n,

@@ -109,7 +109,7 @@ module _ (old mid : State) (tells : Tells) (act : Act) (s : ℕ) (side : Side) (
     alone = λ u. record { meets = d.reaction ∙ ap (goes replies.Done) (sym (same u)); ends = untold u };
     err = tt;
     by_record = tt;
-    wanting = λ w. cc;
+    out_of_memory = λ w. cc;
   }
 
 -- ## The two drops

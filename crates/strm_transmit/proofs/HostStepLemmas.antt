@@ -77,7 +77,7 @@ module _ (state : State) (tells : Tells) (act : Act) where
     alone = λ u. record { meets = alone u; ends = refl };
     err = leaves;
     by_record = by_record;
-    wanting = caused;
+    out_of_memory = caused;
   }
 
   -- why an act was not admitted, as what the machine does
@@ -184,8 +184,8 @@ module _ (old new : State) (tells : Tells) (act : Act) where
   meets-record (Err StoreTrapped) m = tt
   meets-record (Err OutOfMemory) m = tt
 
-  meets-wanting : (result : Result Reply StoreError) → touches (lone old) act ≡ false → Meets old new result (reaction old act) → result ≡ Err OutOfMemory → MayBeDone old tells act
-  meets-wanting result u m w =
+  meets-out_of_memory : (result : Result Reply StoreError) → touches (lone old) act ≡ false → Meets old new result (reaction old act) → result ≡ Err OutOfMemory → MayBeDone old tells act
+  meets-out_of_memory result u m w =
       done_may old tells act u (subst (λ (x : Result Reply StoreError). Meets old new x (reaction old act)) w m).0
 
   pub hosted_alone : (result : Result Reply StoreError) → IsSound old → AreMade old → touches (lone old) act ≡ false → Settles result → Meets old new result (reaction old act) → Fits old tells → MeetsHosted old new tells tells result act
@@ -197,5 +197,5 @@ module _ (old new : State) (tells : Tells) (act : Act) where
         alone = λ _. record { meets = m; ends = refl };
         err = meets-leaves result u m;
         by_record = meets-record result m;
-        wanting = meets-wanting result u m;
+        out_of_memory = meets-out_of_memory result u m;
       }

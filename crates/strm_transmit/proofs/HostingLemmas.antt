@@ -207,9 +207,9 @@ module _ (old : State) (tells : Tells) (n : ℕ) (made : AreMade old) (h : HostF
         (λ last. absurd (past s (made Reading r s e) last)) (λ other. fits.readers r s e);
   }
 
--- want of memory that changed nothing
-pub hosted_wanting : (old new : State) (tells told : Tells) (n : ℕ) (act : HostAct) → MayBeDone old tells (OnHost n act) → Fits old tells → new ≡ old → told ≡ tells → MeetsHosted old new tells told (Err OutOfMemory) (OnHost n act)
-hosted_wanting old new tells told n act may fits same untold =
+-- running out of memory that changed nothing
+pub hosted_out_of_memory : (old new : State) (tells told : Tells) (n : ℕ) (act : HostAct) → MayBeDone old tells (OnHost n act) → Fits old tells → new ≡ old → told ≡ tells → MeetsHosted old new tells told (Err OutOfMemory) (OnHost n act)
+hosted_out_of_memory old new tells told n act may fits same untold =
     subst (λ (x : State). MeetsHosted old x tells told (Err OutOfMemory) (OnHost n act)) (sym same)
     (subst (λ (x : Tells). MeetsHosted old old tells x (Err OutOfMemory) (OnHost n act)) (sym untold)
     (unchanged old tells (OnHost n act) OutOfMemory (all_stays old tells)
@@ -233,7 +233,7 @@ module _ (old new : State) (tells : Tells) (n : ℕ) (h : MayHost old tells n) w
         alone = λ u. cc u;
         err = tt;
         by_record = tt;
-        wanting = λ w. cc;
+        out_of_memory = λ w. cc;
       }
 
   -- by what the making of the stream answered
@@ -241,7 +241,7 @@ module _ (old new : State) (tells : Tells) (n : ℕ) (h : MayHost old tells n) w
   hosted_made (Ok s) number is memory same = hosted_new s number is
   hosted_made (Err error) number is memory same =
       subst (λ (x : Result ℕ StoreError). MeetsHosted old new tells tells (as_reply replies.Number x) (OnHost n New)) (sym memory)
-      (hosted_wanting old new tells tells n New h.may h.fits same refl)
+      (hosted_out_of_memory old new tells tells n New h.may h.fits same refl)
 
 -- ## Bytes from outside
 
@@ -257,7 +257,7 @@ hosted_feed state tells told n bytes may fits is =
       alone = λ u. cc u;
       err = tt;
       by_record = tt;
-      wanting = λ w. cc;
+      out_of_memory = λ w. cc;
     }
 
 -- ## A host reader that is granted items
@@ -283,7 +283,7 @@ hosted_grant state tells told r count may fits is =
       alone = λ u. cc u;
       err = tt;
       by_record = tt;
-      wanting = λ w. cc;
+      out_of_memory = λ w. cc;
     }
 
 -- ## The store with a stream of a host writer more

@@ -1,5 +1,5 @@
 pub mod StepLemmas
-pub mod WantsLemmas
+pub mod OutOfMemoryLemmas
 pub mod HostStepLemmas
 pub mod ApplyLemmas
 pub mod ServedLemmas

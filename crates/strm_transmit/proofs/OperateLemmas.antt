@@ -25,7 +25,7 @@ use Rattle.strm_transmit.specs.Meets.{as_reply}
 use Rattle.strm_transmit.specs.Hosted.{call_answered, lone, MayBeDone, Leaves, IsHandedOver, IsStop, ErrsByRecord, MeetsHosted}
 use Rattle.strm_transmit.specs.Inside.{AreServed}
 use Rattle.strm_transmit.specs.Turning.{turn_for, polls_for}
-use Rattle.strm_transmit.specs.WantsMemory.{WantsInPoll, WantsIn, InAPoll, IfWanting}
+use Rattle.strm_transmit.specs.OutOfMemory.{RunsOutInPoll, RunsOutIn, InAPoll, IfOutOfMemory}
 use Rattle.strm_transmit.specs.declared.errors.StoreError.{StoreError}
 use Rattle.strm_transmit.specs.declared.errors.StoreError.TheVariants.{Refused, HostFailed, HostBroke, BadItem, StoreTrapped, OutOfMemory}
 use Rattle.strm_codes.specs.declared.codes.ReturnCode.{ReturnCode}
@@ -40,7 +40,7 @@ use Rattle.strm_host_machine.proofs.ReadLemmas.{Does-read, Does-read_stop}
 use Rattle.strm_host_machine.proofs.WriteLemmas.{Does-write, Does-write_stop}
 use Rattle.strm_host_machine.proofs.LastRecordLemmas.{AreServing, halts_by_record}
 use Rattle.strm_host_machine.proofs.OutcomeLemmas.{refusal_in-on_end}
-use Rattle.strm_transmit.proofs.WantsLemmas.{wanting_result}
+use Rattle.strm_transmit.proofs.OutOfMemoryLemmas.{out_of_memory_result}
 use Rattle.strm_transmit.proofs.HostStepLemmas.{PerformsAs, does_admitted, Settles, unpolled}
 
 -- ## A call that polled a host end
@@ -57,11 +57,11 @@ pub record FitStill (old new : State) (tells told : Tells) : Type 0 where
   pub after : Fits new told
 
 module _ (old new : State) (tells told : Tells) (act : Act) (polls : may_poll (lone old) act ≡ true) where
-  -- where memory was wanting
-  abbrev pub WantsSo : {T : Type 0} → Result T StoreError → Type 0
-  WantsSo result = IfErr result (λ error. IfWanting error (WantsIn old tells told act))
+  -- where memory had run out
+  abbrev pub RunsOutSo : {T : Type 0} → Result T StoreError → Type 0
+  RunsOutSo result = IfErr result (λ error. IfOutOfMemory error (RunsOutIn old tells told act))
 
-  leaves_stop : (error : StoreError) → IsStop error → new.trapped ≡ true → IfWanting error (WantsIn old tells told act) → Leaves act old new tells told error
+  leaves_stop : (error : StoreError) → IsStop error → new.trapped ≡ true → IfOutOfMemory error (RunsOutIn old tells told act) → Leaves act old new tells told error
   leaves_stop (Refused r) s t w = absurd s
   leaves_stop (HostFailed end) s t w = t
   leaves_stop (HostBroke end) s t w = t
@@ -69,7 +69,7 @@ module _ (old new : State) (tells told : Tells) (act : Act) (polls : may_poll (l
   leaves_stop StoreTrapped s t w = absurd s
   leaves_stop OutOfMemory s t w = rw polls (record { trapped = t; wants = w })
 
-  leaves_if : {T : Type 0} (f : T → Reply) (result : Result T StoreError) → Halts result new → WantsSo result → IfErr (as_reply f result) (Leaves act old new tells told)
+  leaves_if : {T : Type 0} (f : T → Reply) (result : Result T StoreError) → Halts result new → RunsOutSo result → IfErr (as_reply f result) (Leaves act old new tells told)
   leaves_if f (Ok v) h w = tt
   leaves_if f (Err error) h w = leaves_stop error h.stop h.trapped w
 
@@ -87,17 +87,17 @@ module _ (old new : State) (tells told : Tells) (act : Act) (polls : may_poll (l
   by_last_record served fits (Err StoreTrapped) does = tt
   by_last_record served fits (Err OutOfMemory) does = tt
 
-  pub hosted_polled : {T : Type 0} (f : T → Reply) (result : Result T StoreError) → DidSo (as_reply f result) → MayBeDone old tells act → FitStill old new tells told → Halts result new → WantsSo result → MeetsHosted old new tells told (as_reply f result) act
+  pub hosted_polled : {T : Type 0} (f : T → Reply) (result : Result T StoreError) → DidSo (as_reply f result) → MayBeDone old tells act → FitStill old new tells told → Halts result new → RunsOutSo result → MeetsHosted old new tells told (as_reply f result) act
   hosted_polled f result does may fits halts wants = record {
     does = does;
     fits = fits.after;
     by_record = by_last_record fits.served.serves fits.before (as_reply f result) does;
     alone = λ u. absurd (true≢false (sym polls ∙ unpolled (lone old) act u));
     err = leaves_if f result halts wants;
-    wanting = λ w. may;
+    out_of_memory = λ w. may;
   }
 
--- the cause of a stop; none for want of memory
+-- the cause of a stop; none for running out of memory
 abbrev pub cause_of : StoreError → Option Stop
 cause_of (HostFailed end) = Some (stops.HostFailed end)
 cause_of (HostBroke end) = Some (stops.HostBroke end)
@@ -165,9 +165,9 @@ module _ (old mid new : State) (tells told : Tells) (s n : ℕ) (operation : Ope
       (subst (λ (x : State). DoesTurn side x new (Err (cause_of error))) e
       (subst (DoesTurn side mid new) same turn)))
 
--- memory was wanting in the turn
-pub turn-wants : (old mid : State) (tells told : Tells) (s n : ℕ) (operation : Operation) (side : Side) → mid ≡ opened_on side old s operation → WantsInPoll mid tells told (turn_for side s n operation)
-    → WantsInPoll old tells told (polls_for side s n operation)
+-- memory had run out in the turn
+pub turn-wants : (old mid : State) (tells told : Tells) (s n : ℕ) (operation : Operation) (side : Side) → mid ≡ opened_on side old s operation → RunsOutInPoll mid tells told (turn_for side s n operation)
+    → RunsOutInPoll old tells told (polls_for side s n operation)
 turn-wants old mid tells told s n operation side e w = record {
   end = w.end;
   more = w.more;
@@ -219,7 +219,7 @@ module _ (old new : State) (tells told : Tells) (side : Side) (end : NamedEnd) (
   may : MayBeDone old tells act
   may = record { untrapped = h.untrapped; none = λ logs. refusal_in-on_end (world_of old tells logs) side end (Operate address count) ∙ h.none }
 
-  wants_across : WantsInPoll old tells told (polls_for side s n operation) → WantsIn old tells told act
+  wants_across : RunsOutInPoll old tells told (polls_for side s n operation) → RunsOutIn old tells told act
   wants_across w =
       InAPoll (record {
         end = w.end;
@@ -229,15 +229,15 @@ module _ (old new : State) (tells told : Tells) (side : Side) (end : NamedEnd) (
         does = does_admitted old w.state tells w.more act (Err (Some (stops.HostFailed w.end))) (polls_for side s n operation) may polls w.does;
       })
 
-  -- where memory was wanting, it was so in the turn
-  abbrev pub WantsTurn : {T : Type 0} → Result T StoreError → Type 0
-  WantsTurn result = IfErr result (λ error. IfWanting error (WantsInPoll old tells told (polls_for side s n operation)))
+  -- where memory had run out, it was so in the turn
+  abbrev pub RunsOutTurn : {T : Type 0} → Result T StoreError → Type 0
+  RunsOutTurn result = IfErr result (λ error. IfOutOfMemory error (RunsOutInPoll old tells told (polls_for side s n operation)))
 
-  pub hosted_across : {T : Type 0} (f : T → Reply) (result : Result T StoreError) → Does old new tells told (call_answered (as_reply f result)) (polls_for side s n operation) → FitStill old new tells told → Halts result new → WantsTurn result → MeetsHosted old new tells told (as_reply f result) act
+  pub hosted_across : {T : Type 0} (f : T → Reply) (result : Result T StoreError) → Does old new tells told (call_answered (as_reply f result)) (polls_for side s n operation) → FitStill old new tells told → Halts result new → RunsOutTurn result → MeetsHosted old new tells told (as_reply f result) act
   hosted_across f result does fits halts wants =
       hosted_polled old new tells told act across f result
       (does_admitted old new tells told act (call_answered (as_reply f result)) (polls_for side s n operation) may polls does) may fits halts
-      (wanting_result result wants_across wants)
+      (out_of_memory_result result wants_across wants)
 
 -- items that the writer holds are those that are held for the read
 pub held_there : (state : State) (tells : Tells) (side : Side) (end : NamedEnd) (address count n s : ℕ) (operation : Operation) → IsAcross state side end address count n s operation → IsHandedOver state tells (operating side end address count) → (side ≡ Reading) × ((told_by tells n).holds ≢ [])
@@ -247,7 +247,7 @@ held_there state tells Reading end address count n s operation h held =
     let number : held.writer ≡ n = cc in
     (refl, subst (λ k. (told_by tells k).holds ≢ []) number held.some)
 
--- where it is answered, no memory was wanting
+-- where it is answered, no memory had run out
 pub ok_wants_none : {T : Type 0} (result : Result T StoreError) → IsOk result → result ≢ Err OutOfMemory
 ok_wants_none (Ok v) k = λ e. cc e
 ok_wants_none (Err error) k = cc k

@@ -282,7 +282,7 @@ hosted_pipe old new tells told s r may does fits = record {
   alone = λ u. cc u;
   err = tt;
   by_record = tt;
-  wanting = λ w. cc;
+  out_of_memory = λ w. cc;
 }
 
 -- items that are counted as none are none

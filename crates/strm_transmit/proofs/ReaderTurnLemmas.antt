@@ -37,8 +37,8 @@ use Rattle.strm_host_turns.specs.declared.reader_turns.ReaderStops.TheVariants.{
 use Rattle.strm_transmit.specs.Inside.{AreServed}
 use Rattle.strm_transmit.specs.Hosted.{call_answered, IsStop}
 use Rattle.strm_transmit.specs.Turning.{HasReaderTurn, stop_of_reader}
-use Rattle.strm_transmit.specs.WantsMemory.{WantsInPoll, IfWanting}
-use Rattle.strm_transmit.proofs.WantsLemmas.{taking_wants}
+use Rattle.strm_transmit.specs.OutOfMemory.{RunsOutInPoll, IfOutOfMemory}
+use Rattle.strm_transmit.proofs.OutOfMemoryLemmas.{taking_wants}
 use Rattle.strm_transmit.proofs.FitsLemmas.{KeepsReaderType, Fits-told_reader, Fits-consumer, Fits-reader_ended, other_guests, though_trapped, HasReader, IsReading, reading}
 use Rattle.strm_transmit.proofs.HostStepLemmas.{Does-after, Fits-after}
 use Rattle.strm_transmit.proofs.SceneLemmas.{StreamMoves, moved_on-moves, stays-moves}
@@ -97,7 +97,7 @@ taken_in state r s new = record state {
   consumers = set state.consumers r new.consumer;
 }
 
--- the cause of a stop; none for want of memory
+-- the cause of a stop; none for running out of memory
 abbrev pub cause_of : ReaderStops → ℕ → ℕ → Answered
 cause_of Failed r s = Err (Some (stops.HostFailed (ends.Reader r)))
 cause_of Broke r s = Err (Some (stops.HostBroke (ends.Reader r)))
@@ -173,8 +173,8 @@ module _ (old : State) (tells : Tells) (r s : ℕ) (write : Operation) (i : IsRe
   take_stops Broke new after t k = turn-reader_broke old tells r s write t.0 new.tells (polled_with t.0 new.tells t.1.polled) after t.1.failed t.1.good t.1.broke k
   take_stops OutOfMemory new after t k = turn-reader_wanting old after tells r new.tells its_turn i.there t.tells
 
-  -- memory was wanting
-  pub take_wants : (e : ReaderStops) (new : ReaderScene) (told : Tells) → told ≡ told_after tells r new → IsReaderTurn (Err e) (taking_in old tells r s) new write → IfWanting (stop_of_reader e r s) (WantsInPoll old tells told its_turn)
+  -- memory had run out
+  pub take_wants : (e : ReaderStops) (new : ReaderScene) (told : Tells) → told ≡ told_after tells r new → IsReaderTurn (Err e) (taking_in old tells r s) new write → IfOutOfMemory (stop_of_reader e r s) (RunsOutInPoll old tells told its_turn)
   take_wants Failed new told x t = tt
   take_wants BadItem new told x t = tt
   take_wants Broke new told x t = tt
@@ -287,6 +287,6 @@ module _ (old : State) (tells : Tells) (r s : ℕ) (write : Operation) (h : IsTa
     pub stops-length : length new.streams ≡ length old.streams
     stops-length = ap (λ (x : State). length x.streams) is ∙ mid-length mid told (Err e) t
 
-    -- where memory was wanting
-    pub stops-wants : IfWanting (stop_of_reader e r s) (WantsInPoll old tells told (λ w. reader_turn w s r write))
+    -- where memory had run out
+    pub stops-wants : IfOutOfMemory (stop_of_reader e r s) (RunsOutInPoll old tells told (λ w. reader_turn w s r write))
     stops-wants = take_wants old tells r s write is_reading e t.after told t.ends t.takes

@@ -31,7 +31,7 @@ use Rattle.strm_host_machine.proofs.ReaderLemmas.{ended_reader_in, grows-same_re
 use Rattle.strm_host_machine.proofs.SettleLemmas.{AreBothLeft}
 use Rattle.strm_host_machine.proofs.PipeLemmas.{gathered_in, IsFetched, Does-fetches_none, Does-fetches, Does-fetches_failed, Does-fetches_broke, IsOffered, offered_tells, passed_in, Does-round, Does-round_stop}
 use Rattle.strm_host_machine.proofs.PipeRoundLemmas.{Does-offers_none, Does-offers, Does-offers_failed, Does-offers_bad, Does-offers_broke, Does-ends_not, Does-ends}
-use Rattle.strm_host_turns.specs.Piping.{Fetching, Fetches, Offering, offering, Ungathered, Unoffered, OfferWants, Offers}
+use Rattle.strm_host_turns.specs.Piping.{Fetching, Fetches, Offering, offering, Ungathered, Unoffered, OfferRunsOut, Offers}
 use Rattle.strm_host_turns.specs.declared.reader_turns.ReaderStops.{ReaderStops}
 use Rattle.strm_host_turns.specs.declared.reader_turns.ReaderStops.TheVariants as reader_stops
 use Rattle.strm_host_turns.specs.declared.writer_turns.WriterStops.{WriterStops}
@@ -48,8 +48,8 @@ use Rattle.strm_transmit.specs.declared.errors.StoreError.{StoreError}
 use Rattle.strm_transmit.proofs.OperateLemmas.{cause_of as stop_cause, stop_is}
 use Rattle.strm_transmit.proofs.WriterTurnLemmas.{stop-is}
 use Rattle.strm_transmit.proofs.ReaderTurnLemmas.{cause_of, cause-is}
-use Rattle.strm_transmit.specs.WantsMemory.{writer_failed, reader_failed, FailsOnce, WantsInPoll, WantsAt, InPoll, BeforeOffer, WantsInOffer, Polled, Unpolled, IfWanting}
-use Rattle.strm_transmit.proofs.WantsLemmas.{set_again, none_from, none_to, fails_polled, fails_offered, fails_writer, fails_reader}
+use Rattle.strm_transmit.specs.OutOfMemory.{writer_failed, reader_failed, FailsOnce, RunsOutInPoll, RunsOutAt, InPoll, BeforeOffer, RunsOutInOffer, Polled, Unpolled, IfOutOfMemory}
+use Rattle.strm_transmit.proofs.OutOfMemoryLemmas.{set_again, none_from, none_to, fails_polled, fails_offered, fails_writer, fails_reader}
 use Rattle.strm_host_machine.proofs.WriterTurnLemmas.{told-same}
 use Rattle.strm_machine.specs.declared.stops.Stop.TheVariants.{HostFailed}
 use Rattle.strm_machine.specs.declared.streams.HostEnd.TheVariants as ends
@@ -107,7 +107,7 @@ offers_keep (Err reader_stops.BadItem) old new f = same_stream old new (ap (λ (
 offers_keep (Err reader_stops.Broke) old new f = same_stream old new (ap (λ (x : Offering). x.stream) f.1.after) (ap (λ (x : Offering). x.consumer) f.1.after)
 offers_keep (Err reader_stops.OutOfMemory) old new f = same_stream old new f.stream f.consumer
 
--- what an offer for which memory was wanting keeps of what its ends tell
+-- what an offer for which memory had run out keeps of what its ends tell
 pub record SaysNothing (old new : Offering) : Type 0 where
   pub said : new.writer.said ≡ old.writer.said
   pub faults : old.writer.faults ≤ new.writer.faults
@@ -121,7 +121,7 @@ same_writer old new e = omega (arith, e)
 keeps_itself : (t : ReaderTells) → KeepsReader t t
 keeps_itself t = record { said = refl; holds = refl; faults = omega arith; closed = refl; heard = refl; kind = refl; payload = refl }
 
-pub says_nothing : (old new : Offering) → OfferWants old new → SaysNothing old new
+pub says_nothing : (old new : Offering) → OfferRunsOut old new → SaysNothing old new
 says_nothing old new w = by w.ends
   where
     by : Ungathered old new ⊎ Unoffered old new → SaysNothing old new
@@ -265,8 +265,8 @@ module _ (old : State) (tells : Tells) (s n r : ℕ) (h : Rounds old tells s n r
     pub fetch_stops-pipe : (e : WriterStops) → FetchesStream old mid tells told s n (Err e) → IsPipe new told s n r
     fetch_stops-pipe e t = subst (λ (x : State). IsPipe x told s n r) (sym is) (trapped_pipe mid told s n r (fetched-pipe mid told (Err e) t))
 
-    -- where memory was wanting
-    pub fetch-wants : (e : WriterStops) → FetchesStream old mid tells told s n (Err e) → IfWanting (stop_of_writer e n) (WantsInPoll old tells told (λ w. fetches w s n r))
+    -- where memory had run out
+    pub fetch-wants : (e : WriterStops) → FetchesStream old mid tells told s n (Err e) → IfOutOfMemory (stop_of_writer e n) (RunsOutInPoll old tells told (λ w. fetches w s n r))
     fetch-wants Failed t = tt
     fetch-wants Broke t = tt
     fetch-wants OutOfMemory t =
@@ -416,8 +416,8 @@ module _ (old : State) (tells : Tells) (s n r : ℕ) (h : Rounds old tells s n r
     abbrev TellsSo : Offering → Type 0
     TellsSo after = told ≡ with_told_reader (with_told tells n after.writer) r after.reader
 
-    -- memory was wanting before the poll
-    unpolled : (after : Offering) → TellsSo after → Ungathered offer_old after → WantsInOffer n old tells told (offer_part s n r)
+    -- memory had run out before the poll
+    unpolled : (after : Offering) → TellsSo after → Ungathered offer_old after → RunsOutInOffer n old tells told (offer_part s n r)
     unpolled after e u =
         let same : told ≡ tells =
         e
@@ -428,7 +428,7 @@ module _ (old : State) (tells : Tells) (s n r : ℕ) (h : Rounds old tells s n r
         Unpolled same (subst (λ (x : Tells). (told_by x n).holds ≢ []) (sym same) u.writer.some)
 
     -- or in it
-    polled : (after : Offering) → TellsSo after → Unoffered offer_old after → WantsInOffer n old tells told (offer_part s n r)
+    polled : (after : Offering) → TellsSo after → Unoffered offer_old after → RunsOutInOffer n old tells told (offer_part s n r)
     polled after e u =
         let offered = length (held_on old tells n) in
         let since = (consumer_at old r).since in
@@ -453,12 +453,12 @@ module _ (old : State) (tells : Tells) (s n r : ℕ) (h : Rounds old tells s n r
           does = Does-offers_failed old tells n s r said more o (gathered_in old tells n) refl refl;
         })
 
-    offer_wants : (after : Offering) → TellsSo after → Ungathered offer_old after ⊎ Unoffered offer_old after → WantsInOffer n old tells told (offer_part s n r)
+    offer_wants : (after : Offering) → TellsSo after → Ungathered offer_old after ⊎ Unoffered offer_old after → RunsOutInOffer n old tells told (offer_part s n r)
     offer_wants after e (inl u) = unpolled after e u
     offer_wants after e (inr u) = polled after e u
 
-    -- where memory was wanting
-    pub offer-wants : (e : ReaderStops) → OffersStream old mid tells told s n r (Err e) → IfWanting (stop_of_reader e r s) (WantsInOffer n old tells told (offer_part s n r))
+    -- where memory had run out
+    pub offer-wants : (e : ReaderStops) → OffersStream old mid tells told s n r (Err e) → IfOutOfMemory (stop_of_reader e r s) (RunsOutInOffer n old tells told (offer_part s n r))
     offer-wants reader_stops.Failed t = tt
     offer-wants reader_stops.BadItem t = tt
     offer-wants reader_stops.Broke t = tt
@@ -525,12 +525,12 @@ round-stops old new tells told s n r error stop d =
     (Does-round_stop old new tells told s n r (stop_cause error)
     (subst (λ (x : Answered). Does old new tells told x (λ w. fetches w s n r)) same d))
 
--- memory was wanting in a round of stream s
-abbrev RoundWants : State → Tells → Tells → ℕ → ℕ → ℕ → Type 0
-RoundWants old tells told s n r = WantsAt s n r old tells told (λ w. pipe_round w s n r) (λ w. fetches w s n r)
+-- memory had run out in a round of stream s
+abbrev RoundRunsOut : State → Tells → Tells → ℕ → ℕ → ℕ → Type 0
+RoundRunsOut old tells told s n r = RunsOutAt s n r old tells told (λ w. pipe_round w s n r) (λ w. fetches w s n r)
 
 -- in its fetch
-pub round-fetch_wants : (old : State) (tells told : Tells) (s n r : ℕ) → WantsInPoll old tells told (λ w. fetches w s n r) → RoundWants old tells told s n r
+pub round-fetch_wants : (old : State) (tells told : Tells) (s n r : ℕ) → RunsOutInPoll old tells told (λ w. fetches w s n r) → RoundRunsOut old tells told s n r
 round-fetch_wants old tells told s n r w =
     InPoll (record {
       end = w.end;
@@ -542,7 +542,7 @@ round-fetch_wants old tells told s n r w =
 
 module _ (old mid : State) (tells told more : Tells) (s n r : ℕ) (d : Does old mid tells told (Ok replies.Done) (λ w. fetches w s n r)) (p : IsPipe mid told s n r) where
   -- or in the offer behind it
-  pub round-offer_wants : WantsInOffer n mid told more (offer_part s n r) → RoundWants old tells more s n r
+  pub round-offer_wants : RunsOutInOffer n mid told more (offer_part s n r) → RoundRunsOut old tells more s n r
   round-offer_wants (Polled w) =
       InPoll (record {
         end = w.end;

@@ -7,7 +7,8 @@ use Rattle.std.specs.FinMap.{get-empty}
 use Rattle.std.specs.Ordering.{nat_cmp}
 use Rattle.std.proofs.lemmas.Bool.{cases_eq, and_parts, eqb-true}
 use Rattle.std.proofs.lemmas.List.{get_or-set_same, get_or-set_other, get_or_past, get_or_push}
-use Rattle.strm_waitable_sets.specs.Sets.{Sets, is_member, is_number}
+use Rattle.strm_waitable_sets.specs.Sets.{Sets, is_member}
+use Rattle.strm_codes.specs.OptionalNumbers.{is_number}
 use Rattle.strm_machine.specs.Words.{Guest, State, Handles, no_stream, stream_at, sets_in, guest_in, with_table, end_of, opposite, same_side, is_end, Name, end_named, is_held, IsSound}
 use Rattle.strm_machine.specs.declared.streams.Owner.{Owner}
 use Rattle.strm_machine.specs.declared.streams.Owner.TheVariants.{Held}

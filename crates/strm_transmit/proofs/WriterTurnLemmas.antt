@@ -29,11 +29,11 @@ use Rattle.strm_host_turns.proofs.StepLemmas.{scene_in, told_in, turned_in, stop
 use Rattle.strm_transmit.specs.Inside.{AreServed}
 use Rattle.strm_transmit.specs.Hosted.{call_answered, IsStop}
 use Rattle.strm_transmit.specs.Turning.{HasWriterTurn, stop_of_writer}
-use Rattle.strm_transmit.specs.WantsMemory.{WantsInPoll, IfWanting}
+use Rattle.strm_transmit.specs.OutOfMemory.{RunsOutInPoll, IfOutOfMemory}
 use Rattle.strm_transmit.proofs.ServedLemmas.{serving_kept}
 use Rattle.strm_transmit.proofs.FitsLemmas.{keeps-closed, Fits-told, Fits-producer, Fits-ended, other_guests, though_trapped, HasWriter, serving}
 use Rattle.strm_transmit.proofs.HostStepLemmas.{Does-after, Fits-after}
-use Rattle.strm_transmit.proofs.WantsLemmas.{turn_wants}
+use Rattle.strm_transmit.proofs.OutOfMemoryLemmas.{turn_wants}
 use Rattle.strm_transmit.proofs.SceneLemmas.{SceneKeeps, turn_keeps}
 
 -- ## A turn that stops keeps what is kept of the writer
@@ -179,8 +179,8 @@ module _ (old : State) (tells : Tells) (n s : ℕ) (read : Operation) (h : IsSer
     pub stops-length : length new.streams ≡ length old.streams
     stops-length = ap (λ (x : State). length x.streams) is ∙ mid-length mid told (Err e) t
 
-    -- where memory was wanting
-    pub stops-wants : IfWanting (stop_of_writer e n) (WantsInPoll old tells told (λ w. writer_turn w s n read))
+    -- where memory had run out
+    pub stops-wants : IfOutOfMemory (stop_of_writer e n) (RunsOutInPoll old tells told (λ w. writer_turn w s n read))
     stops-wants = turn_wants old tells told n s read is_serving t.after t.ends e t.turns
 
   module _ (mid new : State) (told after : Tells) (t : HasWriterTurn old mid tells told n s read (Ok tt)) (g : (stream_at mid s).writer.owner ≡ Gone) (c : ClosesWriter (told_by told n) (told_by after n))

@@ -24,11 +24,11 @@ use Rattle.strm_host_machine.specs.LastRecord.{HaltsByRecord}
 use Rattle.strm_host_machine.specs.Steps.{outcome, may_poll, touches}
 use Rattle.strm_host_machine.specs.Does.{Logs, world_of, Answered, FitsWriter, FitsReader, Fits, Does}
 use Rattle.strm_transmit.specs.Meets.{Meets, as_reply, act_takes_memory}
-use Rattle.strm_transmit.specs.WantsMemory.{WantsIn, IfWanting}
+use Rattle.strm_transmit.specs.OutOfMemory.{RunsOutIn, IfOutOfMemory}
 use Rattle.strm_transmit.specs.declared.errors.StoreError.{StoreError}
 use Rattle.strm_transmit.specs.declared.errors.StoreError.TheVariants.{Refused, HostFailed, HostBroke, BadItem, StoreTrapped, OutOfMemory}
 
--- an answer, a refusal among them, or the cause of a stop; none for want of memory
+-- an answer, a refusal among them, or the cause of a stop; none for running out of memory
 abbrev pub call_answered : Result Reply StoreError → Answered
 call_answered (Ok reply) = Ok reply
 call_answered (Err (Refused refusal)) = Ok (replies.Refused refusal)
@@ -75,14 +75,14 @@ pub record StoreStays (old new : State) (tells told : Tells) : Type 0 where
   pub same : new ≡ old
   pub ends : told ≡ tells
 
--- what want of memory leaves where a host end may be polled: a trapped store, and what host ends then tell
-pub record TrapsWanting (act : Act) (old new : State) (tells told : Tells) : Type 0 where
+-- what running out of memory leaves where a host end may be polled: a trapped store, and what host ends then tell
+pub record TrapsOutOfMemory (act : Act) (old new : State) (tells told : Tells) : Type 0 where
   pub trapped : new.trapped ≡ true
-  pub wants : WantsIn old tells told act
+  pub wants : RunsOutIn old tells told act
 
 -- what it leaves: that where a host end may be polled; anywhere else nothing has changed
 abbrev pub Wanting : Bool → Act → State → State → Tells → Tells → Type 0
-Wanting true act old new tells told = TrapsWanting act old new tells told
+Wanting true act old new tells told = TrapsOutOfMemory act old new tells told
 Wanting false act old new tells told = StoreStays old new tells told
 
 -- what an error leaves: a refusal and a store that was trapped change nothing, and a stop traps the
@@ -105,16 +105,16 @@ IsHandedOver state tells (OnEnd Reading end (Operate address count)) = HasHeld s
 IsHandedOver state tells act = ⊥
 
 -- memory is wanting only where a host end may be polled
-abbrev pub WantsOnlyPolling : {T : Type 0} → State → Act → Result T StoreError → Type 0
-WantsOnlyPolling state act result = may_poll (lone state) act ≡ false → result ≢ Err OutOfMemory
+abbrev pub RunsOutOnlyPolling : {T : Type 0} → State → Act → Result T StoreError → Type 0
+RunsOutOnlyPolling state act result = may_poll (lone state) act ≡ false → result ≢ Err OutOfMemory
 
 -- or where the act takes memory
-abbrev pub WantsOnlyTaking : {T : Type 0} → State → Act → Result T StoreError → Type 0
-WantsOnlyTaking state act result = act_takes_memory act ≡ false → WantsOnlyPolling state act result
+abbrev pub RunsOutOnlyTaking : {T : Type 0} → State → Act → Result T StoreError → Type 0
+RunsOutOnlyTaking state act result = act_takes_memory act ≡ false → RunsOutOnlyPolling state act result
 
 -- and never for items that are handed over
-abbrev pub WantsNoneHeld : {T : Type 0} → State → Tells → Act → Result T StoreError → Type 0
-WantsNoneHeld state tells act result = IsHandedOver state tells act → result ≢ Err OutOfMemory
+abbrev pub RunsOutNoneHeld : {T : Type 0} → State → Tells → Act → Result T StoreError → Type 0
+RunsOutNoneHeld state tells act result = IsHandedOver state tells act → result ≢ Err OutOfMemory
 
 -- an error that a host end failed, or broke the rules of its kind: the end says so by its last record, which it
 -- made in the call
@@ -130,17 +130,17 @@ IsStop StoreTrapped = ⊥
 IsStop _ = Unit {0}
 
 -- a part of a step among host ends, and its answer: the machine does the same, and the store needs these host ends
--- still; an error is a stop, and traps the store; for want of memory host ends tell what `Wants` says
-pub record IsPartAs {T : Type 0} (reply : T → Reply) (old new : State) (tells told : Tells) (result : Result T StoreError) (part : World → Outcome) (Wants : (World → Outcome) → State → Tells → Tells → Type 0) : Type 0 where
+-- still; an error is a stop, and traps the store; for running out of memory host ends tell what `Wants` says
+pub record IsPartAs {T : Type 0} (reply : T → Reply) (old new : State) (tells told : Tells) (result : Result T StoreError) (part : World → Outcome) (RunsOut : (World → Outcome) → State → Tells → Tells → Type 0) : Type 0 where
   pub does : Does old new tells told (call_answered (as_reply reply result)) part
   pub fits : Fits new told
   pub stop : IfErr result IsStop
   pub trapped : IfErr result (λ _. new.trapped ≡ true)
-  pub wanting : IfErr result (λ error. IfWanting error (Wants part old tells told))
+  pub out_of_memory : IfErr result (λ error. IfOutOfMemory error (RunsOut part old tells told))
 
 -- one that answers nothing
 abbrev pub IsPart : State → State → Tells → Tells → Result (Unit {0}) StoreError → (World → Outcome) → ((World → Outcome) → State → Tells → Tells → Type 0) → Type 0
-IsPart old new tells told result part Wants = IsPartAs (λ _. replies.Done) old new tells told result part Wants
+IsPart old new tells told result part RunsOut = IsPartAs (λ _. replies.Done) old new tells told result part RunsOut
 
 -- a call of an act that touches no host end: the answer and the state are the machine's without them
 pub record MeetsAlone (old new : State) (tells told : Tells) (result : Result Reply StoreError) (act : Act) : Type 0 where
@@ -156,4 +156,4 @@ pub record MeetsHosted (old new : State) (tells told : Tells) (result : Result R
   pub alone : touches (lone old) act ≡ false → MeetsAlone old new tells told result act
   pub err : IfErr result (Leaves act old new tells told)
   pub by_record : IfErr result (ErrsByRecord tells told)
-  pub wanting : result ≡ Err OutOfMemory → MayBeDone old tells act
+  pub out_of_memory : result ≡ Err OutOfMemory → MayBeDone old tells act

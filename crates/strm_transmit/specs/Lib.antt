@@ -4,7 +4,7 @@ pub mod Inside
 pub mod Keeping
 pub mod Lending
 pub mod Meets
-pub mod WantsMemory
+pub mod OutOfMemory
 pub mod HostEnds
 pub mod Hosted
 pub mod Turning

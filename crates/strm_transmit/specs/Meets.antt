@@ -25,7 +25,7 @@ is_done replies.StoreTrapped = false
 is_done _ = true
 
 -- the store's answer and the state after it are the machine's. A refusal, a store that was trapped
--- and want of memory leave the state as it was; want of memory comes only where the machine does the
+-- and running out of memory leave the state as it was; running out of memory comes only where the machine does the
 -- step, so never in place of a refusal. No host end is polled, so none fails or breaks its rules
 abbrev pub Meets : State → State → Result Reply StoreError → Reaction → Type 0
 Meets old new (Ok reply) reaction = reaction ≡ goes reply new

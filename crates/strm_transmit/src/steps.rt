@@ -15,7 +15,7 @@ ghost use Rattle.strm_machine.specs.declared.acts.LooseAct.TheVariants as loose_
 ghost use Rattle.strm_host_machine.specs.Steps.{outcome_of_step, touches};
 ghost use Rattle.strm_host_machine.specs.Does.{Fits, Does};
 ghost use Rattle.strm_transmit.specs.Meets.{Meets, as_reply, refused_too, is_settled, act_takes_memory};
-ghost use Rattle.strm_transmit.specs.Hosted.{call_answered, lone, MayBeDone, Leaves, MeetsAlone, MeetsHosted, WantsOnlyTaking, WantsNoneHeld};
+ghost use Rattle.strm_transmit.specs.Hosted.{call_answered, lone, MayBeDone, Leaves, MeetsAlone, MeetsHosted, RunsOutOnlyTaking, RunsOutNoneHeld};
 
 use crate::errors::StoreError;
 use crate::host_ends::HostEnds;
@@ -45,12 +45,12 @@ pub fn apply<H: HostEnds>(
         store.new (H.tells hosts.old) (H.tells hosts.new) result (act_of step.now) }
     ensures err { IfErr result
         (Leaves (act_of step.now) store.old store.new (H.tells hosts.old) (H.tells hosts.new)) }
-    ensures wanting { result ≡ Err StoreError.OutOfMemory
+    ensures out_of_memory { result ≡ Err StoreError.OutOfMemory
         → MayBeDone store.old (H.tells hosts.old) (act_of step.now) }
     ensures settled { IfOk result (λ reply. IsTrue (is_settled reply)) }
     ensures refused { (refusal : Refusal) → result ≢ Err (StoreError.Refused refusal) }
-    ensures takes_no_memory { WantsOnlyTaking store.old (act_of step.now) result }
-    ensures held { WantsNoneHeld store.old (H.tells hosts.old) (act_of step.now) result }
+    ensures takes_no_memory { RunsOutOnlyTaking store.old (act_of step.now) result }
+    ensures held { RunsOutNoneHeld store.old (H.tells hosts.old) (act_of step.now) result }
 {
     perform_step(store, hosts, step)
 }
@@ -67,8 +67,8 @@ fn perform_step<H: HostEnds>(
         (act_of step.now) }
     ensures settled { IfOk result (λ reply. IsTrue (is_settled reply)) }
     ensures refused { (refusal : Refusal) → result ≢ Err (StoreError.Refused refusal) }
-    ensures takes_no_memory { WantsOnlyTaking store.old (act_of step.now) result }
-    ensures held { WantsNoneHeld store.old (H.tells hosts.old) (act_of step.now) result }
+    ensures takes_no_memory { RunsOutOnlyTaking store.old (act_of step.now) result }
+    ensures held { RunsOutNoneHeld store.old (H.tells hosts.old) (act_of step.now) result }
 {
     match operation_of(step) {
         Some(asked) => {
@@ -96,8 +96,8 @@ fn perform_other<H: HostEnds>(
         (act_of step.now) }
     ensures settled { IfOk result (λ reply. IsTrue (is_settled reply)) }
     ensures refused { (refusal : Refusal) → result ≢ Err (StoreError.Refused refusal) }
-    ensures takes_no_memory { WantsOnlyTaking store.old (act_of step.now) result }
-    ensures held { WantsNoneHeld store.old (H.tells hosts.old) (act_of step.now) result }
+    ensures takes_no_memory { RunsOutOnlyTaking store.old (act_of step.now) result }
+    ensures held { RunsOutNoneHeld store.old (H.tells hosts.old) (act_of step.now) result }
 {
     store.sound();
     store.served();
@@ -163,8 +163,8 @@ fn perform_act<H: HostEnds>(
         (act_of step.now) }
     ensures settled { IfOk result (λ reply. IsTrue (is_settled reply)) }
     ensures refused { (refusal : Refusal) → result ≢ Err (StoreError.Refused refusal) }
-    ensures takes_no_memory { WantsOnlyTaking store.old (act_of step.now) result }
-    ensures held { WantsNoneHeld store.old (H.tells hosts.old) (act_of step.now) result }
+    ensures takes_no_memory { RunsOutOnlyTaking store.old (act_of step.now) result }
+    ensures held { RunsOutNoneHeld store.old (H.tells hosts.old) (act_of step.now) result }
 {
     // A copy, so that steps which are done at once need not lie in memory.
     let apart = *step;
@@ -182,8 +182,8 @@ fn perform_apart<H: HostEnds>(
     ensures meets { MeetsHosted store.old store.new (H.tells hosts.old) (H.tells hosts.new) result
         (act_of step.now) }
     ensures settled { IfOk result (λ reply. IsTrue (is_settled reply)) }
-    ensures takes_no_memory { WantsOnlyTaking store.old (act_of step.now) result }
-    ensures held { WantsNoneHeld store.old (H.tells hosts.old) (act_of step.now) result }
+    ensures takes_no_memory { RunsOutOnlyTaking store.old (act_of step.now) result }
+    ensures held { RunsOutNoneHeld store.old (H.tells hosts.old) (act_of step.now) result }
 {
     perform(store, hosts, &Act::of(step))
 }
@@ -226,8 +226,8 @@ fn perform<H: HostEnds>(store: &mut Store, hosts: &mut H, act: &Act) -> Result<R
     ensures meets { MeetsHosted store.old store.new (H.tells hosts.old) (H.tells hosts.new) result
         act.now }
     ensures settled { IfOk result (λ reply. IsTrue (is_settled reply)) }
-    ensures takes_no_memory { WantsOnlyTaking store.old act.now result }
-    ensures held { WantsNoneHeld store.old (H.tells hosts.old) act.now result }
+    ensures takes_no_memory { RunsOutOnlyTaking store.old act.now result }
+    ensures held { RunsOutNoneHeld store.old (H.tells hosts.old) act.now result }
 {
     store.sound();
     store.served();
@@ -312,8 +312,8 @@ fn on_end<H: HostEnds>(
     ensures meets { MeetsHosted store.old store.new (H.tells hosts.old) (H.tells hosts.new) result
         (acts.OnEnd side end.now act) }
     ensures settled { IfOk result (λ reply. IsTrue (is_settled reply)) }
-    ensures takes_no_memory { WantsOnlyTaking store.old (acts.OnEnd side end.now act) result }
-    ensures held { WantsNoneHeld store.old (H.tells hosts.old) (acts.OnEnd side end.now act)
+    ensures takes_no_memory { RunsOutOnlyTaking store.old (acts.OnEnd side end.now act) result }
+    ensures held { RunsOutNoneHeld store.old (H.tells hosts.old) (acts.OnEnd side end.now act)
         result }
 {
     store.sound();

@@ -13,7 +13,8 @@ use Rattle.std.specs.List.Sorted.{IsStrictlySortedBy}
 use Rattle.std.specs.Ordering.{eq_by_cmp, is_lt, nat_cmp}
 use Rattle.std.specs.Prelude.{nat_eq, ◌⊎◌}
 use Rattle.std.proofs.lemmas.Grind.{get_or_tail}
-use Rattle.strm_waitable_sets.specs.Sets.{Sets, is_set_there, set_of, is_number, is_member, members, least_free, set_placed, with_new_set, handle_joined, handle_left, without_set, IsLeastReady, NoneReady, ListsHandles}
+use Rattle.strm_waitable_sets.specs.Sets.{Sets, is_set_there, set_of, is_member, members, least_free, set_placed, with_new_set, handle_joined, handle_left, without_set, IsLeastReady, NoneReady, ListsHandles}
+use Rattle.strm_codes.specs.OptionalNumbers.{is_number}
 use Rattle.strm_waitable_sets.proofs.HomeLemmas.{by_eq}
 use Rattle.strm_waitable_sets.proofs.TieLemmas.{eq-other, set_placed-at}
 

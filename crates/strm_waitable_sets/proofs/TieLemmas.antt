@@ -13,7 +13,8 @@ use Rattle.std.proofs.lemmas.Map.Keys.{sorted_head}
 use Rattle.std.specs.List.{position_or_len, list_any, AllByRecursion}
 use Rattle.std.specs.List.Sorted.{IsStrictlySortedBy}
 use Rattle.std.specs.Prelude.{nat_eq}
-use Rattle.strm_waitable_sets.specs.Sets.{Sets, is_number, is_member, set_placed, AreSetsKept}
+use Rattle.strm_waitable_sets.specs.Sets.{Sets, is_member, set_placed, AreSetsKept}
+use Rattle.strm_codes.specs.OptionalNumbers.{is_number}
 use Rattle.strm_waitable_sets.specs.Slots.{Slot, has, slot_at, AreSlotsTied}
 use Rattle.strm_waitable_sets.proofs.HomeLemmas.{by_eq, get-seen, get-updated}
 

@@ -8,6 +8,7 @@ use Rattle.std.specs.FinMap as map
 use Rattle.std.specs.List.{position_or_len, list_any}
 use Rattle.std.specs.List.Sorted.{IsStrictlyIncreasing}
 use Rattle.std.specs.Ordering.{nat_cmp}
+use Rattle.strm_codes.specs.OptionalNumbers.{is_number}
 
 -- which numbers have a set, from 0 on, and the number of the set that a handle is in
 pub record Sets : Type 0 where
@@ -35,11 +36,6 @@ is_set_there sets number = slice_index_or sets.there number false
 -- the set that a handle is in
 abbrev pub set_of : Sets → ℕ → Option ℕ
 set_of sets handle = map.get sets.homes handle
-
--- the optional number is this one
-abbrev pub is_number : Option ℕ → ℕ → Bool
-is_number None number = false
-is_number (Some other) number = nat_eq other number
 
 -- the handle is in the set of this number
 abbrev pub is_member : Sets → ℕ → ℕ → Bool

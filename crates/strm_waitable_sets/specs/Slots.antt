@@ -3,7 +3,7 @@ use Rattle.std.specs.Prelude.{◌≡◌, ℕ, ◌<◌, ◌≤◌, Bool, true, fa
 use Rattle.std.specs.BTreeMap as tree_map
 use Rattle.std.specs.BTreeSet as tree_set
 use Rattle.std.specs.Ordering.{nat_cmp}
-use Rattle.strm_waitable_sets.specs.Sets.{is_number}
+use Rattle.strm_codes.specs.OptionalNumbers.{is_number}
 
 -- the set of a number, if it is there
 abbrev pub Slot : Type 0

@@ -14,9 +14,11 @@ use std::alloc::Global;
 use std::collections::BTreeMap;
 use std::marker::Model;
 use strm_codes::counts::OutOfMemory;
+use thiserror::Error;
 
 /// A set has members, so it is not removed.
-#[derive(Clone, Copy, Debug, PartialEq, Eq)]
+#[derive(Clone, Copy, Debug, PartialEq, Eq, Error)]
+#[error("the waitable set has a member")]
 pub struct SetNotEmpty;
 
 /// The sets of a guest, by number, and the set that each handle is in.

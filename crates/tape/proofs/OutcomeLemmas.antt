@@ -29,9 +29,9 @@ module _ (ends after : Tells) (status code : ℕ) (same : code ≡ status) where
       subst (λ (n : ℕ). PlaysAmong (followers tape) after tape sink sink_after n) (sym same)
       (subst (λ (t : Tells). PlaysAmong t after tape sink sink_after status) (tells_are ends (map following tape.writers) (map following_reader tape.readers) ws rs) plays)
 
--- of a tape for whose host ends memory was wanting
-pub plays_wanting : (tape : TapeOf) (sink after : Port) (code : ℕ) → code ≡ 9 → Plays tape sink after code
-plays_wanting tape sink after code e = (
+-- of a tape for whose host ends memory had run out
+pub plays_out_of_memory : (tape : TapeOf) (sink after : Port) (code : ℕ) → code ≡ 9 → Plays tape sink after code
+plays_out_of_memory tape sink after code e = (
   followers tape,
   record {
     known = inr (omega (arith, e), omega (arith, e));
@@ -43,7 +43,7 @@ plays_wanting tape sink after code e = (
     goes_on = hosts_stay (followers tape);
     complete = λ end same plays calm. inr e;
     differs = λ other calm. inr e;
-    wanting = λ f. inl refl;
+    out_of_memory = λ f. inl refl;
   },
 )
 

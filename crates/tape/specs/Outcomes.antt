@@ -51,7 +51,7 @@ pub record PlaysAmong (ends after : Tells) (tape : TapeOf) (sink sink_after : Po
       ¬ Rose sink.faults sink_after.faults → IsStatusOfPlay status end ⊎ (status ≡ 9)
   pub differs : tape_of_run tape.steps ends after ≢ tape →
       ¬ Rose sink.faults sink_after.faults → IsOr 10 status
-  pub wanting : status ≡ 9 → WasRunOrNot ends after tape.steps
+  pub out_of_memory : status ≡ 9 → WasRunOrNot ends after tape.steps
 
 -- among those that follow it
 abbrev pub Plays : TapeOf → Port → Port → ℕ → Type 0

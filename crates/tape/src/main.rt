@@ -87,7 +87,7 @@ fn taken_among_ends<S: Source, K: Sink>(
         (port (K.taken sink.old) (K.faults sink.old)) (port (K.taken sink.new) (K.faults sink.new))
         (exit_status code)) }
     ensures nothing { IfOk result (λ code. exit_status code ≡ OUT_OF_MEMORY → sink.new ≡ sink.old) }
-    ensures wanting { OnErr result (sink.new ≡ sink.old) }
+    ensures out_of_memory { OnErr result (sink.new ≡ sink.old) }
     ensures unread { OnErr result (source.new ≡ source.old) }
 {
     let writers: [Box<dyn HostWriter>; 8] = [
@@ -145,7 +145,7 @@ fn played_among_ends<K: Sink>(
         (port (K.taken sink.old) (K.faults sink.old)) (port (K.taken sink.new) (K.faults sink.new))
         (exit_status code)) }
     ensures nothing { IfOk result (λ code. exit_status code ≡ OUT_OF_MEMORY → sink.new ≡ sink.old) }
-    ensures wanting { OnErr result (sink.new ≡ sink.old) }
+    ensures out_of_memory { OnErr result (sink.new ≡ sink.old) }
 {
     let mut writers: Vec<Box<dyn HostWriter>> = Vec::new(alloc);
     for n in 0..tape.writers() {
@@ -177,7 +177,7 @@ fn played_from<S: Source, K: Sink>(
         (port (K.taken sink.old) (K.faults sink.old)) (port (K.taken sink.new) (K.faults sink.new))
         (exit_status code)) }
     ensures nothing { IfOk result (λ code. exit_status code ≡ OUT_OF_MEMORY → sink.new ≡ sink.old) }
-    ensures wanting { OnErr result (sink.new ≡ sink.old) }
+    ensures out_of_memory { OnErr result (sink.new ≡ sink.old) }
 {
     match tape_read(alloc, source, sink) {
         Ok(tape) => {
@@ -212,7 +212,7 @@ fn answered<S: Source, K: Sink>(
         (exit_status code)) }
     ensures unread { NamesNone (map string_bytes words.now.items) → source.new ≡ source.old }
     ensures nothing { IfOk result (λ code. exit_status code ≡ OUT_OF_MEMORY → sink.new ≡ sink.old) }
-    ensures wanting { OnErr result (sink.new ≡ sink.old) }
+    ensures out_of_memory { OnErr result (sink.new ≡ sink.old) }
 {
     match tape_mode(words, sink) {
         Ok(Mode::Take) => taken_among_ends(alloc, source, sink),

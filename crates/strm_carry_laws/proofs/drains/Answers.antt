@@ -4,7 +4,7 @@ use Rattle.strm_memory.specs.Bytes.{IsBytes}
 use Rattle.strm_machine.specs.State.{State}
 use Rattle.strm_machine.specs.declared.steps.Step.{Step}
 use Rattle.strm_machine.specs.declared.steps.Step.TheVariants as steps
-use Rattle.strm_carry_laws.specs.OneStream.{byte_stream, reads_of}
+use Rattle.strm_carry_laws.specs.OneStream.{carried_type, reads_of}
 use Rattle.strm_carry_laws.specs.Serving.{serving, Runs, Drains}
 use Rattle.strm_carry_laws.proofs.RunLemmas.{runs_none, runs_step, runs_both, runs_as}
 use Rattle.strm_carry_laws.proofs.drains.Goals as goal
@@ -38,7 +38,7 @@ drain_none m0 m1 n a i met g =
 -- a read and its dump
 pair : (c : goal.After-gets) (m0 m1 : List ℕ) (n a i j r : ℕ) (met : Bool) → IsBytes m0 → length m0 ≡ 64 → length m1 ≡ 64 → n + 64 < 2 ^ 128 → 0 < j → a + j ≤ 64 → 0 < r → r ≤ 64 →
     let k = min r j in let b = take k (drop a m0) in
-    Runs (serving m0 m1 n a j i met) (serving m0 (b ++ drop k m1) (n + k) (a + k) (j - k) (i + k) true) (steps.Read 1 byte_stream 1 0 r ∷ steps.Dump 1 0 k ∷ []) b b
+    Runs (serving m0 m1 n a j i met) (serving m0 (b ++ drop k m1) (n + k) (a + k) (j - k) (i + k) true) (steps.Read 1 carried_type 1 0 r ∷ steps.Dump 1 0 k ∷ []) b b
 pair c m0 m1 n a i j r met t h g u p q x y =
     let k : ℕ = min r j in
     let b : List ℕ = take k (drop a m0) in
@@ -49,12 +49,12 @@ pair c m0 m1 n a i j r met t h g u p q x y =
     let place : a + 1 * k ≡ a + k = omega arith in
     let s0 : State = serving m0 m1 n a j i met in
     let s1 : State = serving m0 mid (n + k) (a + k) (j - k) (i + k) true in
-    let one = runs_step s0 (steps.Read 1 byte_stream 1 0 r) _ b (c.serves.ensures m0 m1 n a i j r met t h g u p q x y) refl (c.gets.ensures.read m0 m1 n a i j r met t h g u p q x y) in
-    let first : Runs s0 s1 (steps.Read 1 byte_stream 1 0 r ∷ []) b [] =
-    runs_as s0 _ s1 (steps.Read 1 byte_stream 1 0 r ∷ []) b b [] [] (ap (λ (z : ℕ). serving m0 mid (n + k) z (j - k) (i + k) true) place) refl refl one in
+    let one = runs_step s0 (steps.Read 1 carried_type 1 0 r) _ b (c.serves.ensures m0 m1 n a i j r met t h g u p q x y) refl (c.gets.ensures.read m0 m1 n a i j r met t h g u p q x y) in
+    let first : Runs s0 s1 (steps.Read 1 carried_type 1 0 r ∷ []) b [] =
+    runs_as s0 _ s1 (steps.Read 1 carried_type 1 0 r ∷ []) b b [] [] (ap (λ (z : ℕ). serving m0 mid (n + k) z (j - k) (i + k) true) place) refl refl one in
     let second = runs_step s1 (steps.Dump 1 0 k) _ [] (c.dumps.ensures m0 mid (n + k) (a + k) (j - k) (i + k) k true long (omega arith) (omega arith)) refl (c.gets.ensures.dump m0 mid (n + k) (a + k) (j - k) (i + k) k true long (omega arith) (omega arith)) in
-    runs_as s0 s1 s1 (steps.Read 1 byte_stream 1 0 r ∷ steps.Dump 1 0 k ∷ []) (b ++ []) b (take k mid) b refl (append-nil b) (take_at b (drop k m1) k size)
-    (runs_both s0 s1 s1 (steps.Read 1 byte_stream 1 0 r ∷ []) (steps.Dump 1 0 k ∷ []) b [] [] (take k mid) first second)
+    runs_as s0 s1 s1 (steps.Read 1 carried_type 1 0 r ∷ steps.Dump 1 0 k ∷ []) (b ++ []) b (take k mid) b refl (append-nil b) (take_at b (drop k m1) k size)
+    (runs_both s0 s1 s1 (steps.Read 1 carried_type 1 0 r ∷ []) (steps.Dump 1 0 k ∷ []) b [] [] (take k mid) first second)
 
 drain_more : (m0 m1 mid : List ℕ) (n a i j k : ℕ) (met : Bool) (run more : List Step) → k ≤ j → 0 < k → let b = take k (drop a m0) in
     Runs (serving m0 m1 n a j i met) (serving m0 mid (n + k) (a + k) (j - k) (i + k) true) run b b → Drains m0 mid (n + k) (a + k) (j - k) (i + k) true more → Drains m0 m1 n a j i met (run ++ more)
@@ -90,7 +90,7 @@ drain c (suc f) r (suc j) m0 m1 n a i met l t h g u q x y =
     let within : k ≤ length (drop a m0) = omega (arith, length-drop a m0) in
     let long : length mid ≡ 64 = omega (arith, length-append b (drop k m1), length-take-le k (drop a m0) within, length-drop k m1) in
     let next = drain c f r (suc j - k) m0 mid (n + k) (a + k) (i + k) true (omega arith) t h long (omega (arith, u)) (omega arith) x y in
-    drain_more m0 m1 mid n a i (suc j) k met (steps.Read 1 byte_stream 1 0 r ∷ steps.Dump 1 0 k ∷ []) (reads_of f r (suc j - k)) (omega arith) (omega arith)
+    drain_more m0 m1 mid n a i (suc j) k met (steps.Read 1 carried_type 1 0 r ∷ steps.Dump 1 0 k ∷ []) (reads_of f r (suc j - k)) (omega arith) (omega arith)
     (pair c m0 m1 n a i (suc j) r met t h g (omega (arith, u)) (omega arith) q x y) next
 
 pub returns : goal.returns

@@ -17,7 +17,7 @@ use strm_transmit::errors::StoreError;
 
 impl GuestStore {
     ghost use Rattle.std.specs.Borrow.{sem};
-    ghost use Rattle.strm_guest_store.specs.Lending.{LendsMemory};
+    ghost use Rattle.strm_guest_store.specs.Lending.{LendsGuestMemory};
 
     /// Whether there is a guest of this number.
     pub fn has_guest(&self, guest: u32) -> bool
@@ -31,7 +31,7 @@ impl GuestStore {
     pub fn memory_mut(&mut self, guest: u32) -> &mut [u8]
         requires { guest < length self.old.guests }
         ensures value { result.now ≡ memory_in self.old.guests guest }
-        ensures* lends { sem 𝓛 (LendsMemory self.entry guest result) }
+        ensures* lends { sem 𝓛 (LendsGuestMemory self.entry guest result) }
     {
         self.store.memory_mut(guest)
     }

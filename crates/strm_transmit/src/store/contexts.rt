@@ -142,7 +142,7 @@ impl Store {
         Ok(())
     }
 
-    // An error context more. After want of memory nothing has changed.
+    // An error context more. After running out of memory nothing has changed.
     #[tactic(auto, unfolding(strm_machine::specs::Reactions::performs))]
     fn make_context(&mut self, guest: u32, address: u32, len: u32) -> Result<u32, StoreError>
         requires { refusal self.old (Make (Context guest address len)) ≡ None }
@@ -250,7 +250,7 @@ impl Store {
         let _ = &self.contexts;
     }
 
-    // A handle more of a guest to an error context. After want of memory nothing has changed.
+    // A handle more of a guest to an error context. After running out of memory nothing has changed.
     fn share(&mut self, context: u32, guest: u32) -> Result<u32, StoreError>
         requires { ShareFits self.old context guest }
         ensures { Meets self.old self.new (as_reply replies.Number result)

@@ -13,7 +13,7 @@ ghost use Rattle.strm_host_machine.specs.Does.{Fits};
 ghost use Rattle.strm_transmit.specs.Inside.{AreServed};
 ghost use Rattle.strm_transmit.specs.Meets.{as_reply};
 ghost use Rattle.strm_transmit.specs.Hosted.{IsPart, MeetsHosted};
-ghost use Rattle.strm_transmit.specs.WantsMemory.{OfTurn, OfDrive};
+ghost use Rattle.strm_transmit.specs.OutOfMemory.{OfTurn, OfDrive};
 ghost use Rattle.strm_transmit.specs.Rounds.{pipe_ends};
 ghost use Rattle.strm_transmit.specs.Turning.{due_on, least_of, next_for_duty, NextServed};
 

@@ -68,7 +68,7 @@ fn reads<H: HostEnds>(hosts: &H, number: usize, stream: &Channel) -> bool
     is_of_kind && is_of_payload
 }
 
-// Places for items of host writers up to a number, the new ones with nothing in them. After want of memory
+// Places for items of host writers up to a number, the new ones with nothing in them. After running out of memory
 // there may be some.
 fn grow(alloc: Global, kept: &mut Vec<Items>, number: usize) -> Result<(), OutOfMemory>
     requires few { length kept.old.items ≤ host_limit }
@@ -77,15 +77,12 @@ fn grow(alloc: Global, kept: &mut Vec<Items>, number: usize) -> Result<(), OutOf
     ensures there { OnOk result (number < length kept.new.items) }
 {
     for _place in kept.len()..number + 1 {
-        match kept.push(Items::new(alloc, Payload::Nothing)) {
-            Ok(()) => {}
-            Err(_) => return Err(OutOfMemory),
-        }
+        kept.push(Items::new(alloc, Payload::Nothing))?;
     }
     Ok(())
 }
 
-// A place for items of the host writer of a stream, empty. After want of memory there may be more places,
+// A place for items of the host writer of a stream, empty. After running out of memory there may be more places,
 // with nothing in them.
 fn make_place(
     alloc: Global,
@@ -168,7 +165,7 @@ impl Store {
         Ok(())
     }
 
-    // A stream more, of a host writer that holds items or none. After want of memory nothing has changed.
+    // A stream more, of a host writer that holds items or none. After running out of memory nothing has changed.
     fn host(
         &mut self,
         number: u32,

@@ -119,7 +119,7 @@ impl Store {
         Ok(())
     }
 
-    // A stream more. After want of memory nothing has changed.
+    // A stream more. After running out of memory nothing has changed.
     #[tactic(auto, unfolding(strm_machine::specs::Reactions::performs))]
     fn make(&mut self, writer: u32, reader: u32, ty: TransmitIndex) -> Result<Pair, StoreError>
         requires { refusal self.old (Make (Between writer reader ty)) ≡ None }

@@ -48,7 +48,7 @@ impl Store {
         Ok(())
     }
 
-    // One guest more. After want of memory nothing has changed.
+    // One guest more. After running out of memory nothing has changed.
     #[tactic(auto, unfolding(strm_machine::specs::Reactions::performs))]
     fn push_guest(&mut self, size: u32) -> Result<u32, StoreError>
         requires { refusal self.old (Make (NewGuest size)) ≡ None }

@@ -141,7 +141,7 @@ impl Store {
         }
     }
 
-    // The end that is named goes to a guest. After want of memory nothing has changed.
+    // The end that is named goes to a guest. After running out of memory nothing has changed.
     fn move_named(&mut self, found: (u32, Side), end: &NamedEnd, to: u32) -> Result<u32, StoreError>
         requires may { refusal self.old (Transfer end.now to) ≡ None }
         requires found { found
@@ -293,7 +293,7 @@ impl Store {
         }
     }
 
-    // The loose read end of a stream comes into a guest. After want of memory nothing has changed.
+    // The loose read end of a stream comes into a guest. After running out of memory nothing has changed.
     fn lower_loose(&mut self, reader: u32, guest: u32, ty: TransmitIndex) -> Result<u32, StoreError>
         requires may { refusal self.old (OnLoose reader (Lower guest ty)) ≡ None }
         requires untrapped { self.old.trapped ≡ false }

@@ -22,7 +22,7 @@ ghost use Rattle.strm_machine.specs.declared.streams.Owner.TheVariants.{Host};
 ghost use Rattle.strm_machine.specs.declared.streams.Side.TheVariants.{Writing, Reading};
 ghost use Rattle.strm_host_machine.specs.Does.{Fits};
 ghost use Rattle.strm_transmit.specs.Meets.{Meets, as_reply, or_found};
-ghost use Rattle.strm_transmit.specs.Hosted.{MeetsHosted, StillFits, WantsOnlyPolling, WantsNoneHeld};
+ghost use Rattle.strm_transmit.specs.Hosted.{MeetsHosted, StillFits, RunsOutOnlyPolling, RunsOutNoneHeld};
 ghost use Rattle.strm_transmit.specs.Turning.{across, IsPlacedOn, IsNumberWithin};
 
 use crate::errors::StoreError;
@@ -212,9 +212,9 @@ impl Store {
         requires fits { Fits self.old (H.tells hosts.old) }
         ensures meets { MeetsHosted self.old self.new (H.tells hosts.old) (H.tells hosts.new)
             (as_reply replies.Code result) (OnEnd side end.now (Operate address count)) }
-        ensures takes_no_memory { WantsOnlyPolling self.old
+        ensures takes_no_memory { RunsOutOnlyPolling self.old
             (OnEnd side end.now (Operate address count)) result }
-        ensures held { WantsNoneHeld self.old (H.tells hosts.old)
+        ensures held { RunsOutNoneHeld self.old (H.tells hosts.old)
             (OnEnd side end.now (Operate address count)) result }
     {
         match number_type(end.ty) {
@@ -239,9 +239,9 @@ impl Store {
         requires fits { Fits self.old (H.tells hosts.old) }
         ensures meets { MeetsHosted self.old self.new (H.tells hosts.old) (H.tells hosts.new)
             (as_reply replies.Code result) (OnEnd side end.now (Operate address count)) }
-        ensures takes_no_memory { WantsOnlyPolling self.old
+        ensures takes_no_memory { RunsOutOnlyPolling self.old
             (OnEnd side end.now (Operate address count)) result }
-        ensures held { WantsNoneHeld self.old (H.tells hosts.old)
+        ensures held { RunsOutNoneHeld self.old (H.tells hosts.old)
             (OnEnd side end.now (Operate address count)) result }
     {
         self.operate_apart(hosts, side, *end, address, count)
@@ -261,9 +261,9 @@ impl Store {
         requires fits { Fits self.old (H.tells hosts.old) }
         ensures meets { MeetsHosted self.old self.new (H.tells hosts.old) (H.tells hosts.new)
             (as_reply replies.Code result) (OnEnd side end (Operate address count)) }
-        ensures takes_no_memory { WantsOnlyPolling self.old (OnEnd side end (Operate address count))
+        ensures takes_no_memory { RunsOutOnlyPolling self.old (OnEnd side end (Operate address count))
             result }
-        ensures held { WantsNoneHeld self.old (H.tells hosts.old)
+        ensures held { RunsOutNoneHeld self.old (H.tells hosts.old)
             (OnEnd side end (Operate address count)) result }
     {
         self.operate_here(hosts, side, &end, address, count)
@@ -282,9 +282,9 @@ impl Store {
         requires fits { Fits self.old (H.tells hosts.old) }
         ensures meets { MeetsHosted self.old self.new (H.tells hosts.old) (H.tells hosts.new)
             (as_reply replies.Code result) (OnEnd side end.now (Operate address count)) }
-        ensures takes_no_memory { WantsOnlyPolling self.old
+        ensures takes_no_memory { RunsOutOnlyPolling self.old
             (OnEnd side end.now (Operate address count)) result }
-        ensures held { WantsNoneHeld self.old (H.tells hosts.old)
+        ensures held { RunsOutNoneHeld self.old (H.tells hosts.old)
             (OnEnd side end.now (Operate address count)) result }
     {
         self.sound();
@@ -399,9 +399,9 @@ impl Store {
         ensures meets { MeetsHosted self.old self.new (H.tells hosts.old) (H.tells hosts.new)
             (as_reply replies.Code result)
             (act_of (steps.Read guest (index.Stream payload) handle address count)) }
-        ensures takes_no_memory { WantsOnlyPolling self.old
+        ensures takes_no_memory { RunsOutOnlyPolling self.old
             (act_of (steps.Read guest (index.Stream payload) handle address count)) result }
-        ensures held { WantsNoneHeld self.old (H.tells hosts.old)
+        ensures held { RunsOutNoneHeld self.old (H.tells hosts.old)
             (act_of (steps.Read guest (index.Stream payload) handle address count)) result }
     {
         let ty = TransmitIndex::Stream(payload);
@@ -427,7 +427,7 @@ impl Store {
         ensures meets { MeetsHosted self.old self.new (H.tells hosts.old) (H.tells hosts.new)
             (as_reply replies.Code result)
             (act_of (steps.Write guest (index.Stream payload) handle address count)) }
-        ensures takes_no_memory { WantsOnlyPolling self.old
+        ensures takes_no_memory { RunsOutOnlyPolling self.old
             (act_of (steps.Write guest (index.Stream payload) handle address count)) result }
     {
         let ty = TransmitIndex::Stream(payload);
@@ -450,9 +450,9 @@ impl Store {
         ensures meets { MeetsHosted self.old self.new (H.tells hosts.old) (H.tells hosts.new)
             (as_reply replies.Code result)
             (act_of (steps.Read guest (index.Future payload) handle address 1)) }
-        ensures takes_no_memory { WantsOnlyPolling self.old
+        ensures takes_no_memory { RunsOutOnlyPolling self.old
             (act_of (steps.Read guest (index.Future payload) handle address 1)) result }
-        ensures held { WantsNoneHeld self.old (H.tells hosts.old)
+        ensures held { RunsOutNoneHeld self.old (H.tells hosts.old)
             (act_of (steps.Read guest (index.Future payload) handle address 1)) result }
     {
         let ty = TransmitIndex::Future(payload);
@@ -475,7 +475,7 @@ impl Store {
         ensures meets { MeetsHosted self.old self.new (H.tells hosts.old) (H.tells hosts.new)
             (as_reply replies.Code result)
             (act_of (steps.Write guest (index.Future payload) handle address 1)) }
-        ensures takes_no_memory { WantsOnlyPolling self.old
+        ensures takes_no_memory { RunsOutOnlyPolling self.old
             (act_of (steps.Write guest (index.Future payload) handle address 1)) result }
     {
         let ty = TransmitIndex::Future(payload);

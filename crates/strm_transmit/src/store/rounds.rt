@@ -12,7 +12,7 @@ ghost use Rattle.strm_host_machine.specs.Attaching.{has_items};
 ghost use Rattle.strm_host_machine.specs.Piping.{fetches, is_done_with, ends_if_done, pipe_round};
 ghost use Rattle.strm_host_machine.specs.Does.{Fits, Does};
 ghost use Rattle.strm_transmit.specs.Hosted.{IsPart};
-ghost use Rattle.strm_transmit.specs.WantsMemory.{OfPoll, OfOffer, OfRound};
+ghost use Rattle.strm_transmit.specs.OutOfMemory.{OfPoll, OfOffer, OfRound};
 ghost use Rattle.strm_transmit.specs.Rounds.{pipe_ends, IsPipe, held_on, fetch_due, offer_due, end_due, FetchesStream, OffersStream, offer_part};
 
 use crate::errors::StoreError;

@@ -82,7 +82,7 @@ impl Store {
         Ok(())
     }
 
-    // A set more. After want of memory nothing has changed.
+    // A set more. After running out of memory nothing has changed.
     #[tactic(auto, unfolding(strm_machine::specs::Reactions::performs))]
     fn make_set(&mut self, guest: u32) -> Result<u32, StoreError>
         requires { refusal self.old (Make (Set guest)) ≡ None }
@@ -133,7 +133,7 @@ impl Store {
         Ok(number)
     }
 
-    // A handle joins the set of a number, or leaves its own. After want of memory nothing has changed.
+    // A handle joins the set of a number, or leaves its own. After running out of memory nothing has changed.
     fn join_number(
         &mut self,
         guest: u32,

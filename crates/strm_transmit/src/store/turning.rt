@@ -18,7 +18,7 @@ ghost use Rattle.strm_host_machine.specs.WriterTurn.{writer_turn};
 ghost use Rattle.strm_host_machine.specs.ReaderTurn.{reader_turn};
 ghost use Rattle.strm_host_machine.specs.Does.{Fits, Does};
 ghost use Rattle.strm_transmit.specs.Hosted.{IsPart, IsPartAs};
-ghost use Rattle.strm_transmit.specs.WantsMemory.{OfPoll};
+ghost use Rattle.strm_transmit.specs.OutOfMemory.{OfPoll};
 ghost use Rattle.strm_transmit.specs.Turning.{IsAcross, HasWriterTurn, HasReaderTurn, stop_of_writer, stop_of_reader, turn_for, polls_for, across, IsPlacedOn};
 
 use crate::errors::StoreError;

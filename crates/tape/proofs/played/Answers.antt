@@ -15,5 +15,5 @@ returns-clause-plays g c =
       goes_on = played.goes_on;
       complete = played.complete;
       differs = played.differs;
-      wanting = played.wanting;
+      out_of_memory = played.out_of_memory;
     })

@@ -1,6 +1,6 @@
 use Rattle.std.proofs.Common.{◌∙◌}
 use Rattle.strm_lines.specs.Lines.{lines_of}
-use Rattle.strm_lines.proofs.LineLemmas.{one_spelling, wants_memory}
+use Rattle.strm_lines.proofs.LineLemmas.{one_spelling, runs_out_of_memory}
 use Rattle.strm_lines.proofs.parsing.parse.Goals as goal
 
 pub returns-in-Ok-clause-complete : goal.returns-in-Ok-clause-complete
@@ -9,4 +9,4 @@ returns-in-Ok-clause-complete c = λ steps f h.
 
 pub returns-in-Err-clause-complete : goal.returns-in-Err-clause-complete
 returns-in-Err-clause-complete c = λ steps f h.
-    wants_memory (lines_of c.args.bytes.now) steps f c.parse_onto.result c.in-Err.error c.in-Err.is c.parse_onto.ensures.too_long.0 c.parse_onto.ensures.bad_line h
+    runs_out_of_memory (lines_of c.args.bytes.now) steps f c.parse_onto.result c.in-Err.error c.in-Err.is c.parse_onto.ensures.too_long.0 c.parse_onto.ensures.bad_line h

@@ -1,6 +1,6 @@
 use Rattle.std.proofs.Common.{◌≡◌, ◌≤◌, take}
 use Rattle.std.specs.List.{count_by}
-use Rattle.strm_lines.specs.Text.{is_blocked}
+use Rattle.strm_machine.specs.Moments.{is_blocked}
 use Rattle.strm_lines.proofs.texts.count_blocked.Given as goal
 
 abbrev pub invariant-loop-reply : goal.invariant-loop-reply

@@ -24,7 +24,7 @@ returns-in_err-_reply g c =
       i.0,
       now.err i.0 i.1,
       played_stop _ _ _ _ _ _ c.loop.counter c.next-step.result i.0 c.loop.store c.step_once.new.store i.2 c.next-step.ensures
-          (c.laws_hold_among.ensures.laws _ _) (c.laws_hold_among.ensures.leads _ _) (λ tells. c.laws_hold_among.ensures.gone _ tells _) c.requires.few c.in_err-_reply.field-0.0 c.sound.ensures now.does.stop now.does.unmet now.does.wanting
+          (c.laws_hold_among.ensures.laws _ _) (c.laws_hold_among.ensures.leads _ _) (λ tells. c.laws_hold_among.ensures.gone _ tells _) c.requires.few c.in_err-_reply.field-0.0 c.sound.ensures now.does.stop now.does.unmet now.does.out_of_memory
           (λ untouched. let alone = now.alone untouched in (alone.stop i.0, alone.hosts))
           c.from_residual.result c.from_residual.ensures.1,
     )

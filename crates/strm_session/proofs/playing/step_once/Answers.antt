@@ -3,7 +3,7 @@ use Rattle.strm_machine.specs.Reactions.{Reaction}
 use Rattle.strm_transmit.specs.Hosted.{call_answered}
 use Rattle.strm_session.specs.Runs.{stop_of, Unkept}
 use Rattle.strm_session.proofs.PlayLemmas.{play-goes, goes_on_to}
-use Rattle.strm_session.proofs.StepLemmas.{does_runs, never_trapped, does_wanting, does_answering, meets_stops, answered_unmet, meeting_takes_none, wanted_error, leaves_wanting}
+use Rattle.strm_session.proofs.StepLemmas.{does_runs, never_trapped, does_out_of_memory, does_answering, meets_stops, answered_unmet, meeting_takes_none, wanted_error, leaves_out_of_memory}
 use Rattle.strm_session.proofs.playing.step_once.Goals as goal
 
 pub cause_of-requires-clause-trapped : goal.cause_of-requires-clause-trapped
@@ -16,7 +16,7 @@ returns-in-Ok-keep-clause-does g c =
     record {
       ok = does;
       stop = tt;
-      wanting = tt;
+      out_of_memory = tt;
       unmet = tt;
       fits = c.apply.ensures.fits;
       goes_on = does_runs c.args.store.now c.apply.new.store _ _ c.in-Ok.reply c.args.step.now c.requires.running does;
@@ -39,8 +39,8 @@ returns-in-Err-keep-clause-does g c =
     let does = rw c.in-Ok.is at c.apply.ensures.does in
     record {
       ok = tt;
-      stop = does_wanting c.args.store.now c.apply.new.store _ _ c.in-Ok.reply _ does;
-      wanting = Unkept c.in-Ok.reply does;
+      stop = does_out_of_memory c.args.store.now c.apply.new.store _ _ c.in-Ok.reply _ does;
+      out_of_memory = Unkept c.in-Ok.reply does;
       unmet = λ _ s. answered_unmet c.args.store.now c.apply.new.store _ _ c.in-Ok.reply c.args.step.now s c.requires.running does;
       fits = c.apply.ensures.fits;
       goes_on = tt;
@@ -62,7 +62,7 @@ returns-in-Err-clause-does g c =
     record {
       ok = tt;
       stop = does_answering (call_answered (Err c.in-Err.error)) (Err (stop_of c.cause_of.result)) c.cause_of.ensures does;
-      wanting = leaves_wanting c.args.store.now c.apply.new.store _ _ c.args.step.now c.in-Err.error c.cause_of.result c.cause_of.ensures (rw c.in-Err.is at c.apply.ensures.err);
+      out_of_memory = leaves_out_of_memory c.args.store.now c.apply.new.store _ _ c.args.step.now c.in-Err.error c.cause_of.result c.cause_of.ensures (rw c.in-Err.is at c.apply.ensures.err);
       unmet = λ wanted s met.
           let none = meeting_takes_none c.args.store.now c.args.step.now s met in
           let error = wanted_error c.in-Err.error c.cause_of.result c.cause_of.ensures wanted in

@@ -19,8 +19,8 @@ returns-in-Err-Fault-clause-goes_on g c = goes_on_itself _
 pub returns-in-Err-OutOfMemory-clause-goes_on : goal.returns-in-Err-OutOfMemory-clause-goes_on
 returns-in-Err-OutOfMemory-clause-goes_on g c = goes_on_itself _
 
-pub returns-in-Ok-clause-wanting : goal.returns-in-Ok-clause-wanting
-returns-in-Ok-clause-wanting g c =
+pub returns-in-Ok-clause-out_of_memory : goal.returns-in-Ok-clause-out_of_memory
+returns-in-Ok-clause-out_of_memory g c =
     IfErr-weaker c.answer_input.result _ _
     (λ e h. unwritten_of_source (g.S.Source.left c.args.source.now) c.in-Ok.input c.in-Ok.ensures.ok (rw c.as_slice.ensures at h))
-    c.answer_input.ensures.wanting
+    c.answer_input.ensures.out_of_memory

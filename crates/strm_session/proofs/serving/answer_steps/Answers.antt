@@ -32,17 +32,17 @@ returns-in_ok-text-in-Ok-clause-done g c = λ input s q.
       text_is = c.in_ok-text-in-Ok.ensures played.0 played.1 ∙ ap (transcript_text played.0) (c.as_slice.ensures ∙ run.received);
     }
 
-pub returns-in_err-text-in-Ok-clause-wanting : goal.returns-in_err-text-in-Ok-clause-wanting
-returns-in_err-text-in-Ok-clause-wanting g c = λ input s long.
+pub returns-in_err-text-in-Ok-clause-out_of_memory : goal.returns-in_err-text-in-Ok-clause-out_of_memory
+returns-in_err-text-in-Ok-clause-out_of_memory g c = λ input s long.
     let played = c.in-Ok.ensures in
     on_any _ (was_run input c.args.steps.now.items played.0 _ s long (has_run c.left-given.ensures refl played.2))
 
-pub returns-in_err-status-in-Err-clause-wanting : goal.returns-in_err-status-in-Err-clause-wanting
-returns-in_err-status-in-Err-clause-wanting g c = λ input s long.
+pub returns-in_err-status-in-Err-clause-out_of_memory : goal.returns-in_err-status-in-Err-clause-out_of_memory
+returns-in_err-status-in-Err-clause-out_of_memory g c = λ input s long.
     let played = c.in-Err.ensures in
     on_any _ (was_run input c.args.steps.now.items played.0 _ s long (has_run c.left-given.ensures refl played.2))
 
-pub returns-in_err-text-in-Err-clause-wanting : goal.returns-in_err-text-in-Err-clause-wanting
-returns-in_err-text-in-Err-clause-wanting g c = λ input s long.
+pub returns-in_err-text-in-Err-clause-out_of_memory : goal.returns-in_err-text-in-Err-clause-out_of_memory
+returns-in_err-text-in-Err-clause-out_of_memory g c = λ input s long.
     let played = c.in-Err.ensures in
     on_any _ (was_run input c.args.steps.now.items played.0 _ s long (has_run c.left-given.ensures refl played.2))

@@ -20,8 +20,8 @@ pub returns-in-Ok-clause-nothing : goal.returns-in-Ok-clause-nothing
 returns-in-Ok-clause-nothing g c = λ e.
     absurd (written_not_nine c.write_answer.result c.in-Ok.answer.status c.in-Ok.ensures.known c.write_answer.ensures.told e)
 
-pub returns-in-Ok-clause-wanting : goal.returns-in-Ok-clause-wanting
-returns-in-Ok-clause-wanting g c = λ e.
+pub returns-in-Ok-clause-out_of_memory : goal.returns-in-Ok-clause-out_of_memory
+returns-in-Ok-clause-out_of_memory g c = λ e.
     absurd (written_not_nine c.write_answer.result c.in-Ok.answer.status c.in-Ok.ensures.known c.write_answer.ensures.told e)
 
 pub returns-in-Ok-clause-complete : goal.returns-in-Ok-clause-complete

@@ -1,5 +1,5 @@
 use Rattle.strm_machine.specs.Acts.{act_of}
-use Rattle.strm_shared.proofs.AloneLemmas.{untouched, meets_bad, meets_trapped, meets_wanting, meets_failed, meets_broke}
+use Rattle.strm_shared.proofs.AloneLemmas.{untouched, meets_bad, meets_trapped, meets_out_of_memory, meets_failed, meets_broke}
 use Rattle.strm_shared.proofs.lone_store.apply_alone.Goals as goal
 
 pub returns-in-Ok-clause-ok : goal.returns-in-Ok-clause-ok
@@ -15,7 +15,7 @@ returns-in-Err-StoreTrapped-clause-ok c =
 
 pub returns-in-Err-OutOfMemory-clause-err : goal.returns-in-Err-OutOfMemory-clause-err
 returns-in-Err-OutOfMemory-clause-err c =
-    meets_wanting _ _ _ _ c.in-Err-OutOfMemory.field-0-is (c.in-Err-OutOfMemory.ensures.alone (untouched c.args.store.now (act_of c.args.step.now) c.requires.reached c.requires.guests)).meets
+    meets_out_of_memory _ _ _ _ c.in-Err-OutOfMemory.field-0-is (c.in-Err-OutOfMemory.ensures.alone (untouched c.args.store.now (act_of c.args.step.now) c.requires.reached c.requires.guests)).meets
 
 pub unreachable-requires-in-Err-HostFailed : goal.unreachable-requires-in-Err-HostFailed
 unreachable-requires-in-Err-HostFailed c =

@@ -49,6 +49,6 @@ returns-in-Err-Differs-clause-complete g c = λ played same plays calm.
     absurd (none_other c.args.tape.now _ _ same
     (record { run = c.replay.ensures.adds reader end at is; reader = reader; end = end; at = at; differ = c.replay.ensures.differs reader end at is }))
 
-pub returns-in-Err-clause-wanting : goal.returns-in-Err-clause-wanting
-returns-in-Err-clause-wanting g c = λ _.
-    run_or_not c.replay.result _ _ _ c.in-Err.field-0 c.in-Err.is c.replay.ensures.other c.replay.ensures.wanting c.replay.ensures.adds
+pub returns-in-Err-clause-out_of_memory : goal.returns-in-Err-clause-out_of_memory
+returns-in-Err-clause-out_of_memory g c = λ _.
+    run_or_not c.replay.result _ _ _ c.in-Err.field-0 c.in-Err.is c.replay.ensures.other c.replay.ensures.out_of_memory c.replay.ensures.adds

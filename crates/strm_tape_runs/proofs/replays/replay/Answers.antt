@@ -52,12 +52,12 @@ returns-in-Ok-Some-clause-adds g c = λ reader end at e.
     let run : IsRunOfSteps (g.H.HostEnds.tells c.args.hosts.now) (g.H.HostEnds.tells c.run-end.new.hosts) c.steps.result.now c.run-end.result = record { ok = c.run-end.ensures.ok; received = c.run-end.ensures.received; stop = c.run-end.ensures.stop; at = c.run-end.ensures.at; goes_on = c.run-end.ensures.hosts; alone = c.run-end.ensures.alone; decided = c.run-end.ensures.decided } in
     (c.run-end.result, subst (λ steps. IsRunOfSteps (g.H.HostEnds.tells c.args.hosts.now) (g.H.HostEnds.tells c.run-end.new.hosts) steps c.run-end.result) c.steps.ensures run, c.wanted_memory.ensures c.if-wanted_memory.false)
 
-pub returns-then-wanted_memory-clause-wanting : goal.returns-then-wanted_memory-clause-wanting
-returns-then-wanted_memory-clause-wanting g c = λ e.
+pub returns-then-wanted_memory-clause-out_of_memory : goal.returns-then-wanted_memory-clause-out_of_memory
+returns-then-wanted_memory-clause-out_of_memory g c = λ e.
     let run : IsRunOfSteps (g.H.HostEnds.tells c.args.hosts.now) (g.H.HostEnds.tells c.run-end.new.hosts) c.steps.result.now c.run-end.result = record { ok = c.run-end.ensures.ok; received = c.run-end.ensures.received; stop = c.run-end.ensures.stop; at = c.run-end.ensures.at; goes_on = c.run-end.ensures.hosts; alone = c.run-end.ensures.alone; decided = c.run-end.ensures.decided } in
     inr (c.run-end.result, subst (λ steps. IsRunOfSteps (g.H.HostEnds.tells c.args.hosts.now) (g.H.HostEnds.tells c.run-end.new.hosts) steps c.run-end.result) c.steps.ensures run)
 
-pub returns-clause-wanting : goal.returns-clause-wanting
-returns-clause-wanting g c = λ e.
+pub returns-clause-out_of_memory : goal.returns-clause-out_of_memory
+returns-clause-out_of_memory g c = λ e.
     let run : IsRunOfSteps (g.H.HostEnds.tells c.args.hosts.now) (g.H.HostEnds.tells c.run-end.new.hosts) c.steps.result.now c.run-end.result = record { ok = c.run-end.ensures.ok; received = c.run-end.ensures.received; stop = c.run-end.ensures.stop; at = c.run-end.ensures.at; goes_on = c.run-end.ensures.hosts; alone = c.run-end.ensures.alone; decided = c.run-end.ensures.decided } in
     inr (c.run-end.result, subst (λ steps. IsRunOfSteps (g.H.HostEnds.tells c.args.hosts.now) (g.H.HostEnds.tells c.run-end.new.hosts) steps c.run-end.result) c.steps.ensures run)

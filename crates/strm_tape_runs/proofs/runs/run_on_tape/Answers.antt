@@ -38,12 +38,12 @@ returns-clause-plays g c =
     subst (λ tape. IsPlayOf tape c.run-end.result) (sym (returns-clause-tape g c))
     (run_plays c.runs_are_alike.ensures c.args.steps.now (g.H.HostEnds.tells c.args.hosts.now) (g.H.HostEnds.tells c.run-end.new.hosts) c.run-end.result c.requires.held run (c.wanted_memory.ensures c.if-wanted_memory.false))
 
-pub returns-then-wanted_memory-clause-wanting : goal.returns-then-wanted_memory-clause-wanting
-returns-then-wanted_memory-clause-wanting g c = λ e.
+pub returns-then-wanted_memory-clause-out_of_memory : goal.returns-then-wanted_memory-clause-out_of_memory
+returns-then-wanted_memory-clause-out_of_memory g c = λ e.
     let run : IsRunOfSteps (g.H.HostEnds.tells c.args.hosts.now) (g.H.HostEnds.tells c.run-end.new.hosts) c.args.steps.now c.run-end.result = record { ok = c.run-end.ensures.ok; received = c.run-end.ensures.received; stop = c.run-end.ensures.stop; at = c.run-end.ensures.at; goes_on = c.run-end.ensures.hosts; alone = c.run-end.ensures.alone; decided = c.run-end.ensures.decided } in
     inr (c.run-end.result, run)
 
-pub returns-in_err-tape-clause-wanting : goal.returns-in_err-tape-clause-wanting
-returns-in_err-tape-clause-wanting g c = λ e.
+pub returns-in_err-tape-clause-out_of_memory : goal.returns-in_err-tape-clause-out_of_memory
+returns-in_err-tape-clause-out_of_memory g c = λ e.
     let run : IsRunOfSteps (g.H.HostEnds.tells c.args.hosts.now) (g.H.HostEnds.tells c.run-end.new.hosts) c.args.steps.now c.run-end.result = record { ok = c.run-end.ensures.ok; received = c.run-end.ensures.received; stop = c.run-end.ensures.stop; at = c.run-end.ensures.at; goes_on = c.run-end.ensures.hosts; alone = c.run-end.ensures.alone; decided = c.run-end.ensures.decided } in
     inr (c.run-end.result, run)

@@ -12,5 +12,5 @@ returns-clause-alone g c = c.perform_step.ensures.meets.alone
 pub returns-clause-err : goal.returns-clause-err
 returns-clause-err g c = c.perform_step.ensures.meets.err
 
-pub returns-clause-wanting : goal.returns-clause-wanting
-returns-clause-wanting g c = c.perform_step.ensures.meets.wanting
+pub returns-clause-out_of_memory : goal.returns-clause-out_of_memory
+returns-clause-out_of_memory g c = c.perform_step.ensures.meets.out_of_memory

@@ -1,6 +1,6 @@
 use Rattle.std.proofs.Common.{◌≡◌, subst, inr, rules, true}
 use Rattle.strm_shared.specs.Histories.{entry}
-use Rattle.strm_shared.specs.Places.{is_blocked}
+use Rattle.strm_machine.specs.Moments.{is_blocked}
 use Rattle.strm_shared.specs.Tokens.{token, Begun}
 use Rattle.strm_shared.proofs.SyncLemmas.{blocked_is, unblocked}
 use Rattle.strm_shared.proofs.store.SharedStore.operate.Goals as goal

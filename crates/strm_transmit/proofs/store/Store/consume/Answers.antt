@@ -43,7 +43,7 @@ returns-in-Err-clause-part g c = record {
       stops-fits _ _ _ _ _ h _ _ _ c.in-Err.error c.in-Err.ensures c.trap.ensures;
   stop = rw c.stop_of_reader.ensures (reader_scene-stops c.in-Err.error c.args.number c.args.stream);
   trapped = search rules;
-  wanting = let h = is_taken_from _ _ _ _ _ c.sound.ensures c.served.ensures c.requires.there c.requires.owner c.requires.fits c.requires.placed in
+  out_of_memory = let h = is_taken_from _ _ _ _ _ c.sound.ensures c.served.ensures c.requires.there c.requires.owner c.requires.fits c.requires.placed in
       rw c.stop_of_reader.ensures (stops-wants _ _ _ _ _ h _ _ _ c.in-Err.error c.in-Err.ensures c.trap.ensures);
 }
 
@@ -55,7 +55,7 @@ returns-then-ne-clause-part g c = record {
       mid-fits _ _ _ _ _ h _ _ _ c.in-Ok.ensures;
   stop = search rules;
   trapped = search rules;
-  wanting = search rules;
+  out_of_memory = search rules;
 }
 
 pub returns-clause-part : goal.returns-clause-part
@@ -66,5 +66,5 @@ returns-clause-part g c = record {
       left-fits _ _ _ _ _ h _ _ _ _ c.in-Ok.ensures (search rules) c.retire_reader.ensures c.close_reader.ensures;
   stop = search rules;
   trapped = search rules;
-  wanting = search rules;
+  out_of_memory = search rules;
 }

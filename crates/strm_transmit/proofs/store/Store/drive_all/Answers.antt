@@ -2,7 +2,7 @@ use Rattle.std.proofs.Common.{rules, refl, ◌+◌, ◌∙◌, arith}
 use Rattle.strm_host_machine.proofs.DriveLemmas.{Does-drives_none}
 use Rattle.strm_host_turns.proofs.WriterTurnLemmas.{handed_on}
 use Rattle.strm_transmit.proofs.DriveStoreLemmas.{drive_on, drive_end, ends_stop, drive_stop, drive_round, drive_wants}
-use Rattle.strm_transmit.proofs.WantsLemmas.{wanting_as}
+use Rattle.strm_transmit.proofs.OutOfMemoryLemmas.{out_of_memory_as}
 use Rattle.strm_transmit.proofs.store.Store.drive_all.Goals as goal
 
 pub loop-stream-init : goal.loop-stream-init
@@ -54,13 +54,13 @@ returns-in_err-drive_stream g c = record {
   fits = search rules;
   stop = search rules;
   trapped = search rules;
-  wanting = rw (handed_on c.from_residual.result c.from_residual.ensures.1)
+  out_of_memory = rw (handed_on c.from_residual.result c.from_residual.ensures.1)
       (let i = c.loop-stream.invariant in
       let next = c.in-Some.ensures.next in
       let made = c.in-Some.ensures.served.made next.side next.number c.in-Some.stream next.serves in
-      wanting_as c.in_err-drive_stream.field-0.0
+      out_of_memory_as c.in_err-drive_stream.field-0.0
       (drive_wants c.args.self.now c.loop-stream.self _ _ _ c.in-Some.ensures.served c.loop-stream.next i.does c.in-Some.stream next (omega (arith, made, i.made)))
-      c.in_err-drive_stream.ensures.part.wanting);
+      c.in_err-drive_stream.ensures.part.out_of_memory);
 }
 
 pub returns : goal.returns
@@ -71,5 +71,5 @@ returns g c = record {
   fits = c.loop-stream.invariant.fits;
   stop = search rules;
   trapped = search rules;
-  wanting = search rules;
+  out_of_memory = search rules;
 }

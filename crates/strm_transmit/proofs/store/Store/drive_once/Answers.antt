@@ -11,7 +11,7 @@ use Rattle.strm_transmit.proofs.store.Store.drive_once.Goals as goal
 pub returns : goal.returns
 returns g c = record {
   meets = hosted_drive c.args.self.now _ _ _ (λ _. replies.Done) c.drive_all.result (is_admitted c.args.self.now None tt (Ok tt) tt refl c.in_ok-admit.ensures.exact).untrapped
-      c.drive_all.ensures.does (record { served = c.served.ensures; before = c.requires.fits; after = c.drive_all.ensures.fits }) (record { stop = c.drive_all.ensures.stop; trapped = c.drive_all.ensures.trapped }) c.drive_all.ensures.wanting;
+      c.drive_all.ensures.does (record { served = c.served.ensures; before = c.requires.fits; after = c.drive_all.ensures.fits }) (record { stop = c.drive_all.ensures.stop; trapped = c.drive_all.ensures.trapped }) c.drive_all.ensures.out_of_memory;
 }
 
 pub returns-in_err-admit : goal.returns-in_err-admit

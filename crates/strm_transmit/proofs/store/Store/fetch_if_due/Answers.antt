@@ -17,7 +17,7 @@ returns-then-not-is_fetch_due-clause-part g c = record {
   fits = search rules;
   stop = search rules;
   trapped = search rules;
-  wanting = search rules;
+  out_of_memory = search rules;
 }
 
 pub returns-in-Ok-clause-part : goal.returns-in-Ok-clause-part
@@ -26,7 +26,7 @@ returns-in-Ok-clause-part g c = record {
   fits = (returns-in-Ok-clause-pipe g c).fits;
   stop = search rules;
   trapped = search rules;
-  wanting = search rules;
+  out_of_memory = search rules;
 }
 
 pub returns-in-Err-clause-part : goal.returns-in-Err-clause-part
@@ -35,5 +35,5 @@ returns-in-Err-clause-part g c = record {
   fits = (returns-in-Err-clause-pipe g c).fits;
   stop = search rules;
   trapped = search rules;
-  wanting = rw c.stop_of_writer.ensures (fetch-wants c.args.self.now _ c.args.stream c.args.writer c.args.reader (rounds c.args.self.now _ c.args.stream c.args.writer c.args.reader c.served.ensures c.requires.pipe) _ _ _ (search rules) c.trap.ensures c.in-Err.error c.in-Err.ensures);
+  out_of_memory = rw c.stop_of_writer.ensures (fetch-wants c.args.self.now _ c.args.stream c.args.writer c.args.reader (rounds c.args.self.now _ c.args.stream c.args.writer c.args.reader c.served.ensures c.requires.pipe) _ _ _ (search rules) c.trap.ensures c.in-Err.error c.in-Err.ensures);
 }

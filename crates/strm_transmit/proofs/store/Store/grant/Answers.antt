@@ -3,7 +3,7 @@ use Rattle.strm_machine.specs.declared.acts.HostAct.TheVariants.{Grant}
 use Rattle.strm_machine.specs.declared.acts.Act.TheVariants.{OnHost}
 use Rattle.strm_host_turns.proofs.WriterTurnLemmas.{handed_on}
 use Rattle.strm_transmit.proofs.HostStepLemmas.{hosted_not_admitted}
-use Rattle.strm_transmit.proofs.HostingLemmas.{no_logs, host_refusal-same, host_admitted, grant_fits, hosted_grant, hosted_wanting}
+use Rattle.strm_transmit.proofs.HostingLemmas.{no_logs, host_refusal-same, host_admitted, grant_fits, hosted_grant, hosted_out_of_memory}
 use Rattle.strm_transmit.proofs.store.Store.grant.Goals as goal
 
 pub grant-requires : goal.grant-requires
@@ -20,7 +20,7 @@ returns-in-Ok g c =
 pub returns-in-Err : goal.returns-in-Err
 returns-in-Err g c =
     record {
-      meets = hosted_wanting c.args.self.now c.args.self.now _ _ c.args.host (Grant c.args.count) (host_admitted _ _ _ (Grant c.args.count) _ c.grant_fits.ensures c.in_ok-admit.ensures.exact)
+      meets = hosted_out_of_memory c.args.self.now c.args.self.now _ _ c.args.host (Grant c.args.count) (host_admitted _ _ _ (Grant c.args.count) _ c.grant_fits.ensures c.in_ok-admit.ensures.exact)
           c.requires.fits refl c.in-Err.ensures.err;
     }
 

@@ -7,7 +7,7 @@ returns-in-Reading-clause-part g c = record {
   fits = search rules;
   stop = search rules;
   trapped = search rules;
-  wanting = rw c.in-Reading.is c.produce.ensures.part.wanting;
+  out_of_memory = rw c.in-Reading.is c.produce.ensures.part.out_of_memory;
 }
 
 pub returns-in-Writing-clause-part : goal.returns-in-Writing-clause-part
@@ -16,5 +16,5 @@ returns-in-Writing-clause-part g c = record {
   fits = search rules;
   stop = search rules;
   trapped = search rules;
-  wanting = rw c.in-Writing.is c.consume.ensures.part.wanting;
+  out_of_memory = rw c.in-Writing.is c.consume.ensures.part.out_of_memory;
 }

@@ -24,7 +24,7 @@ returns-in-Some-clause-meets g c =
     })
     replies.Code c.poll_across.result c.poll_across.ensures.part.does
     (record { served = c.served.ensures; before = c.requires.fits; after = c.poll_across.ensures.part.fits })
-    (record { stop = c.poll_across.ensures.part.stop; trapped = c.poll_across.ensures.part.trapped }) c.poll_across.ensures.part.wanting
+    (record { stop = c.poll_across.ensures.part.stop; trapped = c.poll_across.ensures.part.trapped }) c.poll_across.ensures.part.out_of_memory
 
 pub returns-in-Some-clause-held : goal.returns-in-Some-clause-held
 returns-in-Some-clause-held g c = λ held.

@@ -1,7 +1,7 @@
 use Rattle.std.proofs.Common.{rules}
 use Rattle.strm_host_turns.proofs.WriterTurnLemmas.{handed_on}
 use Rattle.strm_transmit.proofs.OperateLemmas.{opened-fits, turn-answers, turn-stops, turn-wants}
-use Rattle.strm_transmit.proofs.WantsLemmas.{wanting_as}
+use Rattle.strm_transmit.proofs.OutOfMemoryLemmas.{out_of_memory_as}
 use Rattle.strm_transmit.proofs.store.Store.poll_across.Goals as goal
 
 pub host_turn-requires : goal.host_turn-requires
@@ -20,7 +20,7 @@ returns-clause-part g c = record {
   fits = c.answer.ensures.fits _ c.in_ok-host_turn.ensures.part.fits;
   stop = search rules;
   trapped = search rules;
-  wanting = search rules;
+  out_of_memory = search rules;
 }
 
 pub returns-in_err-host_turn-clause-part : goal.returns-in_err-host_turn-clause-part
@@ -30,6 +30,6 @@ returns-in_err-host_turn-clause-part g c = record {
   fits = search rules;
   stop = search rules;
   trapped = search rules;
-  wanting = rw (handed_on c.from_residual.result c.from_residual.ensures.1)
-      (wanting_as c.in_err-host_turn.field-0.0 (turn-wants c.args.self.now _ _ _ c.args.stream c.args.number c.args.operation c.args.side c.open.ensures) c.in_err-host_turn.ensures.part.wanting);
+  out_of_memory = rw (handed_on c.from_residual.result c.from_residual.ensures.1)
+      (out_of_memory_as c.in_err-host_turn.field-0.0 (turn-wants c.args.self.now _ _ _ c.args.stream c.args.number c.args.operation c.args.side c.open.ensures) c.in_err-host_turn.ensures.part.out_of_memory);
 }

@@ -46,7 +46,7 @@ returns-in-Err-clause-part g c = record {
       stops-fits _ _ _ _ _ h _ _ _ c.in-Err.error c.in-Err.ensures c.trap.ensures;
   stop = rw c.stop_of_writer.ensures (stop-stops c.in-Err.error c.args.number);
   trapped = search rules;
-  wanting = let h = is_served _ _ _ _ _ c.sound.ensures c.served.ensures c.requires.there c.requires.owner c.requires.fits c.requires.placed in
+  out_of_memory = let h = is_served _ _ _ _ _ c.sound.ensures c.served.ensures c.requires.there c.requires.owner c.requires.fits c.requires.placed in
       rw c.stop_of_writer.ensures (stops-wants _ _ _ _ _ h _ _ _ c.in-Err.error c.in-Err.ensures c.trap.ensures);
 }
 
@@ -58,7 +58,7 @@ returns-then-ne-clause-part g c = record {
       mid-fits _ _ _ _ _ h _ _ _ c.in-Ok.ensures;
   stop = search rules;
   trapped = search rules;
-  wanting = search rules;
+  out_of_memory = search rules;
 }
 
 pub returns-clause-part : goal.returns-clause-part
@@ -69,5 +69,5 @@ returns-clause-part g c = record {
       left-fits_as _ _ _ _ _ h _ _ _ _ c.in-Ok.ensures (search rules) c.close_writer.ensures.closes c.retire.ensures c.close_writer.ensures.others;
   stop = search rules;
   trapped = search rules;
-  wanting = search rules;
+  out_of_memory = search rules;
 }

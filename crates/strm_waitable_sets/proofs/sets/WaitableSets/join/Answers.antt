@@ -6,7 +6,8 @@ use Rattle.std.specs.BTreeMap.{BTreeMap}
 use Rattle.std.specs.Cmp.{nat_eq_equiv}
 use Rattle.std.specs.Ordering.{nat_cmp}
 use Rattle.std.specs.Prelude.{Result, Ok, Err, OnErr}
-use Rattle.strm_waitable_sets.specs.Sets.{Sets, is_number, is_set_there, is_member, handle_joined}
+use Rattle.strm_waitable_sets.specs.Sets.{Sets, is_set_there, is_member, handle_joined}
+use Rattle.strm_codes.specs.OptionalNumbers.{is_number}
 use Rattle.strm_waitable_sets.specs.Slots.{slot_at}
 use Rattle.strm_waitable_sets.proofs.HomeLemmas.{get-seen, seen-inserted, insert_again}
 use Rattle.strm_waitable_sets.proofs.TieLemmas.{seen, is_number-is, flag-at, some_inside, flags-set, home_inside, tied-joined, tied-moved, tied-undone}

@@ -1,4 +1,4 @@
--- What host ends tell where memory was wanting in a step that may poll them: what they would tell had the one that
+-- What host ends tell where memory had run out in a step that may poll them: what they would tell had the one that
 -- was polled failed in that poll, but for its record of it; or, before items that a host writer holds are offered
 -- along a pipe, what they tell then. Ours.
 use Rattle.std.specs.Prelude.{◌≡◌, ◌≢◌, ℕ, false, [], ◌∷◌, ◌++◌, Some, Ok, Err}
@@ -53,7 +53,7 @@ FailsOnce (ends.Reader r) told more =
 
 -- a poll found no memory: had the host end failed in it, the machine would stop there, and host ends would tell
 -- what they tell, with that record more
-pub record WantsInPoll (old : State) (tells told : Tells) (machine : World → Outcome) : Type 0 where
+pub record RunsOutInPoll (old : State) (tells told : Tells) (machine : World → Outcome) : Type 0 where
   pub end : HostEnd
   pub more : Tells
   pub fails : FailsOnce end told more
@@ -62,7 +62,7 @@ pub record WantsInPoll (old : State) (tells told : Tells) (machine : World → O
 
 -- the same of this part of a step
 abbrev pub OfPoll : (World → Outcome) → State → Tells → Tells → Type 0
-OfPoll part old tells told = WantsInPoll old tells told part
+OfPoll part old tells told = RunsOutInPoll old tells told part
 
 -- ALONG A PIPE
 
@@ -72,61 +72,61 @@ pub record HoldsBefore (s n r : ℕ) (state : State) (told : Tells) : Type 0 whe
   pub reader : (stream_at state s).reader.owner ≡ Host r
   pub held : (told_by told n).holds ≢ []
 
--- memory was wanting before they were offered: host ends tell what they tell behind this part of what the machine
+-- memory had run out before they were offered: host ends tell what they tell behind this part of what the machine
 -- does
-pub record WantsBefore (s n r : ℕ) (old : State) (tells told : Tells) (part : World → Outcome) : Type 0 where
+pub record RunsOutBefore (s n r : ℕ) (old : State) (tells told : Tells) (part : World → Outcome) : Type 0 where
   pub state : State
   pub does : Does old state tells told (Ok replies.Done) part
   pub holds : HoldsBefore s n r state told
 
 -- in a poll of what the machine does in all, or behind a part of it, before an offer along stream s
-pub data WantsAt (s n r : ℕ) (old : State) (tells told : Tells) (whole part : World → Outcome) : Type 0 where
-  InPoll : WantsInPoll old tells told whole → WantsAt s n r old tells told whole part
-  BeforeOffer : WantsBefore s n r old tells told part → WantsAt s n r old tells told whole part
+pub data RunsOutAt (s n r : ℕ) (old : State) (tells told : Tells) (whole part : World → Outcome) : Type 0 where
+  InPoll : RunsOutInPoll old tells told whole → RunsOutAt s n r old tells told whole part
+  BeforeOffer : RunsOutBefore s n r old tells told part → RunsOutAt s n r old tells told whole part
 
 -- in the offer along stream s, before which nothing was done
-pub data WantsInOffer (n : ℕ) (old : State) (tells told : Tells) (offer : World → Outcome) : Type 0 where
-  Polled : WantsInPoll old tells told offer → WantsInOffer n old tells told offer
-  Unpolled : told ≡ tells → (told_by told n).holds ≢ [] → WantsInOffer n old tells told offer
+pub data RunsOutInOffer (n : ℕ) (old : State) (tells told : Tells) (offer : World → Outcome) : Type 0 where
+  Polled : RunsOutInPoll old tells told offer → RunsOutInOffer n old tells told offer
+  Unpolled : told ≡ tells → (told_by told n).holds ≢ [] → RunsOutInOffer n old tells told offer
 
 -- the same of this part of a step
 abbrev pub OfOffer : ℕ → (World → Outcome) → State → Tells → Tells → Type 0
-OfOffer n part old tells told = WantsInOffer n old tells told part
+OfOffer n part old tells told = RunsOutInOffer n old tells told part
 
 -- in the round of the pipe of stream s, from host writer n to host reader r
 abbrev pub OfRound : ℕ → ℕ → ℕ → (World → Outcome) → State → Tells → Tells → Type 0
-OfRound s n r part old tells told = WantsAt s n r old tells told part (λ w. fetches w s n r)
+OfRound s n r part old tells told = RunsOutAt s n r old tells told part (λ w. fetches w s n r)
 
 -- in the turn of stream s
-abbrev pub WantsInTurn : ℕ → State → Tells → Tells → Type 0
-WantsInTurn s old tells told =
-    (n : ℕ) × (r : ℕ) × WantsAt s n r old tells told (λ w. drive_turn w s) (λ w. fetches w s n r)
+abbrev pub RunsOutInTurn : ℕ → State → Tells → Tells → Type 0
+RunsOutInTurn s old tells told =
+    (n : ℕ) × (r : ℕ) × RunsOutAt s n r old tells told (λ w. drive_turn w s) (λ w. fetches w s n r)
 
 -- the same of this part of a step
 abbrev pub OfTurn : ℕ → (World → Outcome) → State → Tells → Tells → Type 0
-OfTurn s part old tells told = WantsInTurn s old tells told
+OfTurn s part old tells told = RunsOutInTurn s old tells told
 
 -- a drive round up to an offer along stream s: the turns of the streams before it, and its own fetch
 abbrev pub up_to_offer : ℕ → ℕ → ℕ → World → Outcome
 up_to_offer s n r world = then_on (driven world (numbers_from 0 s)) (λ w. fetches w s n r)
 
 -- in a drive round
-abbrev pub WantsInDrive : State → Tells → Tells → Type 0
-WantsInDrive old tells told =
-    (s : ℕ) × (n : ℕ) × (r : ℕ) × WantsAt s n r old tells told (λ w. driven w (round_of w)) (up_to_offer s n r)
+abbrev pub RunsOutInDrive : State → Tells → Tells → Type 0
+RunsOutInDrive old tells told =
+    (s : ℕ) × (n : ℕ) × (r : ℕ) × RunsOutAt s n r old tells told (λ w. driven w (round_of w)) (up_to_offer s n r)
 
 -- the same of this part of a step
 abbrev pub OfDrive : (World → Outcome) → State → Tells → Tells → Type 0
-OfDrive part old tells told = WantsInDrive old tells told
+OfDrive part old tells told = RunsOutInDrive old tells told
 
 -- IN A STEP
 
 -- in a poll of the step, or in a drive round before an offer along a pipe
-pub data WantsIn (old : State) (tells told : Tells) (act : Act) : Type 0 where
-  InAPoll : WantsInPoll old tells told (λ w. outcome w act) → WantsIn old tells told act
-  InADrive : (s n r : ℕ) → act ≡ Drive → WantsBefore s n r old tells told (up_to_offer s n r) → WantsIn old tells told act
+pub data RunsOutIn (old : State) (tells told : Tells) (act : Act) : Type 0 where
+  InAPoll : RunsOutInPoll old tells told (λ w. outcome w act) → RunsOutIn old tells told act
+  InADrive : (s n r : ℕ) → act ≡ Drive → RunsOutBefore s n r old tells told (up_to_offer s n r) → RunsOutIn old tells told act
 
--- where an error is want of memory, this holds
-abbrev pub IfWanting : StoreError → Type 0 → Type 0
-IfWanting OutOfMemory P = P
-IfWanting _ P = Unit {0}
+-- where an error is running out of memory, this holds
+abbrev pub IfOutOfMemory : StoreError → Type 0 → Type 0
+IfOutOfMemory OutOfMemory P = P
+IfOutOfMemory _ P = Unit {0}

@@ -1,4 +1,4 @@
--- Want of memory in a poll: the host end could have failed in it, with no items, and the machine would stop there.
+-- Running out of memory in a poll: the host end could have failed in it, with no items, and the machine would stop there.
 use Rattle.std.proofs.Common.{◌≡◌, ℕ, zero, suc, ◌<◌, Bool, true, false, List, [], ◌∷◌, ◌++◌, length, get_or, set, Option, Some, None, Result, Ok, Err, refl, sym, ap, subst, ◌∙◌, append-nil, arith}
 use Rattle.std.specs.Option.{option_map}
 use Rattle.std.specs.Prelude.{IfErr}
@@ -22,12 +22,12 @@ use Rattle.strm_host_machine.proofs.ReaderTurnLemmas.{IsPolledWith, turn-reader_
 use Rattle.strm_host_machine.proofs.DoesLemmas.{rose_more, Does-as}
 use Rattle.strm_host_machine.proofs.PollLemmas.{IsServing}
 use Rattle.strm_host_machine.proofs.WriterTurnLemmas.{IsPolledFor, turn-failed}
-use Rattle.strm_host_turns.specs.WriterTurns.{WriterScene, WriterWants, IsEmptyWriterTurn, IsHoldingWriterTurn, IsWriterTurn}
+use Rattle.strm_host_turns.specs.WriterTurns.{WriterScene, WriterRunsOut, IsEmptyWriterTurn, IsHoldingWriterTurn, IsWriterTurn}
 use Rattle.strm_host_turns.specs.declared.writer_turns.WriterStops.{WriterStops}
 use Rattle.strm_host_turns.specs.declared.writer_turns.WriterStops.TheVariants.{Failed, OutOfMemory, Broke}
 use Rattle.strm_host_turns.proofs.StepLemmas.{scene_in, told_in}
 use Rattle.strm_transmit.specs.Turning.{stop_of_writer}
-use Rattle.strm_transmit.specs.WantsMemory.{ProducesNone, TakesNone, writer_failed, reader_failed, FailsOnce, WantsInPoll, IfWanting}
+use Rattle.strm_transmit.specs.OutOfMemory.{ProducesNone, TakesNone, writer_failed, reader_failed, FailsOnce, RunsOutInPoll, IfOutOfMemory}
 use Rattle.strm_transmit.specs.declared.errors.StoreError.{StoreError}
 use Rattle.strm_transmit.specs.declared.errors.StoreError.TheVariants as errors
 
@@ -94,10 +94,10 @@ fails_reader tells r t said p = (said, p, ap (λ rs. record tells { readers = rs
 -- ## A turn
 
 module _ (old : State) (tells told : Tells) (n s : ℕ) (read : Operation) (i : IsServing old tells n s) (new : WriterScene) (ends_so : told ≡ told_in tells n new) where
-  abbrev TurnWants : Type 0
-  TurnWants = WantsInPoll old tells told (λ w. writer_turn w s n read)
+  abbrev TurnRunsOut : Type 0
+  TurnRunsOut = RunsOutInPoll old tells told (λ w. writer_turn w s n read)
 
-  polled_wants : (told_by tells n).holds ≡ [] → (producer_at old n).over ≡ false → (items : List Item) → WriterWants (scene_in old tells n s) new read items → TurnWants
+  polled_wants : (told_by tells n).holds ≡ [] → (producer_at old n).over ≡ false → (items : List Item) → WriterRunsOut (scene_in old tells n s) new read items → TurnRunsOut
   polled_wants e over items w =
       let said = none_from new.tells (Some read.left) read.asked in
       let after = writer_failed new.tells said in
@@ -110,23 +110,23 @@ module _ (old : State) (tells told : Tells) (n s : ℕ) (read : Operation) (i : 
         does = turn-failed old tells n s read i said after polled old refl refl;
       }
 
-  empty_wants : (over : Bool) → (told_by tells n).holds ≡ [] → (producer_at old n).over ≡ over → IsEmptyWriterTurn over (Err OutOfMemory) (scene_in old tells n s) new read → TurnWants
+  empty_wants : (over : Bool) → (told_by tells n).holds ≡ [] → (producer_at old n).over ≡ over → IsEmptyWriterTurn over (Err OutOfMemory) (scene_in old tells n s) new read → TurnRunsOut
   empty_wants true e o t = cc (t.0)
   empty_wants false e o t = polled_wants e o t.0 t.1
 
-  holding_wants : (held : List Item) → (told_by tells n).holds ≡ held → IsHoldingWriterTurn held (Err OutOfMemory) (scene_in old tells n s) new read → TurnWants
+  holding_wants : (held : List Item) → (told_by tells n).holds ≡ held → IsHoldingWriterTurn held (Err OutOfMemory) (scene_in old tells n s) new read → TurnRunsOut
   holding_wants (item ∷ items) e t = cc (t.0)
   holding_wants [] e t = empty_wants (producer_at old n).over e refl t
 
   -- of a host writer
-  pub turn_wants : (e : WriterStops) → IsWriterTurn (Err e) (scene_in old tells n s) new read → IfWanting (stop_of_writer e n) TurnWants
+  pub turn_wants : (e : WriterStops) → IsWriterTurn (Err e) (scene_in old tells n s) new read → IfOutOfMemory (stop_of_writer e n) TurnRunsOut
   turn_wants Failed t = tt
   turn_wants Broke t = tt
   turn_wants OutOfMemory t = holding_wants (told_by tells n).holds refl t
 
 -- of a host reader, which is there
 module _ (old : State) (tells told : Tells) (r s : ℕ) (write : Operation) (there : r < length tells.readers) (t : ReaderTells) (ends_so : told ≡ with_told_reader tells r t) where
-  pub taking_wants : KeepsReader (told_by_reader tells r) t → WantsInPoll old tells told (λ w. reader_turn w s r write)
+  pub taking_wants : KeepsReader (told_by_reader tells r) t → RunsOutInPoll old tells told (λ w. reader_turn w s r write)
   unfolding items
   taking_wants k =
       let said = none_to write.left (consumer_at old r).since write.asked in
@@ -150,20 +150,20 @@ module _ (old : State) (tells told : Tells) (r s : ℕ) (write : Operation) (the
 -- ## From one part to another
 
 -- what is wanted of one part holds of another
-pub wanting_as : {P Q : Type 0} (error : StoreError) → (P → Q) → IfWanting error P → IfWanting error Q
-wanting_as (errors.Refused refusal) f w = tt
-wanting_as (errors.HostFailed end) f w = tt
-wanting_as (errors.HostBroke end) f w = tt
-wanting_as (errors.BadItem s) f w = tt
-wanting_as errors.StoreTrapped f w = tt
-wanting_as errors.OutOfMemory f w = f w
+pub out_of_memory_as : {P Q : Type 0} (error : StoreError) → (P → Q) → IfOutOfMemory error P → IfOutOfMemory error Q
+out_of_memory_as (errors.Refused refusal) f w = tt
+out_of_memory_as (errors.HostFailed end) f w = tt
+out_of_memory_as (errors.HostBroke end) f w = tt
+out_of_memory_as (errors.BadItem s) f w = tt
+out_of_memory_as errors.StoreTrapped f w = tt
+out_of_memory_as errors.OutOfMemory f w = f w
 
-pub wanting_result : {T P Q : Type 0} (result : Result T StoreError) → (P → Q) → IfErr result (λ error. IfWanting error P) → IfErr result (λ error. IfWanting error Q)
-wanting_result (Ok v) f w = tt
-wanting_result (Err error) f w = wanting_as error f w
+pub out_of_memory_result : {T P Q : Type 0} (result : Result T StoreError) → (P → Q) → IfErr result (λ error. IfOutOfMemory error P) → IfErr result (λ error. IfOutOfMemory error Q)
+out_of_memory_result (Ok v) f w = tt
+out_of_memory_result (Err error) f w = out_of_memory_as error f w
 
 -- a part of the machine that does the same
-pub poll_as : (old : State) (tells told : Tells) (m k : World → Outcome) → ((logs : Logs) → k (world_of old tells logs) ≡ m (world_of old tells logs)) → WantsInPoll old tells told m → WantsInPoll old tells told k
+pub poll_as : (old : State) (tells told : Tells) (m k : World → Outcome) → ((logs : Logs) → k (world_of old tells logs) ≡ m (world_of old tells logs)) → RunsOutInPoll old tells told m → RunsOutInPoll old tells told k
 poll_as old tells told m k same w = record {
   end = w.end;
   more = w.more;
