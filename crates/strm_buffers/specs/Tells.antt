@@ -1,11 +1,12 @@
 -- What a host end tells of itself, and what each call does to it. Ours.
-use Rattle.std.specs.Prelude.{◌≡◌, ℕ, ◌+◌, ◌-◌, ◌^◌, ◌≤◌, nat_lt, if◌then◌else◌, Bool, true, false, List, [], ◌∷◌, ◌++◌, length, take, drop, slice_index_or, slice_set, Option, None}
+use Rattle.std.specs.Prelude.{◌≡◌, ℕ, ◌+◌, ◌≤◌, Bool, true, false, List, [], ◌∷◌, ◌++◌, length, take, drop, slice_index_or, slice_set, Option, None}
 use Rattle.std.specs.Option.{option_map}
 use Rattle.strm_codes.specs.declared.codes.TransmitKind.{TransmitKind}
 use Rattle.strm_codes.specs.declared.codes.TransmitKind.TheVariants.{Stream}
 use Rattle.strm_codes.specs.declared.payloads.Payload.{Payload}
 use Rattle.strm_codes.specs.declared.payloads.Payload.TheVariants.{Nothing}
 use Rattle.strm_codes.specs.declared.scalars.Scalar.{Scalar}
+use Rattle.strm_codes.specs.Counters.{Rose}
 use Rattle.strm_codes.specs.Layout.{scalars_of}
 use Rattle.strm_memory.specs.Items.{AreItems}
 use Rattle.strm_buffers.specs.declared.answers.Answer.{Answer}
@@ -94,14 +95,6 @@ abbrev pub with_told_reader : Tells → ℕ → ReaderTells → Tells
 with_told_reader tells r told = record tells { readers = slice_set tells.readers r told }
 
 -- THE CALLS OF A HOST WRITER
-
--- one more, in a counter of 64 bits that stands still at its end
-abbrev pub one_more : ℕ → ℕ
-one_more n = if nat_lt n (2 ^ 64 - 1) then n + 1 else n
-
--- a count of faults rose, or stands at its counter's end
-abbrev pub Rose : ℕ → ℕ → Type 0
-Rose old new = one_more old ≤ new
 
 -- Failed comes only where the count of faults rose, which never falls
 abbrev pub RisesOnFailed : Answer → ℕ → ℕ → Type 0

@@ -1,4 +1,5 @@
 pub mod Codes
+pub mod Counters
 pub mod Counts
 pub mod Forms
 pub mod Ids

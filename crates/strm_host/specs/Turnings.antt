@@ -5,7 +5,7 @@ use Rattle.strm_buffers.specs.declared.answers.Turn.TheVariants as turn
 use Rattle.strm_host.specs.declared.turning.Turning.{Turning}
 use Rattle.strm_host.specs.declared.turning.Progress.{Progress}
 use Rattle.strm_host.specs.declared.turning.Progress.TheVariants.{Pending, Ready, Over}
-use Rattle.strm_buffers.specs.Tells.{one_more}
+use Rattle.strm_codes.specs.Counters.{one_more}
 
 module _ {A : Type 0} where
   -- it was sent

@@ -4,7 +4,8 @@
 //! are ours.
 
 ghost use Rattle.std.specs.Prelude.{◌≡◌, ◌==◌, ◌≤◌, false, IfSome};
-ghost use Rattle.strm_buffers.specs.Tells.{SameOffer, Rose};
+ghost use Rattle.strm_codes.specs.Counters.{Rose};
+ghost use Rattle.strm_buffers.specs.Tells.{SameOffer};
 ghost use Rattle.strm_host.specs.Futures.{IfFailed, IfPolled};
 ghost use Rattle.strm_host.specs.Consuming.{offering_of, took_more};
 ghost use Rattle.strm_host.specs.FutureConsuming.{KeepsTaking, IfTurnOutOfMemory, stream_turn};

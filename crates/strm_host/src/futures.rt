@@ -4,7 +4,7 @@
 
 ghost use Rattle.std.specs.Prelude.{◌≡◌, ◌≤◌, [], IfSome};
 ghost use Rattle.strm_host.specs.Futures.{IfFailed, IfPolled, IsPlanned};
-ghost use Rattle.strm_buffers.specs.Tells.{Rose};
+ghost use Rattle.strm_codes.specs.Counters.{Rose};
 
 use crate::destinations::Destination;
 use crate::producers::StreamProducer;

@@ -76,7 +76,7 @@ impl<T: Drop> Turning<T> {
 
 impl<T: Payloaded> FutureProducer for Turning<T> {
     ghost use Rattle.std.specs.Prelude.{◌≤◌, Some};
-    ghost use Rattle.strm_buffers.specs.Tells.{Rose};
+    ghost use Rattle.strm_codes.specs.Counters.{Rose};
     ghost use Rattle.strm_host.specs.Futures.{IfFailed};
     ghost use Rattle.strm_host.specs.Turnings.{answer_of, after_poll};
 

@@ -10,7 +10,8 @@ use Rattle.strm_buffers.specs.declared.answers.ReaderSaid.{ReaderSaid}
 use Rattle.strm_buffers.specs.HostRules.{breaks_as_writer, breaks_as_reader}
 use Rattle.strm_buffers.specs.Listing.{Item}
 use Rattle.strm_buffers.specs.Said.{WriterSaid}
-use Rattle.strm_buffers.specs.Tells.{WriterTells, ReaderTells, Tells, no_tells, told_by, with_told, PollsWriter, PollsReader, RisesOnFailed, Rose, writer_given, told_by_reader, with_told_reader}
+use Rattle.strm_codes.specs.Counters.{Rose}
+use Rattle.strm_buffers.specs.Tells.{WriterTells, ReaderTells, Tells, no_tells, told_by, with_told, PollsWriter, PollsReader, RisesOnFailed, writer_given, told_by_reader, with_told_reader}
 use Rattle.strm_machine.specs.State.{State, no_producer, producer_at, kept_at, consumer_at, stream_at}
 use Rattle.strm_machine.specs.Reactions.{with_stream_at}
 use Rattle.strm_machine.specs.declared.stops.Stop.{Stop}

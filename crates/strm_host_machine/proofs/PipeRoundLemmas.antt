@@ -4,7 +4,8 @@ use Rattle.strm_buffers.specs.declared.answers.Answer.{Answer}
 use Rattle.strm_buffers.specs.declared.answers.Answer.TheVariants.{Failed}
 use Rattle.strm_buffers.specs.declared.answers.ReaderSaid.{ReaderSaid}
 use Rattle.strm_buffers.specs.HostRules.{breaks_as_reader}
-use Rattle.strm_buffers.specs.Tells.{WriterTells, ReaderTells, Tells, no_reader_tells, told_by, with_told, RisesOnFailed, Rose, writer_given, reader_tells_closed as closed_tells, told_by_reader}
+use Rattle.strm_codes.specs.Counters.{Rose}
+use Rattle.strm_buffers.specs.Tells.{WriterTells, ReaderTells, Tells, no_reader_tells, told_by, with_told, RisesOnFailed, writer_given, reader_tells_closed as closed_tells, told_by_reader}
 use Rattle.strm_machine.specs.State.{State, stream_at}
 use Rattle.strm_machine.specs.declared.stops.Stop.{Stop}
 use Rattle.strm_machine.specs.declared.stops.Stop.TheVariants.{HostFailed, HostBroke, BadItem}

@@ -7,7 +7,8 @@ use Rattle.strm_buffers.specs.declared.answers.Answer.TheVariants.{Failed}
 use Rattle.strm_buffers.specs.declared.answers.ReaderSaid.{ReaderSaid}
 use Rattle.strm_buffers.specs.HostRules.{breaks_as_reader}
 use Rattle.strm_buffers.specs.Listing.{Item}
-use Rattle.strm_buffers.specs.Tells.{ReaderTells, Tells, no_reader_tells, PollsReader, KeepsReader, RisesOnFailed, Rose, told_by_reader, with_told_reader}
+use Rattle.strm_codes.specs.Counters.{Rose}
+use Rattle.strm_buffers.specs.Tells.{ReaderTells, Tells, no_reader_tells, PollsReader, KeepsReader, RisesOnFailed, told_by_reader, with_told_reader}
 use Rattle.strm_machine.specs.State.{State, consumer_at, stream_at}
 use Rattle.strm_machine.specs.declared.stops.Stop.{Stop}
 use Rattle.strm_machine.specs.declared.stops.Stop.TheVariants.{HostFailed, HostBroke, BadItem}

@@ -8,7 +8,8 @@ use Rattle.strm_buffers.specs.declared.answers.Answer.TheVariants.{Failed}
 use Rattle.strm_buffers.specs.HostRules.{breaks_as_writer}
 use Rattle.strm_buffers.specs.Listing.{Item}
 use Rattle.strm_buffers.specs.Said.{WriterSaid}
-use Rattle.strm_buffers.specs.Tells.{WriterTells, Tells, no_tells, told_by, with_told, PollsWriter, KeepsWriter, RisesOnFailed, Rose, writer_given}
+use Rattle.strm_codes.specs.Counters.{Rose}
+use Rattle.strm_buffers.specs.Tells.{WriterTells, Tells, no_tells, told_by, with_told, PollsWriter, KeepsWriter, RisesOnFailed, writer_given}
 use Rattle.strm_machine.specs.State.{State, Guest, no_producer, producer_at, stream_at}
 use Rattle.strm_machine.specs.declared.stops.Stop.{Stop}
 use Rattle.strm_machine.specs.declared.stops.Stop.TheVariants.{HostFailed, HostBroke}

@@ -1,6 +1,7 @@
 -- What the records say that host ends add in a run. Ours.
 use Rattle.std.specs.Prelude.{◌≡◌, ℕ, ◌≤◌, ◌⊎◌, false, List, [], ◌∷◌, ◌++◌, All, Option, Some, None}
-use Rattle.strm_buffers.specs.Tells.{Tells, Rose, told_by, told_by_reader}
+use Rattle.strm_codes.specs.Counters.{Rose}
+use Rattle.strm_buffers.specs.Tells.{Tells, told_by, told_by_reader}
 use Rattle.strm_buffers.specs.Said.{WriterSaid}
 use Rattle.strm_buffers.specs.declared.answers.ReaderSaid.{ReaderSaid}
 use Rattle.strm_buffers.specs.HostRules.{breaks_as_writer, breaks_as_reader}

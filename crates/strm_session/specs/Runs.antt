@@ -19,7 +19,8 @@ use Rattle.strm_machine.specs.Untouched.{StaysAside, LieThere}
 use Rattle.strm_machine.specs.Acts.{act_of}
 use Rattle.strm_machine.specs.declared.stops.Stop.{Stop}
 use Rattle.strm_machine.specs.declared.stops.Stop.TheVariants as stops
-use Rattle.strm_buffers.specs.Tells.{Tells, Rose}
+use Rattle.strm_codes.specs.Counters.{Rose}
+use Rattle.strm_buffers.specs.Tells.{Tells}
 use Rattle.strm_machine.specs.Hosting.{HostsHold}
 use Rattle.strm_host_machine.specs.World.{World, writer_at, reader_at, stream_in}
 use Rattle.strm_host_machine.specs.HostPlays.{host_play as play_among}

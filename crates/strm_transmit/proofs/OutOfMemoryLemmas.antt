@@ -8,7 +8,8 @@ use Rattle.strm_buffers.specs.declared.answers.Answer.TheVariants as answers
 use Rattle.strm_buffers.specs.declared.answers.ReaderSaid.{ReaderSaid}
 use Rattle.strm_buffers.specs.Listing.{Item}
 use Rattle.strm_buffers.specs.Said.{WriterSaid, in_room, past_room}
-use Rattle.strm_buffers.specs.Tells.{WriterTells, ReaderTells, Tells, no_tells, no_reader_tells, one_more, told_by, with_told, told_by_reader, with_told_reader, PollsWriter, KeepsWriter, PollsReader, KeepsReader}
+use Rattle.strm_codes.specs.Counters.{one_more}
+use Rattle.strm_buffers.specs.Tells.{WriterTells, ReaderTells, Tells, no_tells, no_reader_tells, told_by, with_told, told_by_reader, with_told_reader, PollsWriter, KeepsWriter, PollsReader, KeepsReader}
 use Rattle.strm_machine.specs.State.{State, producer_at, consumer_at}
 use Rattle.strm_machine.specs.declared.stops.Stop.TheVariants.{HostFailed}
 use Rattle.strm_machine.specs.declared.streams.HostEnd.TheVariants as ends

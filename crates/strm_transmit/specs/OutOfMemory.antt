@@ -5,7 +5,8 @@ use Rattle.std.specs.Prelude.{◌≡◌, ◌≢◌, ℕ, false, [], ◌∷◌, �
 use Rattle.strm_buffers.specs.declared.answers.Answer.TheVariants.{Failed}
 use Rattle.strm_buffers.specs.declared.answers.ReaderSaid.{ReaderSaid}
 use Rattle.strm_buffers.specs.Said.{WriterSaid}
-use Rattle.strm_buffers.specs.Tells.{WriterTells, ReaderTells, Tells, one_more, told_by, with_told, told_by_reader, with_told_reader}
+use Rattle.strm_codes.specs.Counters.{one_more}
+use Rattle.strm_buffers.specs.Tells.{WriterTells, ReaderTells, Tells, told_by, with_told, told_by_reader, with_told_reader}
 use Rattle.strm_machine.specs.State.{State, stream_at}
 use Rattle.strm_machine.specs.declared.acts.Act.{Act}
 use Rattle.strm_machine.specs.declared.acts.Act.TheVariants.{Drive}
