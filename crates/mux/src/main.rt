@@ -6,7 +6,8 @@ ghost use Rattle.std.specs.Io.KnownBytes.{Appends};
 ghost use Rattle.std.specs.Process.{exit_status};
 ghost use Rattle.strm_frames.specs.Frames.{Frame};
 ghost use Rattle.strm_lines.specs.Lines.{lines_of};
-ghost use Rattle.strm_input_output.specs.Faults.{Rose, TakesPart};
+ghost use Rattle.strm_codes.specs.Counters.{Rose};
+ghost use Rattle.strm_input_output.specs.Faults.{TakesPart};
 ghost use Rattle.strm_mux.specs.Lines.{Puts, IsFirstBadLaneLine, IsMuxTooLong};
 ghost use Rattle.strm_mux.specs.Serving.{IsSizes, IsMuxOutput, IsMuxStatus, IsMuxFaultless};
 

@@ -3,7 +3,7 @@ use Rattle.std.specs.Prelude.{IfSome}
 use Rattle.std.proofs.Common.{◌≡◌, ◌≢◌, ◌⊎◌, ℕ, ◌≤◌, List, length, Option, Some, None, ap, subst, ⊎_elim, arith, inl, inr}
 use Rattle.std.specs.Io.KnownBytes.{IsAtEnd}
 use Rattle.std.proofs.lemmas.Bool.{cases_eq}
-use Rattle.strm_input_output.specs.Faults.{Rose}
+use Rattle.strm_codes.specs.Counters.{Rose}
 use Rattle.strm_lines.specs.Text.{too_long_text, read_fault_text}
 use Rattle.strm_chain.specs.declared.stages.Stage.{Stage}
 use Rattle.strm_chain.specs.Asking.{Asks, IsChainAsked}

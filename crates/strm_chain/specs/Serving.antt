@@ -3,7 +3,7 @@ use Rattle.std.specs.Prelude.{◌≡◌, ◌≢◌, ◌≤◌, ◌<◌, ◌+◌,
 use Rattle.std.specs.Io.KnownBytes.{IsAtEnd}
 use Rattle.strm_machine.specs.declared.steps.Step.{Step}
 use Rattle.strm_machine.specs.declared.replies.Reply.{Reply}
-use Rattle.strm_input_output.specs.Faults.{Rose}
+use Rattle.strm_codes.specs.Counters.{Rose}
 use Rattle.strm_lines.specs.Grammar.{IsBetween}
 use Rattle.strm_lines.specs.Text.{too_long_text, read_fault_text}
 use Rattle.strm_chain.specs.declared.stages.Stage.{Stage}

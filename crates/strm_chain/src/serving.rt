@@ -4,7 +4,8 @@
 
 ghost use Rattle.std.specs.Prelude.{◌≡◌, ◌≢◌, ◌≤◌, ◌+◌, ◌⊎◌, ℕ, List, [], length, map, IfOk, Some, string_bytes};
 ghost use Rattle.std.specs.Io.KnownBytes.{Appends, Consumes};
-ghost use Rattle.strm_input_output.specs.Faults.{Rose, TakesPart};
+ghost use Rattle.strm_codes.specs.Counters.{Rose};
+ghost use Rattle.strm_input_output.specs.Faults.{TakesPart};
 ghost use Rattle.strm_chain.specs.Asking.{Asks, IsChainAsked};
 ghost use Rattle.strm_chain.specs.Serving.{IsChainTooLong, IsPipedBy, IsChainOutput, IsChainStatus, IsChainFaultless, chain_usage_text};
 

@@ -3,7 +3,7 @@ use Rattle.std.specs.Prelude.{IfSome}
 use Rattle.std.proofs.Common.{◌≡◌, ◌≢◌, ◌⊎◌, inl, inr, ℕ, List, [], Option, Some, None, sym, ◌∙◌, subst}
 use Rattle.std.proofs.lemmas.Bool.{cases_eq}
 use Rattle.std.specs.Io.KnownBytes.{IsAtEnd}
-use Rattle.strm_input_output.specs.Faults.{Rose}
+use Rattle.strm_codes.specs.Counters.{Rose}
 use Rattle.strm_input_output.specs.Serving.{IsOfSource, IsOfWords, IsOr}
 
 module _ {IsRead : ℕ → Type 0} {IsTooLong : List ℕ → Type 0} {rest : Option (List ℕ)} {before after status : ℕ} {text : List ℕ} where

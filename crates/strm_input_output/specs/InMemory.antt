@@ -1,6 +1,6 @@
 -- A source and a sink in memory, of which every call is known. Ours.
 use Rattle.std.specs.Prelude.{ℕ, List, ◌++◌, drop}
-use Rattle.strm_input_output.specs.Faults.{one_more}
+use Rattle.strm_codes.specs.Counters.{one_more}
 
 -- what a source in memory has left, and how it goes on
 pub record SourceState : Type 0 where

@@ -2,7 +2,8 @@
 use Rattle.std.specs.Prelude.{◌≡◌, ◌≢◌, ◌⊎◌, ◌≤◌, ◌+◌, ℕ, List, length, Option, Some, IfSome}
 use Rattle.std.specs.Io.KnownBytes.{Appends, Consumes, IsAtEnd}
 use Rattle.strm_lines.specs.Text.{too_long_text, read_fault_text}
-use Rattle.strm_input_output.specs.Faults.{Rose, TakesPart}
+use Rattle.strm_codes.specs.Counters.{Rose}
+use Rattle.strm_input_output.specs.Faults.{TakesPart}
 
 -- the bytes that a source has left or a sink took, where these are told, and how many faults it had
 pub record Port : Type 0 where

@@ -5,7 +5,8 @@
 ghost use Rattle.std.specs.Prelude.{◌≡◌, ◌≢◌, IfOk};
 ghost use Rattle.std.specs.Io.KnownBytes.{Appends};
 ghost use Rattle.strm_lines.specs.Text.{too_long_text, read_fault_text};
-ghost use Rattle.strm_input_output.specs.Faults.{Rose, TakesPart};
+ghost use Rattle.strm_codes.specs.Counters.{Rose};
+ghost use Rattle.strm_input_output.specs.Faults.{TakesPart};
 
 use crate::ports::Sink;
 use crate::statuses::{READ_FAULT, TOO_LONG, WRITE_FAULT};

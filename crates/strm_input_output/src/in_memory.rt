@@ -5,7 +5,7 @@
 ghost use Rattle.std.specs.Prelude.{◌≡◌, ◌++◌, ◌+◌, ◌<◌, ◌≤◌, ◌↔◌, [], length, take, drop, min, IsTrue, IsErr, IfOk, OnErr, Contains, Err, vec_len};
 ghost use Rattle.std.specs.Io.{ReadsAtMost, WritesAtMost};
 ghost use Rattle.std.specs.Io.KnownBytes.{ReadConsumes, WriteAppends};
-ghost use Rattle.strm_input_output.specs.Faults.{Rose, one_more};
+ghost use Rattle.strm_codes.specs.Counters.{Rose, one_more};
 
 use crate::ports::{Failed, Sink, Source};
 use std::alloc::Global;

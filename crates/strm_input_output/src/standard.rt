@@ -5,7 +5,7 @@
 ghost use Rattle.std.specs.Prelude.{◌≡◌, ◌<◌, ◌≤◌, ◌↔◌, [], length, IfOk, IfSome, IsErr, Ok, OnOk, OnErr};
 ghost use Rattle.std.specs.Io.{ReadsAtMost, WritesAtMost};
 ghost use Rattle.std.specs.Io.KnownBytes.{ReadConsumes, WriteAppends};
-ghost use Rattle.strm_input_output.specs.Faults.{Rose, one_more};
+ghost use Rattle.strm_codes.specs.Counters.{Rose, one_more};
 
 use crate::ports::{Failed, Sink, Source};
 use std::io::{self, Read, Stdin, Stdout, Write};

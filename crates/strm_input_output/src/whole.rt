@@ -5,7 +5,8 @@
 ghost use Rattle.std.specs.Prelude.{◌≡◌, ◌<◌, ◌≤◌, length, IfOk, OnOk, OnErr, IfSome, Err, vec_len};
 ghost use Rattle.std.specs.Io.{ReadsAtMost};
 ghost use Rattle.std.specs.Io.KnownBytes.{Appends, IsAtEnd, ReadConsumes};
-ghost use Rattle.strm_input_output.specs.Faults.{Rose, TakesPart};
+ghost use Rattle.strm_codes.specs.Counters.{Rose};
+ghost use Rattle.strm_input_output.specs.Faults.{TakesPart};
 ghost use Rattle.strm_input_output.specs.Serving.{ReadsWithin};
 ghost use Rattle.strm_input_output.specs.declared.whole.InputError.TheVariants.{Fault, OutOfMemory as NoMemory};
 

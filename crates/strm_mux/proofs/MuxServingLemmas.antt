@@ -5,7 +5,7 @@ use Rattle.strm_lines.specs.Grammar.{IsBetween}
 use Rattle.strm_lines.specs.Lines.{lines_of}
 use Rattle.strm_lines.specs.Reading.{number_within}
 use Rattle.strm_lines.proofs.ReadingLemmas.{IsReading, IsReading-within}
-use Rattle.strm_input_output.specs.Faults.{Rose}
+use Rattle.strm_codes.specs.Counters.{Rose}
 use Rattle.strm_frames.specs.Frames.{Frame, encoding}
 use Rattle.strm_frames.specs.Muxes.{Written}
 use Rattle.strm_laws.specs.Conservation.{got, moments, state_after_steps}

@@ -5,7 +5,7 @@ use Rattle.strm_laws.specs.Conservation.{got, moments, state_after_steps}
 use Rattle.strm_machine.specs.Moments.{received}
 use Rattle.strm_machine.specs.Plays.{play, Ends}
 use Rattle.strm_machine.specs.declared.replies.Reply.{Reply}
-use Rattle.strm_input_output.specs.Faults.{Rose}
+use Rattle.strm_codes.specs.Counters.{Rose}
 use Rattle.strm_lines.specs.Grammar.{IsBetween}
 use Rattle.strm_lines.specs.Lines.{lines_of}
 use Rattle.strm_lines.specs.Text.{bad_line_text, too_long_text, read_fault_text}

@@ -11,7 +11,7 @@ use Rattle.strm_host_machine.specs.Ends.{Writer, Reader}
 use Rattle.strm_host_machine.specs.World.{World}
 use Rattle.strm_host_machine.specs.HostPlays.{host_play as play_among}
 use Rattle.strm_host_machine.specs.HostPlays as world_plays
-use Rattle.strm_input_output.specs.Faults.{Rose}
+use Rattle.strm_codes.specs.Counters.{Rose}
 use Rattle.strm_input_output.specs.Serving.{IsFaultless, IsOfSource, IsOr}
 use Rattle.strm_lines.specs.Grammar.{IsU32}
 use Rattle.strm_lines.specs.Generator.{generated}

@@ -4,7 +4,7 @@
 
 ghost use Rattle.std.specs.Prelude.{◌≡◌, ◌≢◌, ◌≤◌, ◌+◌, ◌⊎◌, ◌↔◌, ℕ, List, [], length, map, IfOk, IfErr, IsErr, IsTrue, Some, string_bytes};
 ghost use Rattle.strm_session.specs.Records.{HostsGoOn};
-ghost use Rattle.strm_input_output.specs.Faults.{Rose};
+ghost use Rattle.strm_codes.specs.Counters.{Rose};
 ghost use Rattle.strm_input_output.specs.Serving.{ReadsWithin, WritesWhole, WritesPart};
 ghost use Rattle.strm_session.specs.Runs.{HaveRoom};
 ghost use Rattle.strm_lines.specs.Lines.{lines_of, Spells, IsTooLong};

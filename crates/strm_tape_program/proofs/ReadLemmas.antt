@@ -1,7 +1,7 @@
 -- What is written where there is no tape.
 use Rattle.std.proofs.Common.{◌≡◌, ℕ, ◌≤◌, ◌<◌, List, length, Option, rules}
 use Rattle.std.specs.Prelude.{IfSome}
-use Rattle.strm_input_output.specs.Faults.{Rose}
+use Rattle.strm_codes.specs.Counters.{Rose}
 use Rattle.strm_lines.specs.Text.{too_long_text, read_fault_text}
 use Rattle.strm_tape_program.specs.Reading.{most_bytes, IsSpelling, IsNoTape}
 use Rattle.strm_tape_program.specs.Texts.{not_a_tape_text}

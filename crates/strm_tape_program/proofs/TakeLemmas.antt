@@ -6,7 +6,7 @@ use Rattle.std.specs.Io.KnownBytes.{IsAtEnd}
 use Rattle.std.proofs.lemmas.List.Elements.{All-head, All-tail}
 use Rattle.strm_buffers.specs.Tells.{WriterTells, Tells, no_tells}
 use Rattle.strm_machine.specs.declared.steps.Step.{Step}
-use Rattle.strm_input_output.specs.Faults.{Rose}
+use Rattle.strm_codes.specs.Counters.{Rose}
 use Rattle.strm_lines.specs.Lines.{lines_of, Spells, IsFirstBadLine, IsTooLong}
 use Rattle.strm_lines.proofs.LineLemmas.{spelled_not_bad}
 use Rattle.strm_tape_runs.specs.Taking.{NoneHolds, HoldsNone, IsFirstHolding}

@@ -1,6 +1,6 @@
 -- Why what is read is no tape, and what is written then. Ours.
 use Rattle.std.specs.Prelude.{◌≡◌, ◌⊎◌, ◌<◌, ◌≤◌, ℕ, List, length, Option, Some, IfSome}
-use Rattle.strm_input_output.specs.Faults.{Rose}
+use Rattle.strm_codes.specs.Counters.{Rose}
 use Rattle.strm_lines.specs.Text.{too_long_text, read_fault_text}
 use Rattle.strm_tape.specs.Spelling.{TapeOf, IsTape, tape_spelling}
 use Rattle.strm_tape_program.specs.declared.reading.NoTape.{NoTape}

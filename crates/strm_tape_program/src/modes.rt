@@ -4,7 +4,8 @@
 
 ghost use Rattle.std.specs.Prelude.{◌≡◌, ◌⊎◌, ◌↔◌, map, string_bytes, IfOk, IfErr, OnOk, Ok, Some, None};
 ghost use Rattle.std.specs.Io.KnownBytes.{Appends};
-ghost use Rattle.strm_input_output.specs.Faults.{Rose, TakesPart};
+ghost use Rattle.strm_codes.specs.Counters.{Rose};
+ghost use Rattle.strm_input_output.specs.Faults.{TakesPart};
 ghost use Rattle.strm_tape_program.specs.declared.modes.Mode.{Mode};
 ghost use Rattle.strm_tape_program.specs.Modes.{Names, NamesNone, mode_of_word};
 ghost use Rattle.strm_tape_program.specs.Texts.{tape_usage_text};

@@ -4,7 +4,7 @@
 
 ghost use Rattle.std.specs.Prelude.{◌≡◌, ◌≢◌, ◌⊎◌, Result, IfOk};
 ghost use Rattle.strm_buffers.specs.Tells.{Tells};
-ghost use Rattle.strm_input_output.specs.Faults.{Rose};
+ghost use Rattle.strm_codes.specs.Counters.{Rose};
 ghost use Rattle.strm_input_output.specs.Serving.{WritesWhole, WritesPart, IsOr};
 ghost use Rattle.strm_session.specs.Records.{HostsGoOn};
 ghost use Rattle.strm_session.specs.Serving.{IsStopStatus};

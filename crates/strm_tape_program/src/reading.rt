@@ -4,7 +4,7 @@
 
 ghost use Rattle.std.specs.Prelude.{◌≡◌, ◌≢◌, ◌⊎◌, ◌≤◌, ◌<◌, ◌+◌, ℕ, List, length, IfOk, IfErr, OnOk, IfSome, MatchResult, Err, Some};
 ghost use Rattle.std.specs.Io.KnownBytes.{IsAtEnd};
-ghost use Rattle.strm_input_output.specs.Faults.{Rose};
+ghost use Rattle.strm_codes.specs.Counters.{Rose};
 ghost use Rattle.strm_input_output.specs.Serving.{ReadsWithin, WritesWhole, WritesPart};
 ghost use Rattle.strm_tape.specs.Spelling.{TapeOf, IsTape, tape_spelling};
 ghost use Rattle.strm_tape_program.specs.Reading.{most_bytes, IsSpelling, IsReadStatus, IsNoTape, IsWhy, IsReadable};

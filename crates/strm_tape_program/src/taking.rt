@@ -4,7 +4,7 @@
 
 ghost use Rattle.std.specs.Prelude.{◌≡◌, ◌≢◌, ◌≤◌, ℕ, List, [], All, length, IfOk, OnOk, Some};
 ghost use Rattle.strm_machine.specs.declared.steps.Step.{Step};
-ghost use Rattle.strm_input_output.specs.Faults.{Rose};
+ghost use Rattle.strm_codes.specs.Counters.{Rose};
 ghost use Rattle.strm_input_output.specs.Serving.{ReadsWithin, WritesWhole, WritesPart, IsFaultless, IsOr};
 ghost use Rattle.strm_lines.specs.Grammar.{HasLine};
 ghost use Rattle.strm_lines.specs.Lines.{lines_of, Spells, IsFirstBadLine, IsTooLong};

@@ -1,7 +1,7 @@
 -- What the program does, put together.
 use Rattle.std.proofs.Common.{◌≡◌, ◌⊎◌, inl, inr, ℕ, ◌<◌, ◌≤◌, List, length, map, Option, Result, Ok, Err, IfSome, refl, sym, ap, ◌∙◌, subst, arith}
 use Rattle.strm_buffers.specs.Tells.{WriterTells, ReaderTells, Tells}
-use Rattle.strm_input_output.specs.Faults.{Rose}
+use Rattle.strm_codes.specs.Counters.{Rose}
 use Rattle.strm_tape.specs.Spelling.{TapeOf, IsTape, tape_spelling}
 use Rattle.strm_tape_runs.proofs.RunLemmas.{hosts_stay}
 use Rattle.strm_tape_program.specs.Reading.{IsReadable, most_bytes}

@@ -3,7 +3,8 @@ use Rattle.std.specs.Prelude.{◌≡◌, ◌≢◌, ◌⊎◌, ◌≤◌, ◌<�
 use Rattle.std.specs.Io.KnownBytes.{Appends, IsAtEnd}
 use Rattle.strm_buffers.specs.Tells.{Tells}
 use Rattle.strm_machine.specs.declared.steps.Step.{Step}
-use Rattle.strm_input_output.specs.Faults.{Rose, TakesPart}
+use Rattle.strm_codes.specs.Counters.{Rose}
+use Rattle.strm_input_output.specs.Faults.{TakesPart}
 use Rattle.strm_input_output.specs.Serving.{Port, Writes, ReadsWithin, IsFaultless, IsOr}
 use Rattle.strm_lines.specs.Lines.{lines_of, Spells, IsFirstBadLine, IsTooLong}
 use Rattle.strm_session.specs.Records.{HostsGoOn}
