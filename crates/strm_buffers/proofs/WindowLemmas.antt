@@ -2,7 +2,7 @@
 use Rattle.std.proofs.Common.{◌≡◌, ℕ, zero, suc, ◌+◌, ◌-◌, ◌*◌, ◌<◌, ◌≤◌, inl, inr, Bool, pos, negsuc, List, [], ◌∷◌, ◌++◌, length, take, drop, Option, Some, None, refl, sym, ap, subst, ◌∙◌, arith, length-append, get_or}
 use Rattle.std.proofs.lemmas.Int.{ints}
 use Rattle.std.proofs.lemmas.List.{drop-drop, drop-take, drop_all, length-take-le, length-replicate}
-use Rattle.std.specs.Prelude.{replicate, IsSome, Result, Ok, Err, OnErr}
+use Rattle.std.specs.Prelude.{replicate, IsSome}
 use Rattle.std.proofs.Math.Nat.{mul-le-mul_left}
 use Rattle.strm_codes.specs.Layout.{scalars_of, item_size}
 use Rattle.strm_codes.specs.Items.{FitsItem}
@@ -18,11 +18,6 @@ use Rattle.std.specs.Ptr.{Ptr}
 use Rattle.strm_buffers.specs.Windows.{base_kept, lying, Lent, Between, HasRoom, with_items, last_bytes, place_kept, window_kept, KeepsRest, IsRoom, IsWindow}
 use Rattle.strm_buffers.proofs.ListingLemmas.{length-items_in, lie_put, stored_past, pushed}
 use Rattle.strm_buffers.proofs.PutLemmas.{put_at-nil, put_at-kept, last_nil, stored_at-bytes, length-put_at, length-last}
-
--- what holds anyway holds where there is an error
-pub on_err : {T E P : Type 0} (r : Result T E) → P → OnErr r P
-on_err (Ok x) p = tt
-on_err (Err e) p = p
 
 -- a window that is kept so, and is this
 pub record Kept (payload : Payload) (bytes kept : List ℕ) (space address : ℕ) (room : Option ℕ) (marked : ℕ) (prepared : Bool) (w : Lent) : Type 0 where

@@ -1,6 +1,7 @@
 -- Items received between two guests, of which one stands in the first part of a list and one in the second.
 use Rattle.std.proofs.Common.{◌≡◌, ℕ, ◌+◌, ◌<◌, List, ◌++◌, length, get_or, set, Option, Some, None, Result, Ok, Err, sym, ap, subst, ◌∙◌, arith, OnOk, OnErr, IsErr, IsNone}
 use Rattle.std.specs.Prelude.{IsSomeAnd, ◌↔◌}
+use Rattle.std.proofs.lemmas.Result.{on_ok_weaker}
 use Rattle.std.proofs.lemmas.List.{get_or_append_left, get_or-append_right, set-append_left, set-append_right, length-append}
 use Rattle.strm_codes.specs.declared.payloads.Payload.{Payload}
 use Rattle.strm_codes.specs.Layout.{scalars_of}
@@ -26,10 +27,6 @@ pub record Stands (guests : List Guest) (g : ℕ) (x : Guest) : Type 0 where
   pub there : g < length guests
   pub is : x ≡ get_or guests g x
 
-on_ok : {P Q : Type 0} (r : Result (Unit {0}) BadItem) → (P → Q) → OnOk r P → OnOk r Q
-on_ok (Ok v) f h = f h
-on_ok (Err e) f h = tt
-
 some_map : {A : Type 0} {P Q : A → Type 0} (o : Option A) → ((x : A) → P x → Q x) → IsSomeAnd o P → IsSomeAnd o Q
 some_map None f h = h
 some_map (Some x) f h = f x h
@@ -37,7 +34,7 @@ some_map (Some x) f h = f x h
 module _ (payload : Payload) (count source target : ℕ) (guests : List Guest) (from to : ℕ) (w x : Guest) (filled : LinearMemory) (writer : Stands guests from w) (reader : Stands guests to x) where
   pub receives : (result : Result (Unit {0}) BadItem) → Fills payload count source target w x filled result → Receives payload count (guests_of guests) (guests_of (set guests to (record x { memory = filled }))) from source to target result
   receives result k = record {
-    ok = on_ok result
+    ok = on_ok_weaker result
         (λ h. subst (λ m. IsSomeAnd (items_at (scalars_of payload) m source count) (λ xs. guests_of (set guests to (record x { memory = filled })) ≡ with_memory (guests_of guests) to (stored_at (scalars_of payload) (memory_in (guests_of guests) to) target xs))) (sym read)
         (some_map (items_at (scalars_of payload) w.memory.bytes source count)
         (λ xs e. now ∙ ap (with_linear (guests_of guests) to) (e ∙ ap (λ (m : LinearMemory). with_contents m (stored_at (scalars_of payload) m.bytes target xs)) (sym was))) h))

@@ -1,7 +1,7 @@
 -- Waitable sets of guests: how many they are after one was made or taken away, and whether one has a
 -- member.
-use Rattle.std.proofs.Common.{◌≡◌, ℕ, ◌+◌, ◌<◌, Bool, true, false, List, [], ◌∷◌, length, set, Result, Ok, Err, Option, Some, None, is_some, refl, sym, ap, ◌∙◌, arith}
-use Rattle.std.specs.Prelude.{count_by, nat_eq, ◌||◌, OnOk, OnErr, IfSome, IfNone}
+use Rattle.std.proofs.Common.{◌≡◌, ℕ, ◌+◌, ◌<◌, Bool, true, false, List, [], ◌∷◌, length, set, Ok, Option, Some, None, is_some, refl, sym, ap, ◌∙◌, arith}
+use Rattle.std.specs.Prelude.{count_by, nat_eq, ◌||◌, IfSome, IfNone}
 use Rattle.std.specs.List.{list_any}
 use Rattle.std.specs.Cmp.{nat_eq_equiv}
 use Rattle.std.proofs.lemmas.List.Sums.{sum_by-set}
@@ -19,15 +19,6 @@ use Rattle.strm_channels.specs.Guests.{sets_among}
 
 abbrev pub how_many : List Bool → ℕ
 how_many there = count_by (λ t. t) there
-
--- what a call that answered, or did not, gives of what it gave
-pub on_ok : {T E : Type 0} (r : Result T E) {P Q : Type 0} → (P → Q) → OnOk r P → OnOk r Q
-on_ok (Ok v) f p = f p
-on_ok (Err e) f p = tt
-
-pub on_err : {T E : Type 0} (r : Result T E) {P Q : Type 0} → (P → Q) → OnErr r P → OnErr r Q
-on_err (Ok v) f p = tt
-on_err (Err e) f p = f p
 
 -- ## How many sets there are
 

@@ -1,5 +1,5 @@
 -- The words of the program, and what a status tells.
-use Rattle.std.specs.Prelude.{IfSome, IfErr}
+use Rattle.std.specs.Prelude.{IfSome}
 use Rattle.std.proofs.Common.{◌≡◌, ◌≢◌, ◌⊎◌, ℕ, ◌≤◌, List, [], ◌∷◌, length, map, get_or, Option, Some, None, Result, Ok, Err, refl, sym, ap, ◌∙◌, subst, ⊎_elim, inl, inr, decimal, arith}
 use Rattle.std.proofs.lemmas.Bool.{cases_eq}
 use Rattle.std.specs.Prelude.{codes}
@@ -94,11 +94,6 @@ module _ (old new : Tells) (steps : List Step) (told : List Reply) (status : ℕ
 
 three_of : (status : ℕ) → status ≢ 4 → (status ≢ 3 → ⊥) → status ≡ 3
 three_of status d n = ⊎_elim (λ e. e) (λ e. absurd (n e)) (cases_eq status 3)
-
--- what holds holds at an error
-pub on_any : {T E P : Type 0} (r : Result T E) → P → IfErr r (λ _. P)
-on_any (Ok v) p = tt
-on_any (Err e) p = p
 
 -- what an input that was read leaves, its source does
 pub unwritten_of_source : {old new : Tells} (left : Option (List ℕ)) (input : List ℕ) → IfSome left (λ bytes. input ≡ bytes) → LeavesUnwritten (Some input) old new → LeavesUnwritten left old new

@@ -1,5 +1,6 @@
 use Rattle.std.proofs.Common.{◌∙◌}
-use Rattle.strm_lines.proofs.PartLemmas.{on_err, part_of_items}
+use Rattle.strm_codes.proofs.ResultLemmas.{on_err}
+use Rattle.strm_lines.proofs.PartLemmas.{part_of_items}
 use Rattle.strm_lines.proofs.texts.push_parts.Goals as goal
 
 pub returns-in_err-push_slice-clause-err : goal.returns-in_err-push_slice-clause-err

@@ -1,6 +1,7 @@
 use Rattle.std.proofs.Common.{subst}
 use Rattle.strm_lines.specs.Text.{HasPart, line_ended, reply_text}
-use Rattle.strm_lines.proofs.PartLemmas.{on_err, part_of_item}
+use Rattle.strm_codes.proofs.ResultLemmas.{on_err}
+use Rattle.strm_lines.proofs.PartLemmas.{part_of_item}
 use Rattle.strm_lines.proofs.texts.push_replies.Goals as goal
 
 pub returns-in_err-push_reply-clause-err : goal.returns-in_err-push_reply-clause-err

@@ -1,7 +1,8 @@
 use Rattle.std.proofs.Common.{◌+◌, [], ◌++◌, drop, get_or, refl, sym, ap, ◌∙◌, append_assoc}
 use Rattle.std.proofs.lemmas.List.{append-nil, drop_more, drop_all}
 use Rattle.strm_lines.specs.Text.{line_ended, stream_text, stream_lines}
-use Rattle.strm_lines.proofs.PartLemmas.{on_err, part_same, part_more}
+use Rattle.strm_codes.proofs.ResultLemmas.{on_err}
+use Rattle.strm_lines.proofs.PartLemmas.{part_same, part_more}
 use Rattle.strm_lines.proofs.texts.push_streams.Goals as goal
 
 pub returns-in_err-push_stream-clause-err : goal.returns-in_err-push_stream-clause-err

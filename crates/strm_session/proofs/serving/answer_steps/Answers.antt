@@ -1,7 +1,8 @@
 use Rattle.std.proofs.Common.{ap, ◌∙◌, refl}
+use Rattle.strm_codes.proofs.ResultLemmas.{on_err}
 use Rattle.strm_lines.specs.Text.{transcript_text}
 use Rattle.strm_session.proofs.PlayingLemmas.{has_run}
-use Rattle.strm_session.proofs.ServingLemmas.{was_run, on_any}
+use Rattle.strm_session.proofs.ServingLemmas.{was_run}
 use Rattle.strm_session.proofs.serving.answer_steps.Goals as goal
 
 pub returns-in_ok-text-in-Err-clause-stopped : goal.returns-in_ok-text-in-Err-clause-stopped
@@ -35,14 +36,14 @@ returns-in_ok-text-in-Ok-clause-done g c = λ input s q.
 pub returns-in_err-text-in-Ok-clause-out_of_memory : goal.returns-in_err-text-in-Ok-clause-out_of_memory
 returns-in_err-text-in-Ok-clause-out_of_memory g c = λ input s long.
     let played = c.in-Ok.ensures in
-    on_any _ (was_run input c.args.steps.now.items played.0 _ s long (has_run c.left-given.ensures refl played.2))
+    on_err _ (was_run input c.args.steps.now.items played.0 _ s long (has_run c.left-given.ensures refl played.2))
 
 pub returns-in_err-status-in-Err-clause-out_of_memory : goal.returns-in_err-status-in-Err-clause-out_of_memory
 returns-in_err-status-in-Err-clause-out_of_memory g c = λ input s long.
     let played = c.in-Err.ensures in
-    on_any _ (was_run input c.args.steps.now.items played.0 _ s long (has_run c.left-given.ensures refl played.2))
+    on_err _ (was_run input c.args.steps.now.items played.0 _ s long (has_run c.left-given.ensures refl played.2))
 
 pub returns-in_err-text-in-Err-clause-out_of_memory : goal.returns-in_err-text-in-Err-clause-out_of_memory
 returns-in_err-text-in-Err-clause-out_of_memory g c = λ input s long.
     let played = c.in-Err.ensures in
-    on_any _ (was_run input c.args.steps.now.items played.0 _ s long (has_run c.left-given.ensures refl played.2))
+    on_err _ (was_run input c.args.steps.now.items played.0 _ s long (has_run c.left-given.ensures refl played.2))

@@ -3,7 +3,8 @@ use Rattle.std.specs.Vec.{vec_ptr}
 use Rattle.strm_codes.specs.Layout.{scalars_of, item_size}
 use Rattle.strm_memory.specs.Items.{stored_at}
 use Rattle.strm_buffers.specs.Windows.{Lent, place_kept}
-use Rattle.strm_buffers.proofs.WindowLemmas.{on_err, put_any, any_inside, lying_nowhere, lies_there, base_stays}
+use Rattle.strm_codes.proofs.ResultLemmas.{on_err}
+use Rattle.strm_buffers.proofs.WindowLemmas.{put_any, any_inside, lying_nowhere, lies_there, base_stays}
 use Rattle.strm_buffers.proofs.windows.Window.put.Goals as goal
 
 pub write_item-requires-clause-inside : goal.write_item-requires-clause-inside

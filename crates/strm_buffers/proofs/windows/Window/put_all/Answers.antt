@@ -4,7 +4,8 @@ use Rattle.strm_codes.specs.Layout.{scalars_of, item_size}
 use Rattle.strm_memory.specs.Items.{stored_at}
 use Rattle.strm_buffers.specs.Listing.{items_in}
 use Rattle.strm_buffers.specs.Windows.{Lent, place_kept}
-use Rattle.strm_buffers.proofs.WindowLemmas.{on_err, all_any, any_inside, lying_nowhere, lies_there, base_stays}
+use Rattle.strm_codes.proofs.ResultLemmas.{on_err}
+use Rattle.strm_buffers.proofs.WindowLemmas.{all_any, any_inside, lying_nowhere, lies_there, base_stays}
 use Rattle.strm_buffers.proofs.windows.Window.put_all.Goals as goal
 
 pub write_items-requires-clause-inside : goal.write_items-requires-clause-inside

@@ -5,9 +5,9 @@ use Rattle.std.specs.BTreeMap as tree
 use Rattle.std.specs.BTreeMap.{BTreeMap}
 use Rattle.std.specs.Cmp.{nat_eq_equiv}
 use Rattle.std.specs.Ordering.{nat_cmp}
-use Rattle.std.specs.Prelude.{Result, Ok, Err, OnErr}
 use Rattle.strm_waitable_sets.specs.Sets.{Sets, is_set_there, is_member, handle_joined}
 use Rattle.strm_codes.specs.OptionalNumbers.{is_number}
+use Rattle.strm_codes.proofs.ResultLemmas.{on_err}
 use Rattle.strm_waitable_sets.specs.Slots.{slot_at}
 use Rattle.strm_waitable_sets.proofs.HomeLemmas.{get-seen, seen-inserted, insert_again}
 use Rattle.strm_waitable_sets.proofs.TieLemmas.{seen, is_number-is, flag-at, some_inside, flags-set, home_inside, tied-joined, tied-moved, tied-undone}
@@ -29,10 +29,6 @@ pub returns-then-is_member-clause-ok : goal.returns-then-is_member-clause-ok
 returns-then-is_member-clause-ok c =
     ap (λ homes. record { there = c.args.self.now.there; homes = homes })
     (insert_again c.args.self.now.homes c.args.handle c.args.set (is_number-is _ c.args.set (sym c.is_member.ensures ∙ c.if-is_member.true)))
-
-on_err : {A E P : Type 0} (r : Result A E) → P → OnErr r P
-on_err (Ok x) p = tt
-on_err (Err e) p = p
 
 pub returns-in_err-add_member-clause-err : goal.returns-in_err-add_member-clause-err
 returns-in_err-add_member-clause-err c =
