@@ -47,7 +47,8 @@ impl Hosts {
     /// `HostWriter::held`.
     pub fn writer_held(&self, n: usize) -> usize
         requires { n < length (boxes_tell writer_tells reader_tells self.now).writers }
-        ensures { result ≡ length (told_by (boxes_tell writer_tells reader_tells self.now) n).holds }
+        ensures { result
+            ≡ length (told_by (boxes_tell writer_tells reader_tells self.now) n).holds }
     {
         boxes::held_by(&self.writers[n])
     }
@@ -66,8 +67,11 @@ impl Hosts {
     #[tactic(auto, using(crate::proofs::BoxLemmas::same_boxes))]
     pub fn feed(&mut self, n: usize, bytes: &[u8]) -> Result<(), OutOfMemory>
         requires { n < length (boxes_tell writer_tells reader_tells self.old).writers }
-        ensures ok { OnOk result ((boxes_tell writer_tells reader_tells self.new) ≡ with_told (boxes_tell writer_tells reader_tells self.old) n (writer_fed (told_by (boxes_tell writer_tells reader_tells self.old) n) bytes.now)) }
-        ensures err { OnErr result ((boxes_tell writer_tells reader_tells self.new) ≡ (boxes_tell writer_tells reader_tells self.old)) }
+        ensures ok { OnOk result (boxes_tell writer_tells reader_tells self.new
+            ≡ with_told (boxes_tell writer_tells reader_tells self.old) n
+            (writer_fed (told_by (boxes_tell writer_tells reader_tells self.old) n) bytes.now)) }
+        ensures err { OnErr result (boxes_tell writer_tells reader_tells self.new
+            ≡ boxes_tell writer_tells reader_tells self.old) }
     {
         boxes::feed(&mut self.writers[n], bytes)
     }
@@ -75,8 +79,11 @@ impl Hosts {
     /// `HostWriter::close`.
     pub fn close_writer(&mut self, n: usize)
         requires { n < length (boxes_tell writer_tells reader_tells self.old).writers }
-        ensures closes { ClosesWriter (told_by (boxes_tell writer_tells reader_tells self.old) n) (told_by (boxes_tell writer_tells reader_tells self.new) n) }
-        ensures others { (boxes_tell writer_tells reader_tells self.new) ≡ with_told (boxes_tell writer_tells reader_tells self.old) n (told_by (boxes_tell writer_tells reader_tells self.new) n) }
+        ensures closes { ClosesWriter (told_by (boxes_tell writer_tells reader_tells self.old) n)
+            (told_by (boxes_tell writer_tells reader_tells self.new) n) }
+        ensures others { boxes_tell writer_tells reader_tells self.new
+            ≡ with_told (boxes_tell writer_tells reader_tells self.old) n
+            (told_by (boxes_tell writer_tells reader_tells self.new) n) }
     {
         boxes::close_writer(&mut self.writers[n])
     }
@@ -103,7 +110,8 @@ impl Hosts {
     /// `HostReader::payload`.
     pub fn reader_payload(&self, r: usize) -> Payload
         requires { r < length (boxes_tell writer_tells reader_tells self.now).readers }
-        ensures { result ≡ (told_by_reader (boxes_tell writer_tells reader_tells self.now) r).payload }
+        ensures { result
+            ≡ (told_by_reader (boxes_tell writer_tells reader_tells self.now) r).payload }
     {
         boxes::reader_payload(&self.readers[r])
     }
@@ -112,8 +120,12 @@ impl Hosts {
     #[tactic(auto, using(crate::proofs::BoxLemmas::same_boxes))]
     pub fn grant(&mut self, r: usize, count: u32) -> Result<(), OutOfMemory>
         requires { r < length (boxes_tell writer_tells reader_tells self.old).readers }
-        ensures ok { OnOk result ((boxes_tell writer_tells reader_tells self.new) ≡ with_told_reader (boxes_tell writer_tells reader_tells self.old) r (reader_granted (told_by_reader (boxes_tell writer_tells reader_tells self.old) r) count)) }
-        ensures err { OnErr result ((boxes_tell writer_tells reader_tells self.new) ≡ (boxes_tell writer_tells reader_tells self.old)) }
+        ensures ok { OnOk result (boxes_tell writer_tells reader_tells self.new
+            ≡ with_told_reader (boxes_tell writer_tells reader_tells self.old) r
+            (reader_granted (told_by_reader (boxes_tell writer_tells reader_tells self.old) r)
+            count)) }
+        ensures err { OnErr result (boxes_tell writer_tells reader_tells self.new
+            ≡ boxes_tell writer_tells reader_tells self.old) }
     {
         boxes::grant(&mut self.readers[r], count)
     }
@@ -121,7 +133,10 @@ impl Hosts {
     /// `HostReader::close`.
     pub fn close_reader(&mut self, r: usize)
         requires { r < length (boxes_tell writer_tells reader_tells self.old).readers }
-        ensures { (boxes_tell writer_tells reader_tells self.new) ≡ with_told_reader (boxes_tell writer_tells reader_tells self.old) r (reader_tells_closed (told_by_reader (boxes_tell writer_tells reader_tells self.old) r)) }
+        ensures { boxes_tell writer_tells reader_tells self.new
+            ≡ with_told_reader (boxes_tell writer_tells reader_tells self.old) r
+            (reader_tells_closed
+            (told_by_reader (boxes_tell writer_tells reader_tells self.old) r)) }
     {
         boxes::close_reader(&mut self.readers[r])
     }

@@ -220,7 +220,8 @@ fn with_item(
     requires fits { FitsItem (scalars_of payload) item.now }
     requires inside { at ≤ length (bytes_held held) }
     ensures ok { OnOk result.1 (bytes_held result.0 ≡ stored_at (scalars_of payload)
-        (take at (bytes_held held) ++ replicate (item_size (scalars_of payload)) 0) at (item.now ∷ [])) }
+        (take at (bytes_held held) ++ replicate (item_size (scalars_of payload)) 0) at
+        (item.now ∷ [])) }
     ensures err { OnErr result.1 (bytes_held result.0 ≡ bytes_held held) }
 {
     match owned(alloc, held) {

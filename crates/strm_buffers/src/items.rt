@@ -230,7 +230,8 @@ impl Items {
     /// Writes the items over bytes from their front on, one behind the other, all at once. Padding stays as
     /// it was. Takes no memory.
     pub fn write_over(&self, bytes: &mut [u8])
-        requires { item_size (scalars_of self.now.payload) * length self.now.items ≤ length bytes.old }
+        requires { item_size (scalars_of self.now.payload) * length self.now.items
+            ≤ length bytes.old }
         ensures { bytes.new ≡ stored (scalars_of self.now.payload) bytes.old self.now.items }
     {
         write_from(self.bytes(), bytes, self.payload(), self.len());
@@ -267,7 +268,8 @@ pub(crate) fn append_item(
     requires fits { FitsItem (scalars_of payload) item.now }
     requires inside { at ≤ length bytes.old.items }
     ensures ok { OnOk result (bytes.new.items ≡ stored_at (scalars_of payload)
-        (take at bytes.old.items ++ replicate (item_size (scalars_of payload)) 0) at (item.now ∷ [])) }
+        (take at bytes.old.items ++ replicate (item_size (scalars_of payload)) 0) at
+        (item.now ∷ [])) }
     ensures err { OnErr result (bytes.new.items ≡ bytes.old.items) }
 {
     append_zeros(bytes, at, payload.size() as usize)?;
@@ -287,7 +289,8 @@ pub(crate) fn make_space(
     count: u32,
 ) -> Result<(), OutOfMemory>
     requires { at ≤ length bytes.old.items }
-    ensures ok { OnOk result (bytes.new.items ≡ with_space room bytes.old.items at (item_size (scalars_of payload) * count)) }
+    ensures ok { OnOk result (bytes.new.items
+        ≡ with_space room bytes.old.items at (item_size (scalars_of payload) * count)) }
     ensures err { OnErr result (bytes.new.items ≡ bytes.old.items) }
     ensures out_of_memory { OnErr result (room ≡ None) }
     ensures stays { IsSome room → vec_ptr bytes.new ≡ vec_ptr bytes.old }
@@ -302,7 +305,8 @@ pub(crate) fn make_space(
 pub(crate) fn write_item(bytes: &mut Vec<u8>, at: usize, item: &Value, payload: Payload)
     requires fits { FitsItem (scalars_of payload) item.now }
     requires inside { at + item_size (scalars_of payload) ≤ length bytes.old.items }
-    ensures items { bytes.new.items ≡ stored_at (scalars_of payload) bytes.old.items at (item.now ∷ []) }
+    ensures items { bytes.new.items
+        ≡ stored_at (scalars_of payload) bytes.old.items at (item.now ∷ []) }
     ensures stays { vec_ptr bytes.new ≡ vec_ptr bytes.old }
 {
     lower_item_at(item, payload, bytes.as_mut_slice(), at);
@@ -344,7 +348,8 @@ pub(crate) fn write_items(
 // The bytes of the items that these values are: their own, where they are bytes, else new ones.
 fn bytes_of_values<T: Payloaded>(alloc: Global, mut values: Vec<T>) -> Result<Vec<u8>, OutOfMemory>
     requires { length values.items < 4294967295 }
-    ensures stored { IfOk result (λ bytes. AreStored (scalars_of T.payload) bytes.items (map T.item values.items)) }
+    ensures stored { IfOk result
+        (λ bytes. AreStored (scalars_of T.payload) bytes.items (map T.item values.items)) }
     ensures bytes { T.payload ≡ One U8 → IsOk result }
 {
     match T::take_bytes(&mut values) {
@@ -359,7 +364,8 @@ fn bytes_of_values<T: Payloaded>(alloc: Global, mut values: Vec<T>) -> Result<Ve
 // The same in new bytes, one behind the other.
 fn store_values<T: Payloaded>(alloc: Global, values: &[T]) -> Result<Vec<u8>, OutOfMemory>
     requires { length values.now < 4294967295 }
-    ensures { IfOk result (λ bytes. AreStored (scalars_of T.payload) bytes.items (map T.item values.now)) }
+    ensures { IfOk result
+        (λ bytes. AreStored (scalars_of T.payload) bytes.items (map T.item values.now)) }
 {
     let mut bytes = Vec::new(alloc);
     append_zeros(&mut bytes, 0, T::payload().size() as usize * values.len())?;

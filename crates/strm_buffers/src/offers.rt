@@ -56,7 +56,13 @@ impl Offer {
         since: u32,
     ) -> Offer
         requires { address + item_size (scalars_of payload) * remaining ≤ length memory.bytes }
-        ensures { result ≡ record { payload = payload; source = Region memory address remaining; since = since; taken = 0; bad = false } }
+        ensures { result ≡ record {
+          payload = payload;
+          source = Region memory address remaining;
+          since = since;
+          taken = 0;
+          bad = false;
+        } }
     {
         Offer {
             payload,
@@ -73,7 +79,13 @@ impl Offer {
 
     /// Lends a list of items.
     pub fn of_items(items: Items, since: u32) -> Offer
-        ensures { result ≡ record { payload = items.payload; source = Listed items; since = since; taken = 0; bad = false } }
+        ensures { result ≡ record {
+          payload = items.payload;
+          source = Listed items;
+          since = since;
+          taken = 0;
+          bad = false;
+        } }
     {
         let _few = items.len();
         Offer {
@@ -154,7 +166,8 @@ impl Offer {
 
     /// Takes so many items more, without a look at them.
     pub(crate) fn pass(&mut self, count: u32)
-        requires { self.old.taken + count ≤ length (good_lent (scalars_of self.old.payload) self.old.source) }
+        requires { self.old.taken + count
+            ≤ length (good_lent (scalars_of self.old.payload) self.old.source) }
         ensures { self.new ≡ record self.old { taken = self.old.taken + count } }
     {
         self.taken = (self.taken as usize + count as usize) as u32;
@@ -242,7 +255,8 @@ impl Offer {
     #[inline(always)]
     pub fn bad(&self) -> bool
         ensures exact { result ≡ self.now.bad }
-        ensures next { IsTrue result → IsBadNext (scalars_of self.now.payload) self.now.source self.now.taken }
+        ensures next { IsTrue result
+            → IsBadNext (scalars_of self.now.payload) self.now.source self.now.taken }
     {
         self.bad
     }

@@ -57,8 +57,10 @@ fn count_in_room(window: &Window, items: &Items) -> usize
     ensures least { length window.now.marked ≤ result }
     ensures most { result ≤ length items.now.items }
     ensures room { HasRoom window.now.place 0 result }
-    ensures first { take result items.now.items ≡ in_room (room_of window.now.place) items.now.items }
-    ensures behind { drop result items.now.items ≡ past_room (room_of window.now.place) items.now.items }
+    ensures first { take result items.now.items
+        ≡ in_room (room_of window.now.place) items.now.items }
+    ensures behind { drop result items.now.items
+        ≡ past_room (room_of window.now.place) items.now.items }
 {
     window.sound();
     let _ = window.marked();
@@ -89,9 +91,11 @@ fn mark_first(window: &mut Window, items: &Items, count: usize) -> Result<(), Ou
 /// Takes as many items as are wanted or left; it stops at a bad one, and does not take that.
 pub fn take_up_to(offer: &mut Offer, wanted: u32)
     ensures takes { offer.new ≡ after_taking wanted offer.old }
-    ensures counted { length (first_lent (scalars_of offer.old.payload) offer.old.source offer.new.taken)
+    ensures counted { length
+        (first_lent (scalars_of offer.old.payload) offer.old.source offer.new.taken)
         ≡ offer.new.taken }
-    ensures next { offer.new.bad ≡ true → IsBadNext (scalars_of offer.old.payload) offer.old.source offer.new.taken }
+    ensures next { offer.new.bad ≡ true
+        → IsBadNext (scalars_of offer.old.payload) offer.old.source offer.new.taken }
 {
     offer.sound();
     let count = wanted.min(offer.remaining());

@@ -53,10 +53,11 @@ pub trait HostReader: Drop {
         requires payload { offer.old.payload ≡ (reader_tells self.old).payload }
         requires nothing_taken { offer.old.taken ≡ 0 }
         requires not_bad { offer.old.bad ≡ false }
-        ensures polls { IfAnswered result (λ answer. PollsReader (reader_tells self.old) (reader_tells self.new)
-            (reader_record offer.old offer.new finish answer)
+        ensures polls { IfAnswered result (λ answer. PollsReader (reader_tells self.old)
+            (reader_tells self.new) (reader_record offer.old offer.new finish answer)
             (first_lent (scalars_of offer.old.payload) offer.old.source offer.new.taken)) }
-        ensures no_memory { IfNoMemory result (KeepsReader (reader_tells self.old) (reader_tells self.new)) }
+        ensures no_memory { IfNoMemory result
+            (KeepsReader (reader_tells self.old) (reader_tells self.new)) }
         ensures untaken { IfNoMemory result (offer.new.taken ≡ 0) }
         ensures next { offer.new.bad ≡ true →
             IsBadNext (scalars_of offer.old.payload) offer.old.source offer.new.taken }
@@ -64,7 +65,8 @@ pub trait HostReader: Drop {
 
     /// Lets it take so many items more. `OutOfMemory` changes nothing.
     fn grant(&mut self, count: u32) -> Result<(), OutOfMemory>
-        ensures ok { OnOk result (reader_tells self.new ≡ reader_granted (reader_tells self.old) count) }
+        ensures ok { OnOk result
+            (reader_tells self.new ≡ reader_granted (reader_tells self.old) count) }
         ensures err { OnErr result (reader_tells self.new ≡ reader_tells self.old) };
 
     /// Its stream is gone.

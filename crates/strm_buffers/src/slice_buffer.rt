@@ -73,7 +73,8 @@ impl WriteBuffer<u8> for SliceBuffer {
     }
 
     fn skip(&mut self, count: usize)
-        requires { count ≤ length (slice_range self.old.buffer.items self.old.offset self.old.limit) }
+        requires { count
+            ≤ length (slice_range self.old.buffer.items self.old.offset self.old.limit) }
         ensures rest { slice_range self.new.buffer.items self.new.offset self.new.limit
             ≡ drop count (slice_range self.old.buffer.items self.old.offset self.old.limit) }
 
@@ -86,7 +87,8 @@ impl WriteBuffer<u8> for SliceBuffer {
     }
 
     fn take(&mut self, count: usize, out: &mut Vec<u8>)
-        requires items { count ≤ length (slice_range self.old.buffer.items self.old.offset self.old.limit) }
+        requires items { count
+            ≤ length (slice_range self.old.buffer.items self.old.offset self.old.limit) }
         requires room { vec_len out.old + count ≤ vec_capacity out.old }
         ensures moved { out.new.items ≡ out.old.items
             ++ take count (slice_range self.old.buffer.items self.old.offset self.old.limit) }

@@ -53,9 +53,12 @@ pub trait HostWriter: Drop {
         requires nothing_held { (writer_tells self.old).holds ≡ [] }
         requires nothing_marked { window.old.marked ≡ [] }
         requires prepared { window.old.prepared ≡ true }
-        ensures polls { IfAnswered result (λ answer. PollsWriter (writer_tells self.old) (writer_tells self.new)
-            (writer_record window.old finish window.new.marked (writer_tells self.new).holds answer) window.new.marked) }
-        ensures no_memory { IfNoMemory result (KeepsWriter (writer_tells self.old) (writer_tells self.new)) }
+        ensures polls { IfAnswered result (λ answer. PollsWriter (writer_tells self.old)
+            (writer_tells self.new)
+            (writer_record window.old finish window.new.marked (writer_tells self.new).holds answer)
+            window.new.marked) }
+        ensures no_memory { IfNoMemory result
+            (KeepsWriter (writer_tells self.old) (writer_tells self.new)) }
         ensures fills { Fills window.old window.new };
 
     /// How many items it holds: items of its payload.
@@ -71,7 +74,8 @@ pub trait HostWriter: Drop {
         requires nothing_marked { window.old.marked ≡ [] }
         ensures marked { OnOk result (window.new.marked ≡
             in_room (room_of window.old.place) (writer_tells self.old).holds) }
-        ensures ok { OnOk result (writer_tells self.new ≡ writer_given (writer_tells self.old) (room_of window.old.place)) }
+        ensures ok { OnOk result (writer_tells self.new
+            ≡ writer_given (writer_tells self.old) (room_of window.old.place)) }
         ensures unmarked { OnErr result (window.new.marked ≡ []) }
         ensures err { OnErr result (writer_tells self.new ≡ writer_tells self.old) }
         ensures out_of_memory { OnErr result (window.old.place ≡ Between) }
@@ -79,7 +83,8 @@ pub trait HostWriter: Drop {
 
     /// Passes on bytes from outside. `OutOfMemory` changes nothing.
     fn feed(&mut self, bytes: &[u8]) -> Result<(), OutOfMemory>
-        ensures ok { OnOk result (writer_tells self.new ≡ writer_fed (writer_tells self.old) bytes.now) }
+        ensures ok { OnOk result
+            (writer_tells self.new ≡ writer_fed (writer_tells self.old) bytes.now) }
         ensures err { OnErr result (writer_tells self.new ≡ writer_tells self.old) };
 
     /// Its stream is gone.
@@ -93,6 +98,7 @@ pub trait HostWriter: Drop {
     /// A record, from 0; its items are of the writer's payload. After `OutOfMemory` nothing was kept.
     fn record_at(&self, index: usize) -> Result<WriterSaid, OutOfMemory>
         requires { index < length (writer_tells self.now).said }
-        ensures exact { IfOk result (λ said. slice_get (writer_tells self.now).said index ≡ Some said) }
+        ensures exact { IfOk result
+            (λ said. slice_get (writer_tells self.now).said index ≡ Some said) }
         ensures payload { IfOk result (λ said. said.payload ≡ (writer_tells self.now).payload) };
 }
