@@ -1,7 +1,7 @@
 -- Waitable sets of guests: how many they are after one was made or taken away, and whether one has a
 -- member.
-use Rattle.std.proofs.Common.{◌≡◌, ℕ, ◌+◌, ◌<◌, Bool, true, false, List, [], ◌∷◌, length, set, Ok, Option, Some, None, is_some, refl, sym, ap, ◌∙◌, arith}
-use Rattle.std.specs.Prelude.{count_by, nat_eq, ◌||◌, IfSome, IfNone}
+use Rattle.std.proofs.Common.{◌≡◌, ℕ, ◌+◌, ◌<◌, Bool, true, false, List, [], ◌∷◌, length, set, Result, Ok, Err, Option, Some, None, is_some, refl, sym, ap, ◌∙◌, arith}
+use Rattle.std.specs.Prelude.{count_by, nat_eq, ◌||◌, IfOk, OnOk, IfSome, IfNone}
 use Rattle.std.specs.List.{list_any}
 use Rattle.std.specs.Cmp.{nat_eq_equiv}
 use Rattle.std.proofs.lemmas.List.Sums.{sum_by-set}
@@ -19,6 +19,11 @@ use Rattle.strm_channels.specs.Guests.{sets_among}
 
 abbrev pub how_many : List Bool → ℕ
 how_many there = count_by (λ t. t) there
+
+-- what a call that answered gives of its answer, from four facts
+pub if_ok : {T E : Type 0} (r : Result T E) {P : T → Type 0} {Q R S : Type 0} {Z : T → Type 0} → ((v : T) → P v → Q → R → S → Z v) → IfOk r P → OnOk r Q → OnOk r R → OnOk r S → IfOk r Z
+if_ok (Ok v) f p q r s = f v p q r s
+if_ok (Err e) f p q r s = tt
 
 -- ## How many sets there are
 

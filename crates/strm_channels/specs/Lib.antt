@@ -1,3 +1,4 @@
+pub mod Changes
 pub mod Channels
 pub mod Guests
 pub mod Meetings

@@ -170,7 +170,8 @@ fn progress_in(part: &mut Part, payload: Payload, count: ItemCount)
 #[inline(always)]
 fn take_in(part: &mut Part) -> Option<ReturnCode>
     ensures code { result ≡ kept_report part.old.cell }
-    ensures end { end_of_part part.new ≡ told_end (kept_report part.old.cell) (end_of_part part.old) }
+    ensures end { end_of_part part.new
+        ≡ told_end (kept_report part.old.cell) (end_of_part part.old) }
     ensures kept { IsKeptIn part.old part.new }
 {
     part.cell.take()
@@ -390,7 +391,8 @@ impl Channel {
     #[inline(always)]
     pub fn ask(&mut self, side: Side)
         requires busy { is_some (end_of side self.old).operation ≡ true }
-        ensures { self.new ≡ with_end side self.old (cancelled_end true Blocked (end_of side self.old)) }
+        ensures { self.new
+            ≡ with_end side self.old (cancelled_end true Blocked (end_of side self.old)) }
     {
         match side {
             Side::Writing => self.writer.cell.ask(),
@@ -428,7 +430,8 @@ impl Channel {
     /// The end on a side learns that the other one is gone.
     #[inline(never)]
     pub fn learn(&mut self, side: Side)
-        ensures { self.new ≡ with_end side self.old (record (end_of side self.old) { told = true }) }
+        ensures { self.new
+            ≡ with_end side self.old (record (end_of side self.old) { told = true }) }
     {
         match side {
             Side::Writing => self.writer.cell.tell(),

@@ -15,6 +15,7 @@ ghost use Rattle.strm_memory.specs.Region.{bytes_out_of_bounds};
 ghost use Rattle.strm_error_contexts.specs.Contexts.{is_context_there, message_at, count_at, next_number, inserted as with_message, raised, context_dropped};
 ghost use Rattle.strm_machine.specs.State.{guest_in, memory_in, with_memory};
 ghost use Rattle.strm_machine.specs.ErrorContexts.{message_limit, bytes_of_message};
+ghost use Rattle.strm_channels.specs.Changes.{AddsHandle, GivesHandle, FreesHandle};
 ghost use Rattle.strm_channels.specs.Guests.{guests_of, room_in_table, live_in, with_context_in, without_context_in};
 
 use crate::ends::reserve;
@@ -50,10 +51,9 @@ fn insert_context(
     requires room { 0 < room_in_table guests.old.items guest }
     requires small { next_index (guest_in (guests_of guests.old.items) guest).handles < 2 ^ 28 }
     requires below { counter.old.live < counter.old.limit }
-    ensures number { result ≡ next_index (guest_in (guests_of guests.old.items) guest).handles }
-    ensures guests { guests_of guests.new.items ≡ with_context_in (guests_of guests.old.items) guest context }
-    ensures counter { counter.new ≡ counted counter.old }
-    ensures live { live_in (guests_of guests.new.items) ≡ live_in (guests_of guests.old.items) + 1 }
+    ensures adds { AddsHandle (guests_of guests.old.items) (guests_of guests.new.items)
+        (with_context_in (guests_of guests.old.items) guest context) guest
+        counter.old counter.new result }
     ensures count { length guests.new.items ≡ length guests.old.items }
 {
     insert(&mut guests[guest].table, counter, context)
@@ -68,9 +68,10 @@ fn keep_message(
     len: u32,
 ) -> Result<u32, OutOfMemory>
     requires there { guest < length guests.now.items }
-    requires inside { bytes_out_of_bounds (length (memory_in (guests_of guests.now.items) guest)) address
-        len ≡ false }
-    requires text { is_utf8 (bytes_at (memory_in (guests_of guests.now.items) guest) address len) ≡ true }
+    requires inside { bytes_out_of_bounds (length (memory_in (guests_of guests.now.items) guest))
+        address len ≡ false }
+    requires text { is_utf8 (bytes_at (memory_in (guests_of guests.now.items) guest) address len)
+        ≡ true }
     ensures number { IfOk result (λ number. number ≡ next_number contexts.old) }
     ensures ok { OnOk result (contexts.new ≡ with_message contexts.old
         (bytes_at (memory_in (guests_of guests.now.items) guest) address len)) }
@@ -91,23 +92,18 @@ pub fn give_context(
     len: u32,
 ) -> Result<u32, OutOfMemory>
     requires there { guest < length guests.old.items }
-    requires inside { bytes_out_of_bounds (length (memory_in (guests_of guests.old.items) guest)) address
-        len ≡ false }
-    requires text { is_utf8 (bytes_at (memory_in (guests_of guests.old.items) guest) address len) ≡ true }
+    requires inside { bytes_out_of_bounds (length (memory_in (guests_of guests.old.items) guest))
+        address len ≡ false }
+    requires text { is_utf8 (bytes_at (memory_in (guests_of guests.old.items) guest) address len)
+        ≡ true }
     requires small { next_index (guest_in (guests_of guests.old.items) guest).handles < 2 ^ 28 }
     requires below { counter.old.live < counter.old.limit }
-    ensures number { IfOk result (λ number. number
-        ≡ next_index (guest_in (guests_of guests.old.items) guest).handles) }
-    ensures guests { OnOk result (guests_of guests.new.items
-        ≡ with_context_in (guests_of guests.old.items) guest (next_number contexts.old)) }
+    ensures gives { GivesHandle (guests_of guests.old.items) (guests_of guests.new.items)
+        (with_context_in (guests_of guests.old.items) guest (next_number contexts.old)) guest
+        counter.old counter.new result }
     ensures contexts { OnOk result (contexts.new ≡ with_message contexts.old
         (bytes_at (memory_in (guests_of guests.old.items) guest) address len)) }
-    ensures counter { OnOk result (counter.new ≡ counted counter.old) }
-    ensures live { OnOk result
-        (live_in (guests_of guests.new.items) ≡ live_in (guests_of guests.old.items) + 1) }
-    ensures err { OnErr result (guests_of guests.new.items ≡ guests_of guests.old.items) }
     ensures same { OnErr result (contexts.new ≡ contexts.old) }
-    ensures kept { OnErr result (counter.new ≡ counter.old) }
     ensures count { length guests.new.items ≡ length guests.old.items }
 {
     reserve(guests, guest, 1)?;
@@ -126,8 +122,8 @@ fn count_handle(contexts: &mut ErrorContexts, context: u32, limit: usize)
     contexts.add_handle(context);
 }
 
-/// A handle more to an error context, in the table of a guest: answers its number. After want of
-/// memory nothing has changed.
+/// A handle more to an error context, in the table of a guest: answers its number. After
+/// running out of memory nothing has changed.
 pub fn share_context(
     guests: &mut Vec<Guest>,
     contexts: &mut ErrorContexts,
@@ -140,17 +136,11 @@ pub fn share_context(
     requires fits { count_at contexts.old context < counter.old.limit }
     requires small { next_index (guest_in (guests_of guests.old.items) guest).handles < 2 ^ 28 }
     requires below { counter.old.live < counter.old.limit }
-    ensures number { IfOk result (λ number. number
-        ≡ next_index (guest_in (guests_of guests.old.items) guest).handles) }
-    ensures guests { OnOk result (guests_of guests.new.items
-        ≡ with_context_in (guests_of guests.old.items) guest context) }
+    ensures gives { GivesHandle (guests_of guests.old.items) (guests_of guests.new.items)
+        (with_context_in (guests_of guests.old.items) guest context) guest
+        counter.old counter.new result }
     ensures contexts { OnOk result (contexts.new ≡ raised contexts.old context) }
-    ensures counter { OnOk result (counter.new ≡ counted counter.old) }
-    ensures live { OnOk result
-        (live_in (guests_of guests.new.items) ≡ live_in (guests_of guests.old.items) + 1) }
-    ensures err { OnErr result (guests_of guests.new.items ≡ guests_of guests.old.items) }
     ensures same { OnErr result (contexts.new ≡ contexts.old) }
-    ensures kept { OnErr result (counter.new ≡ counter.old) }
     ensures count { length guests.new.items ≡ length guests.old.items }
 {
     reserve(guests, guest, 1)?;
@@ -169,15 +159,13 @@ pub fn remove_context(
     context: u32,
 )
     requires there { guest < length guests.old.items }
-    requires named { error_context_rep_of (guest_in (guests_of guests.old.items) guest).handles handle
-        ≡ Ok context }
+    requires named { error_context_rep_of (guest_in (guests_of guests.old.items) guest).handles
+        handle ≡ Ok context }
     requires known { is_context_there contexts.old context ≡ true }
     requires live { live_in (guests_of guests.old.items) ≤ counter.old.live }
-    ensures guests { guests_of guests.new.items
-        ≡ without_context_in (guests_of guests.old.items) guest handle }
+    ensures frees { FreesHandle (guests_of guests.old.items) (guests_of guests.new.items)
+        (without_context_in (guests_of guests.old.items) guest handle) counter.old counter.new }
     ensures contexts { contexts.new ≡ context_dropped contexts.old context }
-    ensures counter { counter.new ≡ uncounted counter.old }
-    ensures live { live_in (guests_of guests.new.items) + 1 ≡ live_in (guests_of guests.old.items) }
     ensures count { length guests.new.items ≡ length guests.old.items }
 {
     let table = &mut guests[guest].table;
@@ -204,8 +192,8 @@ pub fn tell_message(
     context: u32,
 ) -> u32
     requires there { guest < length guests.old.items }
-    requires inside { bytes_out_of_bounds (length (memory_in (guests_of guests.old.items) guest)) address
-        (length (bytes_of_message (message_at contexts.now context))) ≡ false }
+    requires inside { bytes_out_of_bounds (length (memory_in (guests_of guests.old.items) guest))
+        address (length (bytes_of_message (message_at contexts.now context))) ≡ false }
     requires short { length (bytes_of_message (message_at contexts.now context)) ≤ message_limit }
     ensures len { result ≡ length (bytes_of_message (message_at contexts.now context)) }
     ensures guests { guests_of guests.new.items ≡ with_memory (guests_of guests.old.items) guest

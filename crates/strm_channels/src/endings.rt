@@ -27,7 +27,8 @@ fn waits_for_host(side: Side, stream: &Channel) -> bool
 #[tactic(auto, unfolding(strm_machine::specs::Endings::delivered))]
 fn cancel_at_once(stream: &mut Channel, side: Side) -> ReturnCode
     ensures code { result ≡ cancel_answer stream.old.kind (report_on side stream.old) }
-    ensures stream { stream.new ≡ with_end side stream.old (told_end (Some result) (end_of side stream.old)) }
+    ensures stream { stream.new
+        ≡ with_end side stream.old (told_end (Some result) (end_of side stream.old)) }
 {
     let kind = stream.kind();
     match stream.deliver(side) {

@@ -10,6 +10,7 @@ ghost use Rattle.strm_handles.specs.Changes.{Inserts, Removes};
 ghost use Rattle.strm_handles.specs.Counters.{counted, uncounted};
 ghost use Rattle.strm_machine.specs.State.{guest_in};
 ghost use Rattle.strm_machine.specs.Making.{end_entry, with_read_end, with_ends};
+ghost use Rattle.strm_channels.specs.Changes.{AddsHandle, GivesHandle, GivesEnds, FreesHandle, MovesEnd, without_end};
 ghost use Rattle.strm_channels.specs.Guests.{guests_of, room_in_table, live_in, with_end_in, without_handle_in, removable};
 
 use crate::guests::Guest;
@@ -28,7 +29,8 @@ fn try_insert(
     ty: TransmitIndex,
     stream: u32,
 ) -> Result<u32, HandleError>
-    ensures { Inserts table.old table.new counter.old counter.new (end_entry side ty stream) result }
+    ensures { Inserts table.old table.new counter.old counter.new (end_entry side ty stream)
+        result }
 {
     match (side, ty) {
         (Side::Writing, TransmitIndex::Stream(payload)) => {
@@ -94,12 +96,11 @@ fn insert_end(
     requires room { 0 < room_in_table guests.old.items guest }
     requires small { next_index (guest_in (guests_of guests.old.items) guest).handles < 2 ^ 28 }
     requires below { counter.old.live < counter.old.limit }
-    ensures number { result ≡ next_index (guest_in (guests_of guests.old.items) guest).handles }
-    ensures guests { guests_of guests.new.items
-        ≡ with_end_in (guests_of guests.old.items) guest side ty stream }
-    ensures counter { counter.new ≡ counted counter.old }
-    ensures rooms { (n : ℕ) → room_in_table guests.old.items n ≤ room_in_table guests.new.items n + 1 }
-    ensures live { live_in (guests_of guests.new.items) ≡ live_in (guests_of guests.old.items) + 1 }
+    ensures adds { AddsHandle (guests_of guests.old.items) (guests_of guests.new.items)
+        (with_end_in (guests_of guests.old.items) guest side ty stream) guest
+        counter.old counter.new result }
+    ensures rooms { (n : ℕ) →
+        room_in_table guests.old.items n ≤ room_in_table guests.new.items n + 1 }
     ensures count { length guests.new.items ≡ length guests.old.items }
 {
     insert(&mut guests[guest].table, counter, side, ty, stream)
@@ -118,20 +119,12 @@ pub fn insert_ends(
     requires writer { writer < length guests.old.items }
     requires reader { reader < length guests.old.items }
     requires read { next_index (guest_in (guests_of guests.old.items) reader).handles < 2 ^ 28 }
-    requires write { next_index (guest_in (with_read_end (guests_of guests.old.items) reader ty stream)
-        writer).handles < 2 ^ 28 }
+    requires write { next_index
+        (guest_in (with_read_end (guests_of guests.old.items) reader ty stream) writer).handles
+        < 2 ^ 28 }
     requires below { counter.old.live + 2 ≤ counter.old.limit }
-    ensures numbers { IfOk result (λ numbers. numbers ≡ (
-      next_index (guest_in (guests_of guests.old.items) reader).handles,
-      next_index (guest_in (with_read_end (guests_of guests.old.items) reader ty stream) writer).handles,
-    )) }
-    ensures guests { OnOk result (guests_of guests.new.items
-        ≡ with_ends (guests_of guests.old.items) writer reader ty stream) }
-    ensures counter { OnOk result (counter.new ≡ counted (counted counter.old)) }
-    ensures live { OnOk result
-        (live_in (guests_of guests.new.items) ≡ live_in (guests_of guests.old.items) + 2) }
-    ensures err { OnErr result (guests_of guests.new.items ≡ guests_of guests.old.items) }
-    ensures kept { OnErr result (counter.new ≡ counter.old) }
+    ensures gives { GivesEnds (guests_of guests.old.items) (guests_of guests.new.items)
+        writer reader ty stream counter.old counter.new result }
     ensures count { length guests.new.items ≡ length guests.old.items }
 {
     // The borrow checker takes a type but once.
@@ -175,15 +168,13 @@ fn try_remove(
 /// it is in.
 pub fn remove_end(guests: &mut Vec<Guest>, counter: &mut HandleCounter, side: Side, end: &NamedEnd)
     requires there { end.now.guest < length guests.old.items }
-    requires idle { removable side end.now.ty (guest_in (guests_of guests.old.items) end.now.guest).handles
-        end.now.handle ≡ Ok tt }
+    requires idle { removable side end.now.ty
+        (guest_in (guests_of guests.old.items) end.now.guest).handles end.now.handle ≡ Ok tt }
     requires live { live_in (guests_of guests.old.items) ≤ counter.old.live }
-    ensures guests { guests_of guests.new.items
-        ≡ without_handle_in (guests_of guests.old.items) end.now.guest end.now.handle }
-    ensures counter { counter.new ≡ uncounted counter.old }
+    ensures frees { FreesHandle (guests_of guests.old.items) (guests_of guests.new.items)
+        (without_end (guests_of guests.old.items) end.now) counter.old counter.new }
     ensures room { 0 < room_in_table guests.new.items end.now.guest }
     ensures rooms { (n : ℕ) → room_in_table guests.old.items n ≤ room_in_table guests.new.items n }
-    ensures live { live_in (guests_of guests.new.items) + 1 ≡ live_in (guests_of guests.old.items) }
     ensures count { length guests.new.items ≡ length guests.old.items }
 {
     let guest = &mut guests[end.guest as usize];
@@ -204,15 +195,9 @@ pub fn give_end(
     requires there { guest < length guests.old.items }
     requires small { next_index (guest_in (guests_of guests.old.items) guest).handles < 2 ^ 28 }
     requires below { counter.old.live < counter.old.limit }
-    ensures number { IfOk result (λ number. number
-        ≡ next_index (guest_in (guests_of guests.old.items) guest).handles) }
-    ensures guests { OnOk result (guests_of guests.new.items
-        ≡ with_end_in (guests_of guests.old.items) guest side ty stream) }
-    ensures counter { OnOk result (counter.new ≡ counted counter.old) }
-    ensures live { OnOk result
-        (live_in (guests_of guests.new.items) ≡ live_in (guests_of guests.old.items) + 1) }
-    ensures err { OnErr result (guests_of guests.new.items ≡ guests_of guests.old.items) }
-    ensures kept { OnErr result (counter.new ≡ counter.old) }
+    ensures gives { GivesHandle (guests_of guests.old.items) (guests_of guests.new.items)
+        (with_end_in (guests_of guests.old.items) guest side ty stream) guest
+        counter.old counter.new result }
     ensures count { length guests.new.items ≡ length guests.old.items }
 {
     reserve(guests, guest, 1)?;
@@ -235,8 +220,8 @@ fn reserve_move(guests: &mut Vec<Guest>, from: usize, to: usize) -> Result<(), O
 }
 
 /// Frees the handle of an end that its guest's table shows idle, and gives the end one in another
-/// guest's table, or in the same: answers its number. As many handles are live as before. After want
-/// of memory, of which there is none within one guest, nothing has changed.
+/// guest's table, or in the same: answers its number. As many handles are live as before. After
+/// running out of memory, which cannot be within one guest, nothing has changed.
 pub fn move_end(
     guests: &mut Vec<Guest>,
     counter: &mut HandleCounter,
@@ -247,19 +232,14 @@ pub fn move_end(
 ) -> Result<u32, OutOfMemory>
     requires from { end.now.guest < length guests.old.items }
     requires to { to < length guests.old.items }
-    requires idle { removable side end.now.ty (guest_in (guests_of guests.old.items) end.now.guest).handles
-        end.now.handle ≡ Ok tt }
-    requires small { next_index (guest_in (without_handle_in (guests_of guests.old.items) end.now.guest
-        end.now.handle) to).handles < 2 ^ 28 }
+    requires idle { removable side end.now.ty
+        (guest_in (guests_of guests.old.items) end.now.guest).handles end.now.handle ≡ Ok tt }
+    requires small { next_index
+        (guest_in (without_end (guests_of guests.old.items) end.now) to).handles < 2 ^ 28 }
     requires live { live_in (guests_of guests.old.items) ≤ counter.old.live }
     requires limit { counter.old.live ≤ counter.old.limit }
-    ensures number { IfOk result (λ number. number ≡ next_index (guest_in (without_handle_in
-        (guests_of guests.old.items) end.now.guest end.now.handle) to).handles) }
-    ensures guests { OnOk result (guests_of guests.new.items ≡ with_end_in (without_handle_in
-        (guests_of guests.old.items) end.now.guest end.now.handle) to side end.now.ty stream) }
-    ensures counter { counter.new ≡ counter.old }
-    ensures live { live_in (guests_of guests.new.items) ≡ live_in (guests_of guests.old.items) }
-    ensures err { OnErr result (guests_of guests.new.items ≡ guests_of guests.old.items) }
+    ensures moves { MovesEnd (guests_of guests.old.items) (guests_of guests.new.items)
+        side end.now to stream counter.old counter.new result }
     ensures within { end.now.guest ≡ to → IsOk result }
     ensures count { length guests.new.items ≡ length guests.old.items }
 {

@@ -42,7 +42,8 @@ pub fn memory(guests: &Vec<Guest>, guest: usize) -> &GuestMemory
 pub fn take_memory(alloc: Global, guests: &mut Vec<Guest>, guest: usize) -> GuestMemory
     requires { guest < length guests.old.items }
     ensures memory { result ≡ linear_in (guests_of guests.old.items) guest }
-    ensures rest { guests_of guests.new.items ≡ with_linear (guests_of guests.old.items) guest (untold []) }
+    ensures rest { guests_of guests.new.items
+        ≡ with_linear (guests_of guests.old.items) guest (untold []) }
     ensures count { length guests.new.items ≡ length guests.old.items }
 {
     mem::replace(&mut guests[guest].memory, GuestMemory::empty(alloc))
@@ -52,7 +53,8 @@ pub fn take_memory(alloc: Global, guests: &mut Vec<Guest>, guest: usize) -> Gues
 #[inline(always)]
 pub fn put_memory(guests: &mut Vec<Guest>, guest: usize, memory: GuestMemory)
     requires { guest < length guests.old.items }
-    ensures guests { guests_of guests.new.items ≡ with_linear (guests_of guests.old.items) guest memory }
+    ensures guests { guests_of guests.new.items
+        ≡ with_linear (guests_of guests.old.items) guest memory }
     ensures count { length guests.new.items ≡ length guests.old.items }
 {
     guests[guest].memory = memory;
@@ -75,7 +77,8 @@ fn receive_behind(
         ≤ length (memory_in (guests_of guests.old) from) }
     requires target_holds { target + item_size (scalars_of payload) * count
         ≤ length (memory_in (guests_of guests.old) to) }
-    ensures received { Receives payload count (guests_of guests.old) (guests_of guests.new) from source to target result }
+    ensures received { Receives payload count (guests_of guests.old) (guests_of guests.new)
+        from source to target result }
     ensures length { length guests.new ≡ length guests.old }
 {
     let (low, high) = guests.split_at_mut(to);
@@ -103,7 +106,8 @@ fn receive_before(
         ≤ length (memory_in (guests_of guests.old) from) }
     requires target_holds { target + item_size (scalars_of payload) * count
         ≤ length (memory_in (guests_of guests.old) to) }
-    ensures received { Receives payload count (guests_of guests.old) (guests_of guests.new) from source to target result }
+    ensures received { Receives payload count (guests_of guests.old) (guests_of guests.new)
+        from source to target result }
     ensures length { length guests.new ≡ length guests.old }
 {
     let (low, high) = guests.split_at_mut(from);
@@ -132,7 +136,8 @@ pub fn receive_between(
         ≤ length (memory_in (guests_of guests.old.items) from) }
     requires target_holds { target + item_size (scalars_of payload) * count
         ≤ length (memory_in (guests_of guests.old.items) to) }
-    ensures received { Receives payload count (guests_of guests.old.items) (guests_of guests.new.items) from source to target result }
+    ensures received { Receives payload count (guests_of guests.old.items)
+        (guests_of guests.new.items) from source to target result }
     ensures length { length guests.new.items ≡ length guests.old.items }
 {
     if from < to {
@@ -161,7 +166,8 @@ pub fn receive_between(
 /// Where a guest's memory lies, which is told: from now on it lies there. Takes no memory.
 pub fn tell_base(guests: &mut Vec<Guest>, guest: usize) -> *const u8
     requires { guest < length guests.old.items }
-    ensures told { guests_of guests.new.items ≡ with_base (guests_of guests.old.items) guest result }
+    ensures told { guests_of guests.new.items
+        ≡ with_base (guests_of guests.old.items) guest result }
     ensures again { IfSome (base_in (guests_of guests.old.items) guest) (λ base. result ≡ base) }
     ensures count { length guests.new.items ≡ length guests.old.items }
 {
@@ -172,8 +178,8 @@ pub fn tell_base(guests: &mut Vec<Guest>, guest: usize) -> *const u8
 /// Puts bytes into a guest's memory.
 pub fn write_bytes(guests: &mut Vec<Guest>, guest: usize, address: u32, bytes: &[u8])
     requires there { guest < length guests.old.items }
-    requires inside { bytes_out_of_bounds (length (memory_in (guests_of guests.old.items) guest)) address
-        (length bytes.now) ≡ false }
+    requires inside { bytes_out_of_bounds (length (memory_in (guests_of guests.old.items) guest))
+        address (length bytes.now) ≡ false }
     ensures guests { guests_of guests.new.items ≡ with_memory (guests_of guests.old.items) guest
         (put_at (memory_in (guests_of guests.old.items) guest) address bytes.now) }
     ensures count { length guests.new.items ≡ length guests.old.items }
@@ -185,9 +191,10 @@ pub fn write_bytes(guests: &mut Vec<Guest>, guest: usize, address: u32, bytes: &
 /// So many bytes of a guest's memory.
 pub fn read_bytes(guests: &Vec<Guest>, guest: usize, address: u32, len: u32) -> &[u8]
     requires there { guest < length guests.now.items }
-    requires inside { bytes_out_of_bounds (length (memory_in (guests_of guests.now.items) guest)) address
-        len ≡ false }
-    ensures exact { result.now ≡ take len (drop address (memory_in (guests_of guests.now.items) guest)) }
+    requires inside { bytes_out_of_bounds (length (memory_in (guests_of guests.now.items) guest))
+        address len ≡ false }
+    ensures exact { result.now
+        ≡ take len (drop address (memory_in (guests_of guests.now.items) guest)) }
     ensures most { length result.now ≤ len }
 {
     let bytes = memory(guests, guest).bytes();

@@ -18,7 +18,7 @@ ghost use Rattle.strm_machine.specs.Meetings.{begun, advanced, meeting_of, carri
 ghost use Rattle.strm_machine.specs.Turns.{with_received, answers, completes_alone, moves, rendezvous, turn};
 ghost use Rattle.strm_machine.specs.Soundness.{sizes_of, IsPlaced, StreamIsPlaced};
 ghost use Rattle.strm_channels.specs.Guests.{guests_of};
-ghost use Rattle.strm_channels.specs.Meetings.{meeting_answered};
+ghost use Rattle.strm_channels.specs.Meetings.{Waits, Carries, meeting_answered};
 
 use crate::channels::Channel;
 use crate::guests::{Guest, put_memory, receive_between, take_memory};
@@ -82,8 +82,7 @@ fn complete_alone(
 ) -> ReturnCode
     requires idle { (end_of side stream.old).operation ≡ None }
     requires begun { mine ≡ begun mine.guest mine.address mine.left }
-    requires there { (end_of (opposite side) stream.old).operation ≡ Some theirs }
-    requires open { theirs.is_open ≡ true }
+    requires waits { Waits (opposite side) stream.old theirs }
     requires counted { theirs.moved < 2 ^ 28 }
     requires room { theirs.address < 2 ^ 32 }
     ensures { (guests : List machine.Guest) →
@@ -140,7 +139,8 @@ fn move_within(memory: &mut GuestMemory, from: u32, to: u32, payload: Payload, c
     requires source { from + item_size (scalars_of payload) * count ≤ length memory.old.bytes }
     requires target { to + item_size (scalars_of payload) * count ≤ length memory.old.bytes }
     ensures { IsSomeAnd (items_at (scalars_of payload) memory.old.bytes from count)
-        (λ xs. memory.new ≡ with_contents memory.old (stored_at (scalars_of payload) memory.old.bytes to xs)) }
+        (λ xs. memory.new
+        ≡ with_contents memory.old (stored_at (scalars_of payload) memory.old.bytes to xs)) }
 {
     copy_within_items(memory.bytes_mut(), from, to, payload, count);
 }
@@ -161,11 +161,8 @@ fn carry_between(
         ≤ length (memory_in (guests_of guests.old.items) write.now.guest) }
     requires target { read.now.address + item_size (scalars_of payload) * count
         ≤ length (memory_in (guests_of guests.old.items) read.now.guest) }
-    ensures ok { OnOk result (carried (guests_of guests.old.items) payload write.now read.now count
-        ≡ Some (guests_of guests.new.items)) }
-    ensures bad { OnErr result (carried (guests_of guests.old.items) payload write.now read.now count
-        ≡ None) }
-    ensures err { OnErr result (guests_of guests.new.items ≡ guests_of guests.old.items) }
+    ensures carries { Carries (guests_of guests.old.items) (guests_of guests.new.items)
+        payload write.now read.now count result }
     ensures length { length guests.new.items ≡ length guests.old.items }
 {
     let (from, to) = (write.guest as usize, read.guest as usize);
@@ -193,16 +190,15 @@ fn carry(
     requires writer { write.now.guest < length guests.old.items }
     requires reader { read.now.guest < length guests.old.items }
     requires numbers { write.now.guest ≡ read.now.guest → IsTrue (is_number_or_none payload) }
-    requires source { is_out_of_bounds (length (memory_in (guests_of guests.old.items) write.now.guest))
-        (scalars_of payload) write.now.address count ≡ false }
-    requires target { is_out_of_bounds (length (memory_in (guests_of guests.old.items) read.now.guest))
-        (scalars_of payload) read.now.address count ≡ false }
+    requires source { is_out_of_bounds
+        (length (memory_in (guests_of guests.old.items) write.now.guest)) (scalars_of payload)
+        write.now.address count ≡ false }
+    requires target { is_out_of_bounds
+        (length (memory_in (guests_of guests.old.items) read.now.guest)) (scalars_of payload)
+        read.now.address count ≡ false }
     requires some { 0 < count }
-    ensures ok { OnOk result (carried (guests_of guests.old.items) payload write.now read.now count
-        ≡ Some (guests_of guests.new.items)) }
-    ensures bad { OnErr result (carried (guests_of guests.old.items) payload write.now read.now count
-        ≡ None) }
-    ensures err { OnErr result (guests_of guests.new.items ≡ guests_of guests.old.items) }
+    ensures carries { Carries (guests_of guests.old.items) (guests_of guests.new.items)
+        payload write.now read.now count result }
     ensures length { length guests.new.items ≡ length guests.old.items }
 {
     if payload.size() == 0 {
@@ -232,11 +228,8 @@ fn carry_from(
     requires mine_left { count ≤ mine.now.left }
     requires theirs_left { count ≤ theirs.now.left }
     requires some { 0 < count }
-    ensures ok { OnOk result (carried (guests_of guests.old.items) payload (write_of side mine.now theirs.now)
-        (read_of side mine.now theirs.now) count ≡ Some (guests_of guests.new.items)) }
-    ensures bad { OnErr result (carried (guests_of guests.old.items) payload (write_of side mine.now theirs.now)
-        (read_of side mine.now theirs.now) count ≡ None) }
-    ensures err { OnErr result (guests_of guests.new.items ≡ guests_of guests.old.items) }
+    ensures carries { Carries (guests_of guests.old.items) (guests_of guests.new.items) payload
+        (write_of side mine.now theirs.now) (read_of side mine.now theirs.now) count result }
 {
     let write = write_of(side, mine, theirs);
     let read = read_of(side, mine, theirs);
@@ -255,10 +248,10 @@ fn exchange(
     theirs: &Operation,
 ) -> Result<ReturnCode, BadItem>
     requires payload { payload.now ≡ stream.old.payload }
-    requires there { (end_of (opposite side) stream.old).operation ≡ Some theirs.now }
-    requires open { theirs.now.is_open ≡ true }
+    requires waits { Waits (opposite side) stream.old theirs.now }
     requires mine { IsPlaced (sizes_of (guests_of guests.old.items)) stream.old.payload mine.now }
-    requires theirs { IsPlaced (sizes_of (guests_of guests.old.items)) stream.old.payload theirs.now }
+    requires theirs { IsPlaced (sizes_of (guests_of guests.old.items)) stream.old.payload
+        theirs.now }
     requires numbers { mine.now.guest ≡ theirs.now.guest
         → IsTrue (is_number_or_none stream.old.payload) }
     requires some { 0 < min mine.now.left theirs.now.left }
@@ -291,8 +284,7 @@ fn meet(
     requires payload { payload.now ≡ stream.old.payload }
     requires idle { (end_of side stream.old).operation ≡ None }
     requires begun { mine ≡ begun mine.guest mine.address mine.left }
-    requires there { (end_of (opposite side) stream.old).operation ≡ Some theirs }
-    requires open { theirs.is_open ≡ true }
+    requires waits { Waits (opposite side) stream.old theirs }
     requires mine { IsPlaced (sizes_of (guests_of guests.old.items)) stream.old.payload mine }
     requires theirs { IsPlaced (sizes_of (guests_of guests.old.items)) stream.old.payload theirs }
     requires numbers { mine.guest ≡ theirs.guest → IsTrue (is_number_or_none stream.old.payload) }

@@ -12,6 +12,7 @@ ghost use Rattle.strm_handles.specs.declared.entries.Entry.TheVariants.{Waitable
 ghost use Rattle.strm_waitable_sets.specs.Sets.{members, set_of, is_set_there, handle_joined, handle_left, HasNoMember};
 ghost use Rattle.strm_machine.specs.State.{guest_in, sets_in, with_sets};
 ghost use Rattle.strm_machine.specs.WaitableSets.{has_some};
+ghost use Rattle.strm_channels.specs.Changes.{GivesHandle, FreesHandle};
 ghost use Rattle.strm_channels.specs.Guests.{guest_of, guests_of, live_in, sets_among, with_set_of, with_set_in, without_set_in};
 
 use crate::guests::Guest;
@@ -64,16 +65,10 @@ pub fn give_set(
     requires there { guest < length guests.old.items }
     requires small { next_index (guest_in (guests_of guests.old.items) guest).handles < 2 ^ 28 }
     requires below { counter.old.live < counter.old.limit }
-    ensures number { IfOk result (λ number. number
-        ≡ next_index (guest_in (guests_of guests.old.items) guest).handles) }
-    ensures guests { OnOk result (guests_of guests.new.items ≡ with_set_in (guests_of guests.old.items) guest) }
-    ensures counter { OnOk result (counter.new ≡ counted counter.old) }
-    ensures live { OnOk result
-        (live_in (guests_of guests.new.items) ≡ live_in (guests_of guests.old.items) + 1) }
+    ensures gives { GivesHandle (guests_of guests.old.items) (guests_of guests.new.items)
+        (with_set_in (guests_of guests.old.items) guest) guest counter.old counter.new result }
     ensures sets { OnOk result
         (sets_among (guests_of guests.new.items) ≡ sets_among (guests_of guests.old.items) + 1) }
-    ensures err { OnErr result (guests_of guests.new.items ≡ guests_of guests.old.items) }
-    ensures kept { OnErr result (counter.new ≡ counter.old) }
     ensures count { length guests.new.items ≡ length guests.old.items }
 {
     make_set(&mut guests[guest], counter)
@@ -88,16 +83,15 @@ pub fn remove_set(
     set: u32,
 )
     requires there { guest < length guests.old.items }
-    requires named { waitable_set_rep_of (guest_in (guests_of guests.old.items) guest).handles handle
-        ≡ Ok set }
+    requires named { waitable_set_rep_of (guest_in (guests_of guests.old.items) guest).handles
+        handle ≡ Ok set }
     requires made { is_set_there (sets_in (guests_of guests.old.items) guest) set ≡ true }
     requires empty { HasNoMember (sets_in (guests_of guests.old.items) guest) set }
     requires live { live_in (guests_of guests.old.items) ≤ counter.old.live }
-    ensures guests { guests_of guests.new.items
-        ≡ without_set_in (guests_of guests.old.items) guest handle set }
-    ensures counter { counter.new ≡ uncounted counter.old }
-    ensures live { live_in (guests_of guests.new.items) + 1 ≡ live_in (guests_of guests.old.items) }
-    ensures sets { sets_among (guests_of guests.new.items) + 1 ≡ sets_among (guests_of guests.old.items) }
+    ensures frees { FreesHandle (guests_of guests.old.items) (guests_of guests.new.items)
+        (without_set_in (guests_of guests.old.items) guest handle set) counter.old counter.new }
+    ensures sets { sets_among (guests_of guests.new.items) + 1
+        ≡ sets_among (guests_of guests.old.items) }
     ensures count { length guests.new.items ≡ length guests.old.items }
 {
     let guest = &mut guests[guest];
@@ -115,8 +109,8 @@ pub fn join_set(
 ) -> Result<(), OutOfMemory>
     requires there { guest < length guests.old.items }
     requires made { is_set_there (sets_in (guests_of guests.old.items) guest) set ≡ true }
-    ensures ok { OnOk result (guests_of guests.new.items ≡ with_sets (guests_of guests.old.items) guest
-        (handle_joined (sets_in (guests_of guests.old.items) guest) handle set)) }
+    ensures ok { OnOk result (guests_of guests.new.items ≡ with_sets (guests_of guests.old.items)
+        guest (handle_joined (sets_in (guests_of guests.old.items) guest) handle set)) }
     ensures err { OnErr result (guests_of guests.new.items ≡ guests_of guests.old.items) }
     ensures count { length guests.new.items ≡ length guests.old.items }
 {

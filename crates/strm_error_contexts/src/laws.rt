@@ -13,7 +13,8 @@ pub fn handles_are_counted()
         ≡ Some (new_context message) }
     ensures raised { (contexts : Contexts) (number : ℕ) → is_context_there contexts number ≡ true
         → count_at (raised contexts number) number ≡ count_at contexts number + 1 }
-    ensures raised_message { (contexts : Contexts) (number : ℕ) → is_context_there contexts number ≡ true
+    ensures raised_message { (contexts : Contexts) (number : ℕ)
+        → is_context_there contexts number ≡ true
         → message_at (raised contexts number) number ≡ message_at contexts number }
     ensures dropped { (contexts : Contexts) (number : ℕ) → 1 < count_at contexts number
         → count_at (context_dropped contexts number) number + 1 ≡ count_at contexts number }
@@ -27,13 +28,15 @@ pub fn handles_are_counted()
 
 /// A call changes no other context.
 pub fn others_stay()
-    ensures inserted { (contexts : Contexts) (message : List ℕ) (other : ℕ) → AreContextsKept contexts
-        → other ≢ next_number contexts
+    ensures inserted { (contexts : Contexts) (message : List ℕ) (other : ℕ)
+        → AreContextsKept contexts → other ≢ next_number contexts
         → context_at (inserted contexts message) other ≡ context_at contexts other }
-    ensures raised { (contexts : Contexts) (number other : ℕ) → is_context_there contexts number ≡ true
-        → other ≢ number → context_at (raised contexts number) other ≡ context_at contexts other }
-    ensures dropped { (contexts : Contexts) (number other : ℕ) → is_context_there contexts number ≡ true
-        → other ≢ number → context_at (context_dropped contexts number) other ≡ context_at contexts other }
+    ensures raised { (contexts : Contexts) (number other : ℕ)
+        → is_context_there contexts number ≡ true → other ≢ number
+        → context_at (raised contexts number) other ≡ context_at contexts other }
+    ensures dropped { (contexts : Contexts) (number other : ℕ)
+        → is_context_there contexts number ≡ true → other ≢ number
+        → context_at (context_dropped contexts number) other ≡ context_at contexts other }
 {}
 
 /// Contexts stay kept, from none at all on.

@@ -9,10 +9,9 @@ ghost use Rattle.strm_handles.specs.declared.errors.HandleError.TheVariants.{Ind
 ghost use Rattle.strm_handles.specs.Handles.{handle_limit, Handles, TableOf, Table, no_handles, entry_at, next_index, with_entry, lends_of, live_of, occupied, IsTable};
 ghost use Rattle.strm_handles.specs.Changes.{Inserts, Removes};
 ghost use Rattle.strm_handles.specs.Counters.{Counter, counted, uncounted};
-ghost use Rattle.strm_handles.specs.Live.{CountsAlike, CountsOccupied};
-ghost use Rattle.strm_handles.specs.Lookups.{stream_end_of, future_end_of, error_context_rep_of, subtask_rep_of, waitable_set_rep_of, guest_thread_rep_of};
-ghost use Rattle.strm_handles.specs.Ends.{stream_readable_of, stream_writable_of, future_readable_of, future_writable_of};
-ghost use Rattle.strm_handles.specs.Lends.{resource_lend_of, resource_undo_lend_of, remove_resource_of, HasLend, lent, returned};
+ghost use Rattle.strm_handles.specs.Live.{CountsAlike, CountsOccupied, RemovalsAreCounted};
+ghost use Rattle.strm_handles.specs.Lookups.{stream_end_of, future_end_of, guest_thread_rep_of};
+ghost use Rattle.strm_handles.specs.Lends.{resource_lend_of, resource_undo_lend_of, HasLend, lent, returned};
 
 /// Live are the occupied slots and the open lends. A new table has none, and every call changes
 /// the table's live handles as it changes the counter's: so a counter that was new with its
@@ -25,34 +24,7 @@ pub fn live_is_counted()
         (result : Result ℕ HandleError) → IsTable old.handles → lends_of e ≡ 0 →
         Inserts old new before after e result →
         CountsAlike old.handles new.handles before after }
-    ensures remove_stream_end { (old new : Table) (before after : Counter) (ty : Payload) (n : ℕ) →
-        live_of old.handles ≤ before.live →
-        (Removes old new before after n (stream_readable_of old.handles ty n) →
-        CountsAlike old.handles new.handles before after)
-        × (Removes old new before after n (stream_writable_of old.handles ty n) →
-        CountsAlike old.handles new.handles before after) }
-    ensures remove_future_end { (old new : Table) (before after : Counter) (ty : Payload) (n : ℕ) →
-        live_of old.handles ≤ before.live →
-        (Removes old new before after n (future_readable_of old.handles ty n) →
-        CountsAlike old.handles new.handles before after)
-        × (Removes old new before after n (future_writable_of old.handles ty n) →
-        CountsAlike old.handles new.handles before after) }
-    ensures remove_error_context { (old new : Table) (before after : Counter) (n : ℕ) →
-        live_of old.handles ≤ before.live →
-        Removes old new before after n (error_context_rep_of old.handles n) →
-        CountsAlike old.handles new.handles before after }
-    ensures remove_subtask { (old new : Table) (before after : Counter) (n : ℕ) →
-        live_of old.handles ≤ before.live →
-        Removes old new before after n (subtask_rep_of old.handles n) →
-        CountsAlike old.handles new.handles before after }
-    ensures remove_waitable_set { (old new : Table) (before after : Counter) (n : ℕ) →
-        live_of old.handles ≤ before.live →
-        Removes old new before after n (waitable_set_rep_of old.handles n) →
-        CountsAlike old.handles new.handles before after }
-    ensures remove_resource { (old new : Table) (before after : Counter)
-        (idx : TypedResourceIndex) → live_of old.handles ≤ before.live →
-        Removes old new before after idx.index (remove_resource_of old.handles idx) →
-        CountsAlike old.handles new.handles before after }
+    ensures removals { RemovalsAreCounted }
     ensures lend { (h : Handles) (counter : Counter) (idx : TypedResourceIndex) →
         IfOk (resource_lend_of h counter idx) (λ r. CountsAlike h (lent h idx.index) counter
         (if r.1 then counted counter else counter)) }

@@ -37,7 +37,8 @@ fn poll_all(
     ensures payload { IfOk result (λ polled. polled.0.payload ≡ payload) }
     ensures ok { IfOk result (λ polled.
         FetchedSo (writer_tells writer.old) (writer_tells writer.new) polled.0.items polled.1) }
-    ensures no_memory { OnErr result (KeepsWriter (writer_tells writer.old) (writer_tells writer.new)) }
+    ensures no_memory { OnErr result
+        (KeepsWriter (writer_tells writer.old) (writer_tells writer.new)) }
 {
     let mut window = Window::unbounded(alloc, payload);
     let turn = poll_writer(writer, &mut window, false);
@@ -96,9 +97,12 @@ fn gather(
 ) -> Result<(), OutOfMemory>
     requires payload { (writer_tells writer.old).payload ≡ kept.old.payload }
     ensures payload { kept.new.payload ≡ kept.old.payload }
-    ensures items { OnOk result (kept.new.items ≡ kept.old.items ++ (writer_tells writer.old).holds) }
-    ensures ok { OnOk result (writer_tells writer.new ≡ writer_given (writer_tells writer.old) None) }
-    ensures no_memory { OnErr result (GathersNone (writer_tells writer.old) (writer_tells writer.new)) }
+    ensures items { OnOk result
+        (kept.new.items ≡ kept.old.items ++ (writer_tells writer.old).holds) }
+    ensures ok { OnOk result
+        (writer_tells writer.new ≡ writer_given (writer_tells writer.old) None) }
+    ensures no_memory { OnErr result
+        (GathersNone (writer_tells writer.old) (writer_tells writer.new)) }
 {
     let holds = held_by(writer);
     if holds == 0 {
@@ -129,7 +133,8 @@ fn poll_kept(
     ensures kept { kept.new ≡ kept.old }
     ensures ok { IfOk result (λ said.
         PassedSo (reader_tells reader.old) (reader_tells reader.new) kept.old.items since said) }
-    ensures no_memory { OnErr result (KeepsReader (reader_tells reader.old) (reader_tells reader.new)) }
+    ensures no_memory { OnErr result
+        (KeepsReader (reader_tells reader.old) (reader_tells reader.new)) }
 {
     let none = Items::new(alloc, kept.payload());
     let lent = mem::replace(kept, none);
@@ -165,8 +170,10 @@ pub fn offer(
     requires writer { (writer_tells writer.old).payload ≡ kept.old.payload }
     requires reader { (reader_tells reader.old).payload ≡ kept.old.payload }
     ensures offers { Offers result
-        (offering stream.old consumer.old kept.old.items (writer_tells writer.old) (reader_tells reader.old))
-        (offering stream.new consumer.new kept.new.items (writer_tells writer.new) (reader_tells reader.new)) }
+        (offering stream.old consumer.old kept.old.items
+        (writer_tells writer.old) (reader_tells reader.old))
+        (offering stream.new consumer.new kept.new.items
+        (writer_tells writer.new) (reader_tells reader.new)) }
     ensures payload { kept.new.payload ≡ kept.old.payload }
 {
     match gather(alloc, kept, writer) {

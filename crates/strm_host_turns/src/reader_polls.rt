@@ -34,7 +34,8 @@ pub fn poll_from(
     ensures guests { guests_of guests.new.items ≡ guests_of guests.old.items }
     ensures ok { IfOk result (λ said. PollsFrom (reader_tells reader.old) (reader_tells reader.new)
         (guests_of guests.old.items) payload.now since write.now said) }
-    ensures no_memory { OnErr result (KeepsReader (reader_tells reader.old) (reader_tells reader.new)) }
+    ensures no_memory { OnErr result
+        (KeepsReader (reader_tells reader.old) (reader_tells reader.new)) }
 {
     let mut offer = lend_items(alloc, guests, payload, write, since);
     let turn = poll_reader(reader, &mut offer, write.asked);

@@ -81,8 +81,11 @@ fn poll_reader_once(
     requires sizes { sum (sizes_of (guests_of guests.old.items)) ≤ 268435456 }
     requires payload { (reader_tells reader.old).payload ≡ stream.old.payload }
     ensures { IsReaderTurn result
-        (reader_scene (guests_of guests.old.items) stream.old consumer.old (reader_tells reader.old))
-        (reader_scene (guests_of guests.new.items) stream.new consumer.new (reader_tells reader.new)) write }
+        (reader_scene (guests_of guests.old.items) stream.old consumer.old
+        (reader_tells reader.old))
+        (reader_scene (guests_of guests.new.items) stream.new consumer.new
+        (reader_tells reader.new))
+        write }
 {
     let since = consumer.since;
     let said = match poll_from(alloc, guests, &stream.payload(), reader, &write, since) {
@@ -109,12 +112,16 @@ pub fn reader_turn(
 ) -> Result<(), ReaderStops>
     requires waiting { stream.old.writer.operation ≡ Some write.now }
     requires open { write.now.is_open ≡ true }
-    requires placed { IsPlaced (sizes_of (guests_of guests.old.items)) stream.old.payload write.now }
+    requires placed { IsPlaced (sizes_of (guests_of guests.old.items)) stream.old.payload
+        write.now }
     requires sizes { sum (sizes_of (guests_of guests.old.items)) ≤ 268435456 }
     requires payload { (reader_tells reader.old).payload ≡ stream.old.payload }
     ensures { IsReaderTurn result
-        (reader_scene (guests_of guests.old.items) stream.old consumer.old (reader_tells reader.old))
-        (reader_scene (guests_of guests.new.items) stream.new consumer.new (reader_tells reader.new)) write.now }
+        (reader_scene (guests_of guests.old.items) stream.old consumer.old
+        (reader_tells reader.old))
+        (reader_scene (guests_of guests.new.items) stream.new consumer.new
+        (reader_tells reader.new))
+        write.now }
 {
     poll_reader_once(alloc, guests, stream, consumer, reader, *write)
 }

@@ -41,7 +41,8 @@ pub fn lend_region(
     read: &Operation,
 ) -> Window
     requires placed { IsPlaced (sizes_of (guests_of guests.old.items)) payload.now read.now }
-    ensures window { result ≡ lent_memory payload.now (linear_in (guests_of guests.old.items) read.now.guest)
+    ensures window { result ≡ lent_memory payload.now
+        (linear_in (guests_of guests.old.items) read.now.guest)
         (region_address payload.now read.now) read.now.left }
     ensures guests { guests_of guests.new.items
         ≡ with_linear (guests_of guests.old.items) read.now.guest (untold []) }

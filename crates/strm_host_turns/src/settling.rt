@@ -102,7 +102,8 @@ pub fn move_on(
     requires open { operation.now.is_open ≡ true }
     requires left { count ≤ operation.now.left }
     requires counted { operation.now.moved + operation.now.left < 2 ^ 28 }
-    requires room { operation.now.address + item_size (scalars_of stream.old.payload) * count < 2 ^ 32 }
+    requires room { operation.now.address + item_size (scalars_of stream.old.payload) * count
+        < 2 ^ 32 }
     ensures { stream.new ≡ moved_on side stream.old operation.now count outcome }
 {
     stream.progress(side, count);

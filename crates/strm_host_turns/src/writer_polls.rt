@@ -33,8 +33,10 @@ pub fn poll_into(
     requires nothing_held { (writer_tells writer.old).holds ≡ [] }
     ensures ok { IfOk result (λ r. PollsInto (writer_tells writer.old) (writer_tells writer.new)
         (guests_of guests.old.items) (guests_of guests.new.items) payload.now read.now r.0 r.1) }
-    ensures no_memory { OnErr result (KeepsWriter (writer_tells writer.old) (writer_tells writer.new)) }
-    ensures lowers { OnErr result (LowersForRead (guests_of guests.old.items) (guests_of guests.new.items) payload.now read.now) }
+    ensures no_memory { OnErr result
+        (KeepsWriter (writer_tells writer.old) (writer_tells writer.new)) }
+    ensures lowers { OnErr result (LowersForRead (guests_of guests.old.items)
+        (guests_of guests.new.items) payload.now read.now) }
 {
     let mut window = lend_region(alloc, guests, payload, read);
     match window.prepare() {

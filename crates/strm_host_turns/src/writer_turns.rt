@@ -49,8 +49,8 @@ fn note_held(producer: &mut Producer, held: usize)
 
 /// A writer that answered Dropped has no more to come, and so many items are held.
 pub(crate) fn note_answer(producer: &mut Producer, answer: Answer, held: usize)
-    ensures { producer.new ≡
-        record producer.old { over = producer.old.over || is_last answer; holding = nat_lt 0 held } }
+    ensures { producer.new ≡ record producer.old {
+        over = producer.old.over || is_last answer; holding = nat_lt 0 held } }
 {
     producer.over = producer.over || answer == Answer::Dropped;
     note_held(producer, held);
@@ -90,8 +90,10 @@ fn hand_over(
     requires placed { IsPlaced (sizes_of (guests_of guests.old.items)) stream.old.payload read }
     requires sizes { sum (sizes_of (guests_of guests.old.items)) ≤ 268435456 }
     requires payload { (writer_tells writer.old).payload ≡ stream.old.payload }
-    ensures { writer_scene (guests_of guests.new.items) stream.new producer.new (writer_tells writer.new) ≡
-        handed_over (writer_scene (guests_of guests.old.items) stream.old producer.old (writer_tells writer.old)) read }
+    ensures {
+        writer_scene (guests_of guests.new.items) stream.new producer.new (writer_tells writer.new)
+        ≡ handed_over (writer_scene (guests_of guests.old.items) stream.old producer.old
+        (writer_tells writer.old)) read }
 {
     let mut window = lend_region(alloc, guests, &stream.payload(), &read);
     match give(writer, &mut window) {
@@ -144,8 +146,11 @@ fn poll_writer_once(
     requires payload { (writer_tells writer.old).payload ≡ stream.old.payload }
     requires nothing_held { (writer_tells writer.old).holds ≡ [] }
     ensures { IsWriterPoll result
-        (writer_scene (guests_of guests.old.items) stream.old producer.old (writer_tells writer.old))
-        (writer_scene (guests_of guests.new.items) stream.new producer.new (writer_tells writer.new)) read }
+        (writer_scene (guests_of guests.old.items) stream.old producer.old
+        (writer_tells writer.old))
+        (writer_scene (guests_of guests.new.items) stream.new producer.new
+        (writer_tells writer.new))
+        read }
 {
     let (answer, marked) = match poll_into(alloc, guests, &stream.payload(), writer, &read) {
         Ok(polled) => polled,
@@ -182,8 +187,11 @@ pub fn writer_turn(
     requires sizes { sum (sizes_of (guests_of guests.old.items)) ≤ 268435456 }
     requires payload { (writer_tells writer.old).payload ≡ stream.old.payload }
     ensures { IsWriterTurn result
-        (writer_scene (guests_of guests.old.items) stream.old producer.old (writer_tells writer.old))
-        (writer_scene (guests_of guests.new.items) stream.new producer.new (writer_tells writer.new)) read.now }
+        (writer_scene (guests_of guests.old.items) stream.old producer.old
+        (writer_tells writer.old))
+        (writer_scene (guests_of guests.new.items) stream.new producer.new
+        (writer_tells writer.new))
+        read.now }
 {
     if held_by(writer) > 0 {
         hand_over(alloc, guests, stream, producer, writer, *read);

@@ -58,7 +58,8 @@ pub fn copy_region(
     ensures bad { IsErr result ↔ IsNone (items_at (scalars_of payload) source.now from count) }
     ensures err { OnErr result (destination.new ≡ destination.old) }
     ensures number_or_none { IsTrue (is_number_or_none payload) → IsOk result }
-    ensures numbers { IsTrue (is_number_or_none payload) → destination.new ≡ put_at destination.old to
+    ensures numbers { IsTrue (is_number_or_none payload) → destination.new
+        ≡ put_at destination.old to
         (bytes_at source.now from (item_size (scalars_of payload) * count)) }
 {
     match payload {

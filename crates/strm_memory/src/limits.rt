@@ -194,8 +194,11 @@ fn blend_vectors<const N: usize>(
     requires destination_holds { to + len ≤ length destination.old }
     ensures most { result ≤ len }
     ensures few { len < result + N }
-    ensures rest { blended_on (drop result (take len limits.now)) source.now (from + result) (to + result) destination.new
-        ≡ blended_on (drop at (take len limits.now)) source.now (from + at) (to + at) destination.old }
+    ensures rest {
+        blended_on (drop result (take len limits.now)) source.now (from + result) (to + result)
+        destination.new
+        ≡ blended_on (drop at (take len limits.now)) source.now (from + at) (to + at)
+        destination.old }
 {
     let mut done = at;
     while len - done >= N {
@@ -218,7 +221,8 @@ fn blend_lanes<const N: usize>(
     requires limits_hold { at + N ≤ length limits.now }
     requires source_holds { from + N ≤ length source.now }
     requires destination_holds { to + N ≤ length destination.old }
-    ensures { destination.new ≡ blended_on (bytes_at limits.now at N) source.now from to destination.old }
+    ensures { destination.new
+        ≡ blended_on (bytes_at limits.now at N) source.now from to destination.old }
 {
     let limits = Simd::<u8, N>::from_slice(&limits[at..]);
     let others = Simd::<u8, N>::from_slice(&source[from..]).simd_min(limits);

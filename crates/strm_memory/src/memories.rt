@@ -83,7 +83,8 @@ impl GuestMemory {
     /// The memory that consists of these bytes, and whether somebody was told where they lie. Takes no
     /// memory.
     pub fn of_parts(bytes: Vec<u8>, is_told: bool) -> GuestMemory
-        ensures { result ≡ record { bytes = bytes.items; base = then_some is_told (vec_ptr bytes) } }
+        ensures { result
+            ≡ record { bytes = bytes.items; base = then_some is_told (vec_ptr bytes) } }
     {
         GuestMemory { bytes, is_told }
     }
@@ -140,7 +141,8 @@ impl GuestMemory {
     pub fn store(&mut self, address: u32, bytes: &[u8]) -> Result<(), OutOfBounds>
         ensures out_of_bounds { is_err result ≡
             bytes_out_of_bounds (length self.old.bytes) address (length bytes.now) }
-        ensures ok { OnOk result (self.new ≡ with_contents self.old (put_at self.old.bytes address bytes.now)) }
+        ensures ok { OnOk result
+            (self.new ≡ with_contents self.old (put_at self.old.bytes address bytes.now)) }
         ensures err { OnErr result (self.new ≡ self.old) }
         ensures no_bytes { length bytes.now ≡ 0 → self.new ≡ self.old }
     {
@@ -190,15 +192,21 @@ impl GuestMemory {
         payload: Payload,
         count: ItemCount,
     ) -> Result<(), BadItem>
-        requires source_holds { from + item_size (scalars_of payload) * count ≤ length source.now.bytes }
-        requires self_holds { address + item_size (scalars_of payload) * count ≤ length self.old.bytes }
-        ensures ok { OnOk result (IsSomeAnd (items_at (scalars_of payload) source.now.bytes from count)
-            (λ xs. self.new ≡ with_contents self.old (stored_at (scalars_of payload) self.old.bytes address xs))) }
-        ensures bad { IsErr result ↔ IsNone (items_at (scalars_of payload) source.now.bytes from count) }
+        requires source_holds { from + item_size (scalars_of payload) * count
+            ≤ length source.now.bytes }
+        requires self_holds { address + item_size (scalars_of payload) * count
+            ≤ length self.old.bytes }
+        ensures ok { OnOk result (IsSomeAnd
+            (items_at (scalars_of payload) source.now.bytes from count)
+            (λ xs. self.new
+            ≡ with_contents self.old (stored_at (scalars_of payload) self.old.bytes address xs))) }
+        ensures bad { IsErr result
+            ↔ IsNone (items_at (scalars_of payload) source.now.bytes from count) }
         ensures err { OnErr result (self.new ≡ self.old) }
         ensures number_or_none { IsTrue (is_number_or_none payload) → IsOk result }
-        ensures numbers { IsTrue (is_number_or_none payload) → self.new ≡ with_contents self.old (put_at self.old.bytes
-            address (bytes_at source.now.bytes from (item_size (scalars_of payload) * count))) }
+        ensures numbers { IsTrue (is_number_or_none payload) → self.new
+            ≡ with_contents self.old (put_at self.old.bytes address
+            (bytes_at source.now.bytes from (item_size (scalars_of payload) * count))) }
     {
         let to = address as usize;
         copy_region(
@@ -215,10 +223,12 @@ impl GuestMemory {
     /// and then lowering them, however the two regions overlap. Takes no memory.
     pub fn copy_within(&mut self, from: u32, to: u32, payload: Payload, count: ItemCount)
         requires number_or_none { IsTrue (is_number_or_none payload) }
-        requires from_inside { from + item_size (scalars_of payload) * count ≤ length self.old.bytes }
+        requires from_inside { from + item_size (scalars_of payload) * count
+            ≤ length self.old.bytes }
         requires to_inside { to + item_size (scalars_of payload) * count ≤ length self.old.bytes }
         ensures { IsSomeAnd (items_at (scalars_of payload) self.old.bytes from count)
-            (λ xs. self.new ≡ with_contents self.old (stored_at (scalars_of payload) self.old.bytes to xs)) }
+            (λ xs. self.new
+            ≡ with_contents self.old (stored_at (scalars_of payload) self.old.bytes to xs)) }
     {
         copy_within_items(self.bytes.as_mut_slice(), from, to, payload, count);
     }
@@ -232,7 +242,8 @@ impl GuestMemory {
         out: &mut Vec<Value>,
     ) -> Result<(), LiftError>
         requires { address + item_size (scalars_of payload) * count ≤ length self.now.bytes }
-        ensures ok { OnOk result (IsSomeAnd (items_at (scalars_of payload) self.now.bytes address count)
+        ensures ok { OnOk result (IsSomeAnd
+            (items_at (scalars_of payload) self.now.bytes address count)
             (λ xs. out.new.items ≡ out.old.items ++ xs)) }
         ensures bad_item { (index : ℕ) → IsErrOf result (LiftError.BadItem index) →
             IsFirstBadItem (scalars_of payload) (drop address self.now.bytes) count index }
@@ -255,7 +266,8 @@ impl GuestMemory {
         requires fit { AreItems (scalars_of payload) items.now }
         requires holds { address
             + item_size (scalars_of payload) * length items.now ≤ length self.old.bytes }
-        ensures { self.new ≡ with_contents self.old (stored_at (scalars_of payload) self.old.bytes address items.now) }
+        ensures { self.new ≡ with_contents self.old
+            (stored_at (scalars_of payload) self.old.bytes address items.now) }
     {
         lower_fields(
             items,

@@ -46,7 +46,8 @@ pub trait Payloaded: Copy {
     /// no memory.
     fn put(&self, bytes: &mut [u8], at: usize)
         requires { at + item_size (scalars_of payload) ≤ length bytes.old }
-        ensures stored { bytes.new ≡ stored_at (scalars_of payload) bytes.old at (item self.now ∷ []) }
+        ensures stored { bytes.new
+            ≡ stored_at (scalars_of payload) bytes.old at (item self.now ∷ []) }
         ensures fits { FitsItem (scalars_of payload) (item self.now) }
     {
         lower_item_at(&self.lower(), Self::payload(), bytes, at);
@@ -56,7 +57,8 @@ pub trait Payloaded: Copy {
     /// no memory.
     fn take_bytes(values: &mut Vec<Self>) -> Option<Vec<u8>>
         ensures payload { IsSome result ↔ payload ≡ One U8 }
-        ensures bytes { IfSome result (λ bytes. map item values.old.items ≡ byte_items bytes.items) }
+        ensures bytes { IfSome result
+            (λ bytes. map item values.old.items ≡ byte_items bytes.items) }
         ensures gone { IsSome result → values.new.items ≡ [] }
         ensures others { IsNone result → values.new ≡ values.old };
 

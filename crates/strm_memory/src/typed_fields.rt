@@ -38,7 +38,8 @@ pub trait Field: Copy {
     /// scalar they stay. Takes no memory.
     fn take_bytes(values: &mut Vec<Self>) -> Option<Vec<u8>>
         ensures scalar { IsSome result ↔ scalar ≡ U8 }
-        ensures bytes { IfSome result (λ bytes. map number values.old.items ≡ map (λ b. pos b) bytes.items) }
+        ensures bytes { IfSome result
+            (λ bytes. map number values.old.items ≡ map (λ b. pos b) bytes.items) }
         ensures gone { IsSome result → values.new.items ≡ [] }
         ensures others { IsNone result → values.new ≡ values.old };
 

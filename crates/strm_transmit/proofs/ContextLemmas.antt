@@ -2,8 +2,8 @@
 -- one, which is no step.
 use Rattle.std.proofs.Common.{◌≡◌, ℕ, ◌+◌, ◌<◌, ◌≤◌, length, Option, None, Result, Ok, Err, refl, sym, ap, subst, ◌∙◌, arith}
 use Rattle.std.specs.Prelude.{OnOk, OnErr}
+use Rattle.strm_codes.specs.declared.counts.OutOfMemory.{OutOfMemory}
 use Rattle.strm_codes.specs.declared.refusals.Refusal.{Refusal}
-use Rattle.strm_handles.specs.Counters.{counted}
 use Rattle.strm_handles.specs.Handles.{Handles}
 use Rattle.strm_error_contexts.specs.Contexts.{Contexts, count_at, message_at}
 use Rattle.strm_machine.specs.State.{State, sets_in, with_handles}
@@ -19,7 +19,8 @@ use Rattle.strm_machine.proofs.SoundLemmas.{sizes_of-with_handles}
 use Rattle.strm_machine.proofs.TurnLemmas.{all_kept}
 use Rattle.strm_machine.proofs.ErrorContextLemmas.{count-live}
 use Rattle.strm_machine.proofs.ContextStepLemmas.{NamesContext, context_names}
-use Rattle.strm_channels.specs.Guests.{guests_of, live_in, sets_among, with_context_in}
+use Rattle.strm_channels.specs.Changes.{GivesHandle}
+use Rattle.strm_channels.specs.Guests.{guests_of, sets_among, with_context_in}
 use Rattle.strm_transmit.specs.Inside.{state_of, IsStore}
 use Rattle.strm_transmit.specs.Meets.{Meets, admitted, or_found}
 use Rattle.strm_transmit.specs.declared.store.Store.TheInside.{Inside}
@@ -85,14 +86,10 @@ pub message_is_short : (s : Inside) (number : ℕ) → IsStore s → length (byt
 message_is_short s number i = (i.sound.contexts.messages number).short
 
 -- what a call that gives a handle to an error context did where it answered, and where it did not
-pub record Gives {A E : Type 0} (r : Result A E) (old new : Inside) (g number : ℕ) (contexts : Contexts) : Type 0 where
-  pub guests : OnOk r (guests_of new.guests.items ≡ with_context_in (guests_of old.guests.items) g number)
+pub record Gives (r : Result ℕ OutOfMemory) (old new : Inside) (g number : ℕ) (contexts : Contexts) : Type 0 where
+  pub gives : GivesHandle (guests_of old.guests.items) (guests_of new.guests.items) (with_context_in (guests_of old.guests.items) g number) g old.counter new.counter r
   pub others : OnOk r (new.contexts ≡ contexts)
-  pub counter : OnOk r (new.counter ≡ counted old.counter)
-  pub live : OnOk r (live_in (guests_of new.guests.items) ≡ live_in (guests_of old.guests.items) + 1)
-  pub err : OnErr r (guests_of new.guests.items ≡ guests_of old.guests.items)
   pub same : OnErr r (new.contexts ≡ old.contexts)
-  pub kept : OnErr r (new.counter ≡ old.counter)
 
 module _ (old new : Inside) (g number : ℕ) (contexts : Contexts) (k : KeepsRest old new) where
   same_state : guests_of new.guests.items ≡ guests_of old.guests.items → new.contexts ≡ old.contexts → state_of new ≡ state_of old
@@ -106,11 +103,11 @@ module _ (old new : Inside) (g number : ℕ) (contexts : Contexts) (k : KeepsRes
       (subst IsSound (sym (same_state e f)) i.sound)
       (agrees_still old new (rw e (all_kept (guests_of old.guests.items))) (ap (λ (v : _). v.items) k.streams) k.ready i) i
 
-  pub IsStore-gives : {A E : Type 0} (r : Result A E) → Gives r old new g number contexts → old.counter.live < old.counter.limit → IsSound (context_given (state_of old) g number contexts) → StateIsHeld (context_given (state_of old) g number contexts) → IsStore old → IsStore new
+  pub IsStore-gives : (r : Result ℕ OutOfMemory) → Gives r old new g number contexts → old.counter.live < old.counter.limit → IsSound (context_given (state_of old) g number contexts) → StateIsHeld (context_given (state_of old) g number contexts) → IsStore old → IsStore new
   IsStore-gives (Ok v) h below sound held i =
-      IsStore-contexts old new g _ contexts k (record { guests = h.guests; others = h.others })
-      (more_counted old new k.limits h.counter h.live below i) sound held i
-  IsStore-gives (Err v) h below sound held i = same_store h.err h.same h.kept i
+      IsStore-contexts old new g _ contexts k (record { guests = h.gives.ok.guests; others = h.others })
+      (more_counted old new k.limits h.gives.ok.counter h.gives.ok.live below i) sound held i
+  IsStore-gives (Err v) h below sound held i = same_store h.gives.err h.same h.gives.kept i
 
 -- the message of an error context was put into a guest's memory
 pub texts-put : (old new : Inside) (g handle address number : ℕ) → PutsBytes old new g address (message_named (state_of old) g handle) → number ≡ length (message_named (state_of old) g handle) → texts (state_of old) g handle address ≡ goes (replies.Number number) (state_of new)

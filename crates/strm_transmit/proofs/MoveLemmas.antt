@@ -1,14 +1,13 @@
 -- The store after an end of a stream has another owner, and its handle was freed, given or neither.
-use Rattle.std.proofs.Common.{◌≡◌, ℕ, ◌+◌, ◌<◌, true, false, length, set, Option, None, refl, sym, ap, ◌∙◌, subst, ⊎_elim, inl, inr}
+use Rattle.std.proofs.Common.{◌≡◌, ℕ, ◌+◌, ◌<◌, true, false, length, set, Option, None, Ok, refl, sym, ap, ◌∙◌, subst, ⊎_elim, inl, inr}
 use Rattle.std.specs.Prelude.{count_by, is_ok}
 use Rattle.std.proofs.lemmas.Bool.{cases_lt}
 use Rattle.std.proofs.lemmas.List.{get_or_past, get_or-set_same, length-set}
 use Rattle.strm_codes.specs.declared.codes.TransmitIndex.{TransmitIndex}
-use Rattle.strm_handles.specs.Counters.{counted, uncounted}
 use Rattle.strm_waitable_sets.specs.Sets.{handle_left, set_of}
 use Rattle.strm_machine.specs.State.{State, sets_in, no_stream, stream_at, is_loose, is_held, is_host, is_live, sets_in_use}
 use Rattle.strm_machine.specs.Sides.{end_of}
-use Rattle.strm_machine.specs.Moves.{without_handle, next_in, with_owner}
+use Rattle.strm_machine.specs.Moves.{without_handle, with_owner}
 use Rattle.strm_machine.specs.Tests.{named, end_named, stream_named, side_named}
 use Rattle.strm_machine.specs.Refusals.{refusal}
 use Rattle.strm_machine.specs.Reactions.{Reaction, goes, transfers, lowers, performs}
@@ -29,7 +28,8 @@ use Rattle.strm_machine.proofs.ReactionLemmas.{reaction-performs}
 use Rattle.strm_machine.proofs.RefusalLemmas.{move_fits, lower_fits, close_fits}
 use Rattle.strm_machine.proofs.SoundLemmas.{IsSound-set, IsSound-freed, sizes_of-with_table, sizes_of-with_handles}
 use Rattle.strm_machine.proofs.SoundStepLemmas.{reaction-sound}
-use Rattle.strm_channels.specs.Guests.{guests_of, live_in, sets_among, without_handle_in, with_end_in}
+use Rattle.strm_channels.specs.Changes.{AddsHandle, FreesHandle, MovesEnd}
+use Rattle.strm_channels.specs.Guests.{guests_of, sets_among, without_handle_in, with_end_in}
 use Rattle.strm_transmit.specs.Inside.{state_of, AreServed, HavePlaces, IsStore}
 use Rattle.strm_transmit.specs.declared.store.Store.TheInside.{Inside}
 use Rattle.strm_transmit.proofs.ServedLemmas.{ComesNoHost, AreServed-set}
@@ -64,10 +64,9 @@ pub record LeavesHome (old : Inside) (g handle : ℕ) (between : Ready) : Type 0
   pub leaves : Leaves g handle home old.ready.items between
 
 -- a handle of a guest is freed and counted off
-pub record FreesHandle (old new : Inside) (g handle : ℕ) : Type 0 where
-  pub counter : new.counter ≡ uncounted old.counter
-  pub live : live_in (guests_of new.guests.items) + 1 ≡ live_in (guests_of old.guests.items)
-  pub guests : guests_of new.guests.items ≡ without_handle_in (guests_of old.guests.items) g handle
+abbrev pub Frees : Inside → Inside → ℕ → ℕ → Type 0
+Frees old new g handle =
+    FreesHandle (guests_of old.guests.items) (guests_of new.guests.items) (without_handle_in (guests_of old.guests.items) g handle) old.counter new.counter
 
 -- an owner that is no host end
 owned-comes : (side : Side) (stream : Stream) (owner : Owner) → is_host owner ≡ false → ComesNoHost stream (with_owner side stream owner)
@@ -145,7 +144,7 @@ module _ (old new : Inside) (s : ℕ) (side : Side) (owner : Owner) (between : R
       counts
       (IsSound-same (record (state_of old) { streams = new.streams.items }) (state_of new) (ap (λ (g : _). guests_of g.items) h.guests) refl o.same.contexts owned) (agrees_owned was now same h) i
 
-  agrees_released : (g handle : ℕ) → g < length (guests_of old.guests.items) → is_end s side (end_named (state_of old) g handle) ≡ true → is_held owner ≡ false → LeavesHome old g handle between → FreesHandle old new g handle → Agrees new
+  agrees_released : (g handle : ℕ) → g < length (guests_of old.guests.items) → is_end s side (end_named (state_of old) g handle) ≡ true → is_held owner ≡ false → LeavesHome old g handle between → Frees old new g handle → Agrees new
   agrees_released g handle there is now leaves h =
       let guests = guests_of old.guests.items in
       let freed = without_handle_in guests g handle in
@@ -162,7 +161,7 @@ module _ (old new : Inside) (s : ℕ) (side : Side) (owner : Owner) (between : R
             (but-besides guests guests old.streams.items more s old.ready.items (λ _ _ _. refl) (besides-set old.streams.items s given) i.told)));
       }
 
-  pub IsStore-released : (g handle : ℕ) → g < length (guests_of old.guests.items) → is_end s side (end_named (state_of old) g handle) ≡ true → is_held owner ≡ false → LeavesHome old g handle between → FreesHandle old new g handle → IsStore new
+  pub IsStore-released : (g handle : ℕ) → g < length (guests_of old.guests.items) → is_end s side (end_named (state_of old) g handle) ≡ true → is_held owner ≡ false → LeavesHome old g handle between → Frees old new g handle → IsStore new
   IsStore-released g handle there is now leaves h =
       let ok : is_ok (end_named (state_of old) g handle) ≡ true = is_end-ok s side (end_named (state_of old) g handle) is in
       IsStore-counted old new
@@ -179,16 +178,14 @@ module _ (old new : Inside) (s : ℕ) (side : Side) (owner : Owner) (between : R
 -- ## Handles that are given
 
 -- a handle of a guest is freed, and one is given to a guest
-pub record MovesHandle (old new : Inside) (side : Side) (end : NamedEnd) (to s : ℕ) : Type 0 where
-  pub counter : new.counter ≡ old.counter
-  pub live : live_in (guests_of new.guests.items) ≡ live_in (guests_of old.guests.items)
-  pub guests : guests_of new.guests.items ≡ with_end_in (without_handle_in (guests_of old.guests.items) end.guest end.handle) to side end.ty s
+abbrev pub Moves : Inside → Inside → Side → NamedEnd → ℕ → ℕ → ℕ → Type 0
+Moves old new side end to s number =
+    MovesEnd (guests_of old.guests.items) (guests_of new.guests.items) side end to s old.counter new.counter (Ok number)
 
 -- a handle is given and counted
-pub record GivesHandle (old new : Inside) (side : Side) (ty : TransmitIndex) (to s : ℕ) : Type 0 where
-  pub counter : new.counter ≡ counted old.counter
-  pub live : live_in (guests_of new.guests.items) ≡ live_in (guests_of old.guests.items) + 1
-  pub guests : guests_of new.guests.items ≡ with_end_in (guests_of old.guests.items) to side ty s
+abbrev pub Gives : Inside → Inside → Side → TransmitIndex → ℕ → ℕ → ℕ → Type 0
+Gives old new side ty to s number =
+    AddsHandle (guests_of old.guests.items) (guests_of new.guests.items) (with_end_in (guests_of old.guests.items) to side ty s) to old.counter new.counter number
 
 -- a step that nothing refuses leaves a sound state
 performs-sound : (state : State) (act : Act) → state.trapped ≡ false → refusal state act ≡ None → IsSound state → IsSound (performs state act).state
@@ -221,9 +218,9 @@ moved_made : (state : State) (end : NamedEnd) (to s : ℕ) → refusal state (Tr
 moved_made state end to s e same h = named_made state (side_named (named state end)) end s h (move_fits state end to e).leaves same
 
 -- the end of a stream went to a guest, under this handle
-module _ (old new : Inside) (s : ℕ) (side : Side) (end : NamedEnd) (to number : ℕ) (between : Ready) (o : SetsOwner old new s side (Held to number) between) (m : MovesHandle old new side end to s) (n : number ≡ next_in (without_handle (state_of old) end.guest end.handle) to) where
+module _ (old new : Inside) (s : ℕ) (side : Side) (end : NamedEnd) (to number : ℕ) (between : Ready) (o : SetsOwner old new s side (Held to number) between) (m : Moves old new side end to s number) where
   pub transfers-is : transfers (state_of old) s side end to ≡ goes (replies.Number number) (state_of new)
-  transfers-is = rw (o.same.tag, o.same.limits, o.same.producers, o.same.kept, o.same.consumers, o.same.contexts, o.same.trapped, m.guests, o.streams, n) refl
+  transfers-is = rw (o.same.tag, o.same.limits, o.same.producers, o.same.kept, o.same.consumers, o.same.contexts, o.same.trapped, m.guests, o.streams, m.number) refl
 
   agrees_moved : LeavesHome old end.guest end.handle between → refusal (state_of old) (Transfer end to) ≡ None → s ≡ stream_named (named (state_of old) end) → side ≡ side_named (named (state_of old) end) → IsStore old → Agrees new
   agrees_moved leaves e stream_is side_is i =
@@ -277,9 +274,9 @@ pub lower_made : (state : State) (reader g : ℕ) (ty : TransmitIndex) → refus
 lower_made state reader g ty e = loose_made state reader (lower_fits state reader g ty e).loose
 
 -- a loose end came into a guest, under this handle
-module _ (old new : Inside) (s g : ℕ) (ty : TransmitIndex) (number : ℕ) (o : SetsOwner old new s Reading (Held g number) old.ready.items) (m : GivesHandle old new Reading ty g s) (n : number ≡ next_in (state_of old) g) where
+module _ (old new : Inside) (s g : ℕ) (ty : TransmitIndex) (number : ℕ) (o : SetsOwner old new s Reading (Held g number) old.ready.items) (m : Gives old new Reading ty g s number) where
   pub lowers-is : lowers (state_of old) s g ty ≡ goes (replies.Number number) (state_of new)
-  lowers-is = rw (o.same.tag, o.same.limits, o.same.producers, o.same.kept, o.same.consumers, o.same.contexts, o.same.trapped, m.guests, o.streams, n) refl
+  lowers-is = rw (o.same.tag, o.same.limits, o.same.producers, o.same.kept, o.same.consumers, o.same.contexts, o.same.trapped, m.guests, o.streams, m.number) refl
 
   agrees_lowered : refusal (state_of old) (OnLoose s (Lower g ty)) ≡ None → IsStore old → Agrees new
   agrees_lowered e i =

@@ -75,7 +75,8 @@ fn find(handles: &[u32], handle: u32) -> Result<usize, usize>
 // Puts one at its place: whether there was room for it.
 fn insert_at(handles: &mut Vec<u32>, place: usize, handle: u32) -> bool
     requires inside { place ≤ length handles.old.items }
-    ensures { handles.new.items ≡ (if result then insert handles.old.items place handle else handles.old.items) }
+    ensures { handles.new.items
+        ≡ (if result then insert handles.old.items place handle else handles.old.items) }
 {
     if handles.len() == handles.capacity() {
         return false;

@@ -1,6 +1,6 @@
 use Rattle.std.proofs.Common.{arith, ap, sym, ◌∙◌}
 use Rattle.std.proofs.lemmas.List.{length-map}
-use Rattle.strm_handles.specs.Handles.{live_of, inserted}
+use Rattle.strm_handles.specs.Handles.{live_of, next_index, inserted}
 use Rattle.strm_handles.specs.declared.entries.Entry.TheVariants as entries
 use Rattle.strm_machine.specs.State as machine
 use Rattle.strm_machine.specs.State.{with_handles, guest_in}
@@ -9,17 +9,18 @@ use Rattle.strm_channels.proofs.GuestLemmas.{guest_in-seen, guests_of-with_handl
 use Rattle.strm_channels.proofs.EndLemmas.{live_after}
 use Rattle.strm_channels.proofs.contexts.insert_context.Goals as goal
 
-pub returns-clause-guests : goal.returns-clause-guests
-returns-clause-guests c =
-    let guests = c.args.guests.now.items in
-    guests_of-with_handles guests c.args.guest c.index_mut.result.now c.insert.new.table c.requires.there c.index_mut.ensures.value
-    ∙ ap (with_handles (guests_of guests) c.args.guest) (c.insert.ensures.handles
-    ∙ ap (λ (k : machine.Guest). inserted k.handles (entries.ErrorContext c.args.context)) (sym (guest_in-seen guests c.args.guest c.index_mut.result.now c.requires.there c.index_mut.ensures.value)))
-
-pub returns-clause-live : goal.returns-clause-live
-returns-clause-live c =
+pub returns-clause-adds : goal.returns-clause-adds
+returns-clause-adds c =
     let guests = c.args.guests.now.items in
     let read = guest_in-seen guests c.args.guest c.index_mut.result.now c.requires.there c.index_mut.ensures.value in
-    ap live_in (guests_of-with_handles guests c.args.guest c.index_mut.result.now c.insert.new.table c.requires.there c.index_mut.ensures.value)
-    ∙ live_after (guests_of guests) c.args.guest (record (guest_in (guests_of guests) c.args.guest) { handles = c.insert.new.table.handles }) (omega (arith, c.requires.there, length-map guests guest_of))
-    (omega (arith, c.insert.ensures.live, ap (λ (k : machine.Guest). live_of k.handles) read))
+    let now = guests_of-with_handles guests c.args.guest c.index_mut.result.now c.insert.new.table c.requires.there c.index_mut.ensures.value in
+    record {
+      number = c.insert.ensures.number ∙ ap (λ (k : machine.Guest). next_index k.handles) (sym read);
+      guests = now
+          ∙ ap (with_handles (guests_of guests) c.args.guest) (c.insert.ensures.handles
+          ∙ ap (λ (k : machine.Guest). inserted k.handles (entries.ErrorContext c.args.context)) (sym read));
+      counter = c.insert.ensures.counter;
+      live = ap live_in now
+          ∙ live_after (guests_of guests) c.args.guest (record (guest_in (guests_of guests) c.args.guest) { handles = c.insert.new.table.handles }) (omega (arith, c.requires.there, length-map guests guest_of))
+          (omega (arith, c.insert.ensures.live, ap (λ (k : machine.Guest). live_of k.handles) read));
+    }

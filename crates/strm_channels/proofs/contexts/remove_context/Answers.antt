@@ -10,20 +10,20 @@ use Rattle.strm_channels.proofs.EndLemmas.{live_less}
 use Rattle.strm_channels.proofs.ContextLemmas.{context_live}
 use Rattle.strm_channels.proofs.contexts.remove_context.Goals as goal
 
-pub returns-clause-guests : goal.returns-clause-guests
-returns-clause-guests c =
-    let guests = c.args.guests.now.items in
-    let g = c.args.guest in
-    let x = c.index_mut.result.now in
-    let read = guest_in-seen guests g x c.requires.there c.index_mut.ensures.value in
-    let named = rw read at c.requires.named in
-    let freed = was_ok c.error_context_drop.result _ (ap is_err (c.error_context_drop.ensures.answer ∙ named)) c.error_context_drop.ensures.removes.ok in
-    guests_of-with_handles guests g x c.error_context_drop.new.self c.requires.there c.index_mut.ensures.value
-    ∙ rw freed (ap (λ (k : machine.Guest). with_handles (guests_of guests) g (removed k.handles c.args.handle)) (sym read))
-
-pub returns-clause-live : goal.returns-clause-live
-returns-clause-live c =
+pub returns-clause-frees : goal.returns-clause-frees
+returns-clause-frees c =
     let guests = c.args.guests.now.items in
     let g = guest_in (guests_of guests) c.args.guest in
+    let x = c.index_mut.result.now in
+    let read = guest_in-seen guests c.args.guest x c.requires.there c.index_mut.ensures.value in
+    let named = rw read at c.requires.named in
+    let dropped = ap is_err (c.error_context_drop.ensures.answer ∙ named) in
+    let freed = was_ok c.error_context_drop.result _ dropped c.error_context_drop.ensures.removes.ok in
+    let now = guests_of-with_handles guests c.args.guest x c.error_context_drop.new.self c.requires.there c.index_mut.ensures.value
+    ∙ rw freed (ap (λ (k : machine.Guest). with_handles (guests_of guests) c.args.guest (removed k.handles c.args.handle)) (sym read)) in
     let there : c.args.guest < length (guests_of guests) = omega (arith, c.requires.there, length-map guests guest_of) in
-    omega (arith, ap live_in (returns-clause-guests c), live_less (guests_of guests) c.args.guest (record g { handles = removed g.handles c.args.handle }) there (context_live g.handles c.args.handle c.args.context c.requires.named))
+    record {
+      guests = now;
+      counter = was_ok c.error_context_drop.result _ dropped c.error_context_drop.ensures.removes.live;
+      live = omega (arith, ap live_in now, live_less (guests_of guests) c.args.guest (record g { handles = removed g.handles c.args.handle }) there (context_live g.handles c.args.handle c.args.context c.requires.named));
+    }

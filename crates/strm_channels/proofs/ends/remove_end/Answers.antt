@@ -10,16 +10,24 @@ use Rattle.strm_channels.proofs.GuestLemmas.{guest_in-seen, guests_of-with_table
 use Rattle.strm_channels.proofs.EndLemmas.{rooms_after, room_after, live_less, removable_live}
 use Rattle.strm_channels.proofs.ends.remove_end.Goals as goal
 
-pub returns-clause-guests : goal.returns-clause-guests
-returns-clause-guests c =
+pub returns-clause-frees : goal.returns-clause-frees
+returns-clause-frees c =
     let guests = c.args.guests.now.items in
     let end = c.args.end.now in
+    let g = guest_in (guests_of guests) end.guest in
     let x = c.index_mut-guest.result.now in
     let read = guest_in-seen guests end.guest x c.requires.there c.index_mut-guest.ensures.value in
     let idle = rw read at c.requires.idle in
-    let freed = was_ok c.try_remove.result _ (ap is_err (c.try_remove.ensures.answer ∙ idle)) c.try_remove.ensures.removes.ok in
-    guests_of-with_table guests end.guest x c.try_remove.new.table c.leave.new.self c.requires.there c.index_mut-guest.ensures.value
-    ∙ rw (freed, c.leave.ensures) (ap (λ (k : machine.Guest). with_table (guests_of guests) end.guest (removed k.handles end.handle) (handle_left k.sets end.handle)) (sym read))
+    let done = ap is_err (c.try_remove.ensures.answer ∙ idle) in
+    let freed = was_ok c.try_remove.result _ done c.try_remove.ensures.removes.ok in
+    let now = guests_of-with_table guests end.guest x c.try_remove.new.table c.leave.new.self c.requires.there c.index_mut-guest.ensures.value
+    ∙ rw (freed, c.leave.ensures) (ap (λ (k : machine.Guest). with_table (guests_of guests) end.guest (removed k.handles end.handle) (handle_left k.sets end.handle)) (sym read)) in
+    let less = removable_live c.args.side end.ty g.handles end.handle c.requires.idle in
+    record {
+      guests = now;
+      counter = was_ok c.try_remove.result _ done c.try_remove.ensures.removes.live;
+      live = omega (arith, ap live_in now, live_less (guests_of guests) end.guest (record g { handles = removed g.handles end.handle; sets = handle_left g.sets end.handle }) (omega (arith, c.requires.there, length-map guests guest_of)) less);
+    }
 
 pub returns-clause-rooms : goal.returns-clause-rooms
 returns-clause-rooms c = λ n.
@@ -40,12 +48,3 @@ returns-clause-room c =
     let idle = rw read at c.requires.idle in
     let more = was_ok c.try_remove.result _ (ap is_err (c.try_remove.ensures.answer ∙ idle)) c.try_remove.ensures.removes.room in
     omega (arith, more, room_after guests end.guest (record x { table = c.try_remove.new.table; sets = c.leave.new.self }) c.requires.there)
-
-pub returns-clause-live : goal.returns-clause-live
-returns-clause-live c =
-    let guests = c.args.guests.now.items in
-    let end = c.args.end.now in
-    let g = guest_in (guests_of guests) end.guest in
-    let less = removable_live c.args.side end.ty g.handles end.handle c.requires.idle in
-    let before = live_less (guests_of guests) end.guest (record g { handles = removed g.handles end.handle; sets = handle_left g.sets end.handle }) (omega (arith, c.requires.there, length-map guests guest_of)) less in
-    omega (arith, ap live_in (returns-clause-guests c), before)

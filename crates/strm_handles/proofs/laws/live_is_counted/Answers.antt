@@ -8,22 +8,24 @@ pub returns : goal.returns
 returns c = record {
   new = live_of-no_handles;
   insert = counts-inserted;
-  remove_stream_end = λ old new before after ty n most. (
-    counts-removed old new before after n _ most (unlent-stream ty (entry_at old.handles n) _),
-    counts-removed old new before after n _ most (unlent-stream ty (entry_at old.handles n) _),
-  );
-  remove_future_end = λ old new before after ty n most. (
-    counts-removed old new before after n _ most (unlent-future ty (entry_at old.handles n) _),
-    counts-removed old new before after n _ most (unlent-future ty (entry_at old.handles n) _),
-  );
-  remove_error_context = λ old new before after n most.
-      counts-removed old new before after n _ most (unlent-error_context (entry_at old.handles n));
-  remove_subtask = λ old new before after n most.
-      counts-removed old new before after n _ most (unlent-subtask (entry_at old.handles n));
-  remove_waitable_set = λ old new before after n most.
-      counts-removed old new before after n _ most (unlent-waitable_set (entry_at old.handles n));
-  remove_resource = λ old new before after idx most.
-      counts-removed old new before after idx.index _ most (unlent-resource idx.ty (entry_at old.handles idx.index));
+  removals = record {
+    stream_read_end = λ ty n old new before after most.
+        counts-removed old new before after n _ most (unlent-stream ty (entry_at old.handles n) _);
+    stream_write_end = λ ty n old new before after most.
+        counts-removed old new before after n _ most (unlent-stream ty (entry_at old.handles n) _);
+    future_read_end = λ ty n old new before after most.
+        counts-removed old new before after n _ most (unlent-future ty (entry_at old.handles n) _);
+    future_write_end = λ ty n old new before after most.
+        counts-removed old new before after n _ most (unlent-future ty (entry_at old.handles n) _);
+    error_context = λ n old new before after most.
+        counts-removed old new before after n _ most (unlent-error_context (entry_at old.handles n));
+    subtask = λ n old new before after most.
+        counts-removed old new before after n _ most (unlent-subtask (entry_at old.handles n));
+    waitable_set = λ n old new before after most.
+        counts-removed old new before after n _ most (unlent-waitable_set (entry_at old.handles n));
+    resource = λ idx old new before after most.
+        counts-removed old new before after idx.index _ most (unlent-resource idx.ty (entry_at old.handles idx.index));
+  };
   lend = λ h counter idx. counts-lent h counter idx.ty idx.index (entry_at h idx.index) refl;
   undo_lend = λ h counter idx most lend. counts-returned h counter idx.index (entry_at h idx.index) most refl lend;
   set_state = λ h ty n state. (live_of-stream_set h ty n state, live_of-future_set h ty n state);

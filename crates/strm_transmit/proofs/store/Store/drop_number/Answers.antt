@@ -27,11 +27,11 @@ invariant_of-self c =
     IsStore-dropped_set c.self.inside _ c.args.guest c.args.set c.args.number
     (record { same = record { tag = refl; limits = refl; producers = refl; kept = refl; consumers = refl; contexts = refl; trapped = refl }; streams = refl; live_streams = refl; bytes = refl })
     (record {
-      counter = c.remove_set.ensures.counter;
-      live = c.remove_set.ensures.live;
+      counter = c.remove_set.ensures.frees.counter;
+      live = c.remove_set.ensures.frees.live;
       sets = c.remove_set.ensures.sets;
       live_sets = refl;
-      guests = c.remove_set.ensures.guests;
+      guests = c.remove_set.ensures.frees.guests;
       ready = refl;
     })
     (rw (← c.self.view_is) at c.requires.may) (rw (← c.self.view_is) at c.requires.number) c.self.invariant

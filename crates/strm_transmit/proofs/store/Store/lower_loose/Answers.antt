@@ -44,7 +44,6 @@ invariant_of-self-2 c =
       retold = subst (λ (x : Stream). Retells (guests_of c.give_end.new.guests.items) x c.self.inside.ready.items c.retell.new.ready.items)
           (set_at c.self.inside.streams.items c.set_owner.new.streams.items c.args.reader _ c.index.result.now (lower_made (state_of c.self.inside) c.args.reader c.args.guest c.args.ty (rw (← c.self.view_is) at c.requires.may)) c.set_owner.ensures.streams c.index.ensures) c.retell.ensures;
     })
-    (record { counter = c.in_ok-handle.ensures.counter; live = c.in_ok-handle.ensures.live; guests = c.in_ok-handle.ensures.guests })
-    c.in_ok-handle.ensures.number
+    c.in_ok-handle.ensures.gives.ok
     (rw (← c.self.view_is) at c.requires.untrapped) (rw (← c.self.view_is) at c.requires.may)
     c.self.invariant

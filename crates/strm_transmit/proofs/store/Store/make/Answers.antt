@@ -48,16 +48,16 @@ invariant_of-self-2 c =
     let old = c.self.inside in
     let number : c.len-stream.result ≡ length old.streams.items = omega (arith, c.len-stream.ensures, old.streams.ok) in
     let joined = joined_is old c.args.writer c.args.reader c.args.ty c.in_ok-numbers.numbers c.new-joined.result
-    (c.in_ok-numbers.ensures.numbers ∙ ap (numbers_of old c.args.writer c.args.reader c.args.ty) number)
+    (c.in_ok-numbers.ensures.gives.numbers ∙ ap (numbers_of old c.args.writer c.args.reader c.args.ty) number)
     (rw (c.new-joined.ensures, c.kind-kind.ensures, c.payload-payload.ensures) refl) in
     let made : MakesStream c.self.inside (record c.self.inside { counter = c.insert_ends.new.counter; guests = c.insert_ends.new.guests; streams = c.push_reserved.new.self; live_streams = c.self.inside.live_streams + 1; ready = c.retell.new.ready }) c.args.writer c.args.reader c.args.ty = record {
       same = record { tag = refl; limits = refl; producers = refl; kept = refl; consumers = refl; contexts = refl; trapped = refl };
-      counter = c.in_ok-numbers.ensures.counter;
-      live = c.in_ok-numbers.ensures.live;
+      counter = c.in_ok-numbers.ensures.gives.counter;
+      live = c.in_ok-numbers.ensures.gives.live;
       live_streams = refl;
       live_sets = refl;
       bytes = refl;
-      guests = c.in_ok-numbers.ensures.guests ∙ ap (with_ends (guests_of old.guests.items) c.args.writer c.args.reader c.args.ty) number;
+      guests = c.in_ok-numbers.ensures.gives.guests ∙ ap (with_ends (guests_of old.guests.items) c.args.writer c.args.reader c.args.ty) number;
       streams = c.push_reserved.ensures.items ∙ rw c.in_ok-reserve.ensures.items (ap (λ (s : Stream). old.streams.items ++ s ∷ []) joined);
       retold = subst (λ (s : Stream). Retells (guests_of c.insert_ends.new.guests.items) s old.ready.items c.retell.new.ready.items) joined c.retell.ensures;
     } in
@@ -68,19 +68,19 @@ returns c =
     let old = c.self.inside in
     let number : c.len-stream.result ≡ length old.streams.items = omega (arith, c.len-stream.ensures, old.streams.ok) in
     let joined = joined_is old c.args.writer c.args.reader c.args.ty c.in_ok-numbers.numbers c.new-joined.result
-    (c.in_ok-numbers.ensures.numbers ∙ ap (numbers_of old c.args.writer c.args.reader c.args.ty) number)
+    (c.in_ok-numbers.ensures.gives.numbers ∙ ap (numbers_of old c.args.writer c.args.reader c.args.ty) number)
     (rw (c.new-joined.ensures, c.kind-kind.ensures, c.payload-payload.ensures) refl) in
     let made : MakesStream c.self.inside (record c.self.inside { counter = c.insert_ends.new.counter; guests = c.insert_ends.new.guests; streams = c.push_reserved.new.self; live_streams = c.self.inside.live_streams + 1; ready = c.retell.new.ready }) c.args.writer c.args.reader c.args.ty = record {
       same = record { tag = refl; limits = refl; producers = refl; kept = refl; consumers = refl; contexts = refl; trapped = refl };
-      counter = c.in_ok-numbers.ensures.counter;
-      live = c.in_ok-numbers.ensures.live;
+      counter = c.in_ok-numbers.ensures.gives.counter;
+      live = c.in_ok-numbers.ensures.gives.live;
       live_streams = refl;
       live_sets = refl;
       bytes = refl;
-      guests = c.in_ok-numbers.ensures.guests ∙ ap (with_ends (guests_of old.guests.items) c.args.writer c.args.reader c.args.ty) number;
+      guests = c.in_ok-numbers.ensures.gives.guests ∙ ap (with_ends (guests_of old.guests.items) c.args.writer c.args.reader c.args.ty) number;
       streams = c.push_reserved.ensures.items ∙ rw c.in_ok-reserve.ensures.items (ap (λ (s : Stream). old.streams.items ++ s ∷ []) joined);
       retold = subst (λ (s : Stream). Retells (guests_of c.insert_ends.new.guests.items) s old.ready.items c.retell.new.ready.items) joined c.retell.ensures;
     } in
     rw (← c.self.view_is)
     (performs-made old _ c.args.writer c.args.reader c.args.ty _ made
-    (pair_is old c.args.writer c.args.reader c.args.ty c.len-stream.result c.in_ok-numbers.numbers number c.in_ok-numbers.ensures.numbers))
+    (pair_is old c.args.writer c.args.reader c.args.ty c.len-stream.result c.in_ok-numbers.numbers number c.in_ok-numbers.ensures.gives.numbers))

@@ -28,7 +28,7 @@ invariant_of-self c =
     IsStore-gives c.self.inside _ c.args.guest _ _
     (record { tag = refl; limits = refl; trapped = refl; streams = refl; producers = refl; kept = refl; consumers = refl; live_streams = refl; live_sets = refl; bytes = refl; ready = refl })
     c.give_context.result
-    (record { guests = did.guests; others = did.contexts; counter = did.counter; live = did.live; err = did.err; same = did.same; kept = did.kept })
+    (record { gives = did.gives; others = did.contexts; same = did.same })
     (fits_below c.self.inside c.self.invariant fits.handle.handles)
     (with_context-sound (state_of c.self.inside) c.args.guest c.args.address c.args.len c.self.invariant.sound may)
     (with_context-held (state_of c.self.inside) c.args.guest c.args.address c.args.len c.self.invariant.sound c.self.invariant.held may)
@@ -42,7 +42,7 @@ invariant_of-self-2 c =
     IsStore-gives c.self.inside _ c.args.guest _ _
     (record { tag = refl; limits = refl; trapped = refl; streams = refl; producers = refl; kept = refl; consumers = refl; live_streams = refl; live_sets = refl; bytes = refl; ready = refl })
     c.give_context.result
-    (record { guests = did.guests; others = did.contexts; counter = did.counter; live = did.live; err = did.err; same = did.same; kept = did.kept })
+    (record { gives = did.gives; others = did.contexts; same = did.same })
     (fits_below c.self.inside c.self.invariant fits.handle.handles)
     (with_context-sound (state_of c.self.inside) c.args.guest c.args.address c.args.len c.self.invariant.sound may)
     (with_context-held (state_of c.self.inside) c.args.guest c.args.address c.args.len c.self.invariant.sound c.self.invariant.held may)

@@ -29,11 +29,11 @@ invariant_of-self-2 c =
     IsStore-made_set c.self.inside _ c.args.guest
     (record { same = record { tag = refl; limits = refl; producers = refl; kept = refl; consumers = refl; contexts = refl; trapped = refl }; streams = refl; live_streams = refl; bytes = refl })
     (record {
-      counter = c.in_ok-handle.ensures.counter;
-      live = c.in_ok-handle.ensures.live;
+      counter = c.in_ok-handle.ensures.gives.ok.counter;
+      live = c.in_ok-handle.ensures.gives.ok.live;
       sets = c.in_ok-handle.ensures.sets;
       live_sets = c.one_more-self-inside.ensures;
-      guests = c.in_ok-handle.ensures.guests;
+      guests = c.in_ok-handle.ensures.gives.ok.guests;
       ready = refl;
     })
     (rw (← c.self.view_is) at c.requires) c.self.invariant

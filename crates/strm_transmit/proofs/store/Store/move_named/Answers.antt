@@ -69,8 +69,7 @@ invariant_of-self-2 c =
       retold = subst (λ (x : Stream). Retells (guests_of c.move_end.new.guests.items) x c.leave.new.ready.items c.retell.new.ready.items)
           (set_at c.self.inside.streams.items c.set_owner.new.streams.items c.args.found.0 _ c.index.result.now made c.set_owner.ensures.streams c.index.ensures) c.retell.ensures;
     })
-    (record { counter = c.in_ok-handle.ensures.counter; live = c.in_ok-handle.ensures.live; guests = c.in_ok-handle.ensures.guests })
-    c.in_ok-handle.ensures.number
+    c.in_ok-handle.ensures.moves
     (record { home = c.home_of-home.result; is = c.home_of-home.ensures; leaves = c.leave.ensures })
     (rw (← c.self.view_is) at c.requires.untrapped) (rw (← c.self.view_is) at c.requires.may)
     (ap (λ (q : ℕ × Side). q.0) (rw (← c.self.view_is) at c.requires.found)) (ap (λ (q : ℕ × Side). q.1) (rw (← c.self.view_is) at c.requires.found))

@@ -48,4 +48,4 @@ invariant_of-self c =
     (subst (λ n. is_end n c.args.side (end_named state c.args.end.now.guest c.args.end.now.handle) ≡ true) (sym stream) (named_end_is state c.args.side c.args.end.now c.self.invariant.sound fits))
     c.requires.given
     (record { home = c.home_of-home.result; is = c.home_of-home.ensures; leaves = c.leave.ensures })
-    (record { counter = c.remove_end.ensures.counter; live = c.remove_end.ensures.live; guests = c.remove_end.ensures.guests })
+    c.remove_end.ensures.frees
