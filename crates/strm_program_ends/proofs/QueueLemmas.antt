@@ -15,8 +15,8 @@ use Rattle.strm_buffers.specs.Said.{in_room, past_room}
 use Rattle.strm_buffers.specs.Tells.{WriterTells, PollsWriter, RisesOnFailed, writer_record, writer_fed}
 use Rattle.strm_buffers.specs.declared.answers.Answer.{Answer}
 use Rattle.strm_program_ends.specs.Fed.{AllFed, more_fed}
-use Rattle.strm_program_ends.specs.Queues.{items_fed, most_given, items_given, queue_left, is_over, answer_by, answer_given}
-use Rattle.strm_program_ends.specs.QueueTells.{queue_of, queue_tells}
+use Rattle.strm_program_ends.specs.Queues.{items_fed, most_given, queue_left, is_over, answer_by}
+use Rattle.strm_program_ends.specs.QueueTells.{queue_of, queue_tells, GivesNext, SameFed}
 use Rattle.strm_program_ends.specs.declared.queue_writer.QueueWriter.{QueueWriter}
 use Rattle.strm_program_ends.specs.Polls.{said_of, said_kept, IsPoll}
 use Rattle.strm_program_ends.specs.declared.polls.Poll.{Poll}
@@ -95,31 +95,28 @@ no_fault false finish (suc n) zero = omega arith
 no_fault over finish (suc n) (suc k) = omega arith
 
 -- what a poll leaves
-pub record Gives (old new : QueueWriter) (window after : Lent) (finish : Bool) (a : Answer) : Type 0 where
-  pub marked : after.marked ≡ items_given old.kind (room_of window.place) (queue_of old)
-  pub answer : a ≡ answer_given old.kind (room_of window.place) finish (queue_of old)
-  pub said : said_kept new.fed.payload new.fed.items new.polls.items ≡ said_kept old.fed.payload old.fed.items old.polls.items ++ record { room = room_of window.place; finish = finish; payload = window.payload; items = after.marked; answer = a } ∷ []
+pub record Polled (old new : QueueWriter) (window after : Lent) (finish : Bool) (a : Answer) : Type 0 where
+  pub gives : GivesNext old new window after finish a
+  pub said : (queue_tells new).said ≡ (queue_tells old).said ++ writer_record window finish after.marked [] a ∷ []
   pub fit : AreItems (scalars_of old.fed.payload) after.marked
-  pub fed : new.fed ≡ old.fed
-  pub kind : new.kind ≡ old.kind
-  pub closed : new.closed ≡ old.closed
+  pub same : SameFed old new
 
-pub gives_polls : (old new : QueueWriter) (window after : Lent) (finish : Bool) (a : Answer) → Gives old new window after finish a → PollsWriter (queue_tells old) (queue_tells new) (writer_record window finish after.marked [] a) after.marked
+pub gives_polls : (old new : QueueWriter) (window after : Lent) (finish : Bool) (a : Answer) → Polled old new window after finish a → PollsWriter (queue_tells old) (queue_tells new) (writer_record window finish after.marked [] a) after.marked
 gives_polls old new window after finish a g =
     let room = room_of window.place in
     let all : after.marked ++ [] ≡ after.marked = append-nil after.marked in
-    let rises : RisesOnFailed a 0 0 = rw g.answer (no_fault (is_over old.kind old.is_ended) finish (length (queue_of old).items) (length (queue_left old.kind room (queue_of old)).items)) in
-    rw all (record {
+    let rises : RisesOnFailed a 0 0 = rw g.gives.answers (no_fault (is_over old.kind old.is_ended) finish (length (queue_of old).items) (length (queue_left old.kind room (queue_of old)).items)) in
+    record {
       said_more = g.said;
-      fits = g.fit;
-      marks = rw g.marked (sym (in_room_given old.kind room (queue_of old).items));
-      holds = rw g.marked (sym (past_room_given old.kind room (queue_of old).items));
+      fits = rw all g.fit;
+      marks = rw (all, g.gives.items) (sym (in_room_given old.kind room (queue_of old).items));
+      holds = rw (all, g.gives.items) (sym (past_room_given old.kind room (queue_of old).items));
       faults = rises;
-      closed = g.closed;
-      heard = ap (λ (f : AllFed). Some f.heard) g.fed;
-      kind = g.kind;
-      payload = ap (λ (f : AllFed). f.payload) g.fed;
-    })
+      closed = g.same.closed;
+      heard = ap (λ (f : AllFed). Some f.heard) g.same.fed;
+      kind = g.same.kind;
+      payload = ap (λ (f : AllFed). f.payload) g.same.fed;
+    }
 
 -- what a writer tells that was fed so
 abbrev tells_of : TransmitKind → AllFed → List Poll → Bool → WriterTells

@@ -1,10 +1,14 @@
 -- What a host reader with a credit tells, what it does in a poll, and what a grant adds. Ours.
-use Rattle.std.specs.Prelude.{ℕ, ◌+◌, ◌-◌, ◌^◌, ◌==◌, min, Bool, true, false, ◌&&◌, ◌||◌, nat_lt, if◌then◌else◌, [], map, Some, None}
+use Rattle.std.specs.Prelude.{◌≡◌, ℕ, ◌+◌, ◌-◌, ◌^◌, ◌==◌, min, Bool, true, false, ◌&&◌, ◌||◌, nat_lt, if◌then◌else◌, [], map, Some, None}
 use Rattle.strm_codes.specs.declared.codes.TransmitKind.{TransmitKind}
 use Rattle.strm_codes.specs.declared.codes.TransmitKind.TheVariants.{Stream, Future}
 use Rattle.strm_codes.specs.declared.payloads.Payload.{Payload}
+use Rattle.strm_codes.specs.declared.codes.StreamResult.{StreamResult}
+use Rattle.strm_buffers.specs.declared.answers.Turn.{Turn}
 use Rattle.strm_buffers.specs.declared.answers.Answer.{Answer}
 use Rattle.strm_buffers.specs.declared.answers.Answer.TheVariants.{Pending, Completed, Cancelled, Dropped}
+use Rattle.strm_buffers.specs.Offers.{Offered, items_lent, after_taking}
+use Rattle.strm_buffers.specs.Said.{IfAnswered}
 use Rattle.strm_buffers.specs.Tells.{ReaderTells}
 use Rattle.strm_program_ends.specs.declared.credit_reader.CreditReader.{CreditReader}
 
@@ -44,3 +48,11 @@ credit_answer kind credit ended offered taken finish =
     else if nat_lt 0 taken || (is_stream kind && ((offered == 0) && nat_lt 0 credit)) then Completed
     else if finish then Cancelled
     else Pending
+
+-- what it does in a poll: it takes what it has credit for, up to a bad item, its credit falls by that,
+-- and it answers by what is left of it
+pub record TakesByCredit (old new : CreditReader) (before after : Offered) (finish : Bool) (turn : Turn StreamResult) : Type 0 where
+  pub takes : IfAnswered turn (λ _. after ≡ after_taking old.credit before)
+  pub credit : new.credit ≡ old.credit - after.taken
+  pub ended : new.is_ended ≡ old.is_ended
+  pub answers : IfAnswered turn (λ answer. answer ≡ credit_answer old.kind new.credit old.is_ended (items_lent before.source) after.taken finish)

@@ -1,11 +1,14 @@
 -- What a scripted host writer does, and how often it failed. Ours.
-use Rattle.std.specs.Prelude.{ℕ, ◌+◌, List, [], ◌∷◌, false, None}
+use Rattle.std.specs.Prelude.{◌≡◌, ℕ, ◌+◌, List, [], ◌∷◌, ◌++◌, drop, Bool, false, None}
 use Rattle.strm_codes.specs.declared.codes.TransmitKind.{TransmitKind}
 use Rattle.strm_codes.specs.declared.payloads.Payload.{Payload}
 use Rattle.strm_buffers.specs.declared.answers.Answer.{Answer}
 use Rattle.strm_buffers.specs.declared.answers.Answer.TheVariants.{Pending, Failed}
+use Rattle.strm_codes.specs.Layout.{scalars_of}
+use Rattle.strm_memory.specs.Items.{AreItems}
 use Rattle.strm_buffers.specs.Listing.{Item}
-use Rattle.strm_buffers.specs.Said.{WriterSaid}
+use Rattle.strm_buffers.specs.Windows.{Lent, room_of}
+use Rattle.strm_buffers.specs.Said.{WriterSaid, in_room, past_room}
 use Rattle.strm_buffers.specs.Tells.{WriterTells}
 use Rattle.strm_program_ends.specs.declared.scripted_writer.WriterTurn.{WriterTurn}
 use Rattle.strm_program_ends.specs.declared.scripted_writer.ScriptedWriter.{ScriptedWriter}
@@ -47,3 +50,49 @@ scripted_tells w =
 abbrev pub unpolled_writer : TransmitKind → Payload → WriterTells
 unpolled_writer kind payload =
     record { kind = kind; payload = payload; said = []; holds = []; faults = 0; closed = false; heard = None }
+
+-- WHAT IT DOES IN A POLL
+
+-- it does its next turn: what it marks, and what it holds since there was no room, are all that this produces
+pub record DoesNextTurn (old new : ScriptedWriter) (after : Lent) (answer : Answer) : Type 0 where
+  pub answers : answer ≡ next_answer old.turns.items
+  pub items : after.marked ++ new.held.items ≡ next_items old.turns.items
+  pub turns : new.turns.items ≡ drop 1 old.turns.items
+
+-- turns that do the same
+pub record SameTurns (old new : List WriterTurn) : Type 0 where
+  pub answer : next_answer new ≡ next_answer old
+  pub items : next_items new ≡ next_items old
+  pub behind : drop 1 new ≡ drop 1 old
+
+-- the record of a poll that does the next of these turns
+abbrev pub turn_record : Lent → Bool → List WriterTurn → WriterSaid
+turn_record window finish turns =
+    record {
+      room = room_of window.place;
+      finish = finish;
+      payload = window.payload;
+      items = next_items turns;
+      answer = next_answer turns;
+    }
+
+-- the next turn was played: what there is room for is marked, the rest is held, and it is recorded
+pub record PlaysTurn (old new : ScriptedWriter) (before after : Lent) (finish : Bool) (answer : Answer) : Type 0 where
+  pub answers : answer ≡ next_answer old.turns.items
+  pub marked : after.marked ≡ in_room (room_of before.place) (next_items old.turns.items)
+  pub held : new.held.items ≡ past_room (room_of before.place) (next_items old.turns.items)
+  pub said : new.said.items ≡ old.said.items ++ turn_record before finish old.turns.items ∷ []
+  pub fit : AreItems (scalars_of old.payload) (next_items old.turns.items)
+  pub turns : new.turns.items ≡ drop 1 old.turns.items
+
+-- no turn was played
+pub record PlaysNone (old new : ScriptedWriter) : Type 0 where
+  pub said : new.said.items ≡ old.said.items
+  pub turns : new.turns.items ≡ old.turns.items
+  pub held : new.held.items ≡ old.held.items
+
+-- what a poll leaves as it is: of what type the writer is, and whether it was closed
+pub record SameType (old new : ScriptedWriter) : Type 0 where
+  pub kind : new.kind ≡ old.kind
+  pub payload : new.payload ≡ old.payload
+  pub closed : new.closed ≡ old.closed

@@ -1,9 +1,13 @@
 -- What a scripted host reader does, what it tells, and how often it failed. Ours.
-use Rattle.std.specs.Prelude.{ℕ, ◌+◌, List, [], ◌∷◌, slice_index_or, false, Some, None}
+use Rattle.std.specs.Prelude.{◌≡◌, ℕ, ◌+◌, List, [], ◌∷◌, length, slice_index_or, false, Some, None}
 use Rattle.strm_codes.specs.declared.codes.TransmitKind.{TransmitKind}
 use Rattle.strm_codes.specs.declared.payloads.Payload.{Payload}
+use Rattle.strm_codes.specs.declared.codes.StreamResult.{StreamResult}
+use Rattle.strm_buffers.specs.declared.answers.Turn.{Turn}
 use Rattle.strm_buffers.specs.declared.answers.Answer.TheVariants.{Pending}
 use Rattle.strm_buffers.specs.declared.answers.ReaderSaid.{ReaderSaid}
+use Rattle.strm_buffers.specs.Offers.{Offered, after_taking}
+use Rattle.strm_buffers.specs.Said.{IfAnswered}
 use Rattle.strm_buffers.specs.Tells.{ReaderTells}
 use Rattle.strm_program_ends.specs.Scripts.{faults_of_answer}
 use Rattle.strm_program_ends.specs.Kept.{items_kept}
@@ -40,3 +44,13 @@ unpolled_reader kind payload =
 -- and where it does not keep what it takes
 abbrev pub unpolled_discarding : TransmitKind → Payload → ReaderTells
 unpolled_discarding kind payload = record (unpolled_reader kind payload) { holds = None }
+
+-- the turn that its next poll does: that of its place among the polls
+abbrev pub turn_due : ScriptedReader → ReaderTurn
+turn_due reader = turn_after reader.turns.items (length reader.said.items)
+
+-- what it does in a poll: the turn that is due, and its turns stay
+pub record DoesTurn (old new : ScriptedReader) (before after : Offered) (turn : Turn StreamResult) : Type 0 where
+  pub takes : IfAnswered turn (λ _. after ≡ after_taking (turn_due old).take before)
+  pub answers : IfAnswered turn (λ answer. answer ≡ (turn_due old).answer)
+  pub turns : new.turns ≡ old.turns

@@ -54,12 +54,12 @@ impl CreditReader {
 }
 
 impl HostReader for CreditReader {
-    ghost use Rattle.std.specs.Prelude.{◌==◌, ◌-◌, ◌||◌, true, OnOk, OnErr};
+    ghost use Rattle.std.specs.Prelude.{◌==◌, ◌||◌, true, OnOk, OnErr};
     ghost use Rattle.strm_codes.specs.Layout.{scalars_of};
-    ghost use Rattle.strm_buffers.specs.Offers.{items_lent, after_taking, IsBadNext};
+    ghost use Rattle.strm_buffers.specs.Offers.{IsBadNext};
     ghost use Rattle.strm_buffers.specs.Said.{IfAnswered, IfNoMemory};
     ghost use Rattle.strm_buffers.specs.Tells.{PollsReader, KeepsReader, SameOffer, reader_record, first_lent, reader_tells_closed, reader_granted};
-    ghost use Rattle.strm_program_ends.specs.Credits.{credit_tells, credit_answer, with_credit};
+    ghost use Rattle.strm_program_ends.specs.Credits.{credit_tells, with_credit, TakesByCredit};
 
     ghost reader_tells = { credit_tells };
 
@@ -87,13 +87,7 @@ impl HostReader for CreditReader {
         ensures same { SameOffer offer.old offer.new }
 
         // It takes what it has credit for, up to a bad item, and answers by what is left of it.
-        ensures takes { IfAnswered result (λ _.
-            offer.new ≡ after_taking self.old.credit offer.old) }
-        ensures credit { self.new.credit ≡ self.old.credit - offer.new.taken }
-        ensures ended { self.new.is_ended ≡ self.old.is_ended }
-        ensures answer { IfAnswered result (λ answer.
-            answer ≡ credit_answer self.old.kind self.new.credit
-            self.old.is_ended (items_lent offer.old.source) offer.new.taken finish) }
+        ensures by_credit { TakesByCredit self.old self.new offer.old offer.new finish result }
     {
         match self.said.reserve(1) {
             Ok(()) => {}
@@ -117,7 +111,8 @@ impl HostReader for CreditReader {
     }
 
     fn grant(&mut self, count: u32) -> Result<(), OutOfMemory>
-        ensures ok { OnOk result (credit_tells self.new ≡ reader_granted (credit_tells self.old) count) }
+        ensures ok { OnOk result
+            (credit_tells self.new ≡ reader_granted (credit_tells self.old) count) }
         ensures err { OnErr result (credit_tells self.new ≡ credit_tells self.old) }
 
         // It adds to the credit, and a grant of 0 ends it.

@@ -33,8 +33,8 @@ pub struct QueueWriter {
     is_ended: bool,
     polls: Vec<Poll>,
     closed: bool,
-    ghost counted: { writer_given ≤ length writer_fed.items },
-    ghost polled: { All (IsPoll writer_fed.items) polls.items },
+    ghost counted: { given ≤ length fed.items },
+    ghost polled: { All (IsPoll fed.items) polls.items },
 }
 
 impl QueueWriter {
@@ -62,8 +62,8 @@ impl HostWriter for QueueWriter {
     ghost use Rattle.strm_buffers.specs.Windows.{Between, room_of};
     ghost use Rattle.strm_buffers.specs.Said.{in_room, IfAnswered, IfNoMemory};
     ghost use Rattle.strm_buffers.specs.Tells.{PollsWriter, KeepsWriter, ClosesWriter, Fills, writer_record, writer_given, writer_fed};
-    ghost use Rattle.strm_program_ends.specs.Queues.{items_given, queue_left, answer_given, queue_fed};
-    ghost use Rattle.strm_program_ends.specs.QueueTells.{queue_tells, queue_of};
+    ghost use Rattle.strm_program_ends.specs.Queues.{queue_fed};
+    ghost use Rattle.strm_program_ends.specs.QueueTells.{queue_tells, queue_of, GivesNext};
 
     ghost writer_tells = { queue_tells };
 
@@ -89,12 +89,8 @@ impl HostWriter for QueueWriter {
         ensures fills { Fills window.old window.new }
 
         // It gives and answers what its queue, the room and `finish` say.
-        ensures items { IfAnswered result (λ _. window.new.marked
-            ≡ items_given self.old.kind (room_of window.old.place) (queue_of self.old)) }
-        ensures answer { IfAnswered result (λ answer. answer
-            ≡ answer_given self.old.kind (room_of window.old.place) finish (queue_of self.old)) }
-        ensures queue { IfAnswered result (λ _. queue_of self.new
-            ≡ queue_left self.old.kind (room_of window.old.place) (queue_of self.old)) }
+        ensures gives { IfAnswered result
+            (GivesNext self.old self.new window.old window.new finish) }
         ensures same_queue { IfNoMemory result (queue_of self.new ≡ queue_of self.old) }
     {
         match self.give_next(window, finish) {
@@ -127,7 +123,8 @@ impl HostWriter for QueueWriter {
     }
 
     fn feed(&mut self, bytes: &[u8]) -> Result<(), OutOfMemory>
-        ensures ok { OnOk result (queue_tells self.new ≡ writer_fed (queue_tells self.old) bytes.now) }
+        ensures ok { OnOk result
+            (queue_tells self.new ≡ writer_fed (queue_tells self.old) bytes.now) }
         ensures err { OnErr result (queue_tells self.new ≡ queue_tells self.old) }
 
         // Its items go to the end of the queue.
@@ -169,33 +166,23 @@ impl QueueWriter {
     ghost use Rattle.std.specs.Prelude.{◌+◌, [], ◌∷◌, ◌++◌, true, IfOk, OnOk, OnErr};
     ghost use Rattle.strm_codes.specs.Layout.{scalars_of};
     ghost use Rattle.strm_memory.specs.Items.{AreItems};
-    ghost use Rattle.strm_buffers.specs.Windows.{room_of};
-    ghost use Rattle.strm_buffers.specs.Tells.{Fills};
-    ghost use Rattle.strm_program_ends.specs.Queues.{items_given, queue_left, is_over, answer_by, answer_given};
-    ghost use Rattle.strm_program_ends.specs.Polls.{said_kept};
-    ghost use Rattle.strm_program_ends.specs.QueueTells.{queue_of};
+    ghost use Rattle.strm_buffers.specs.Tells.{Fills, writer_record};
+    ghost use Rattle.strm_program_ends.specs.Queues.{is_over, answer_by};
+    ghost use Rattle.strm_program_ends.specs.QueueTells.{queue_tells, queue_of, GivesNext, SameFed};
 
     // Gives the next items, and adds the record. After `OutOfMemory`, which comes with a full list of
     // records or between host ends, none is given and none is added.
     fn give_next(&mut self, window: &mut Window, finish: bool) -> Result<Answer, OutOfMemory>
         requires payload { window.old.payload ≡ self.old.fed.payload }
         requires nothing_marked { window.old.marked ≡ [] }
-        ensures marked { OnOk result (window.new.marked
-            ≡ items_given self.old.kind (room_of window.old.place) (queue_of self.old)) }
-        ensures answer { IfOk result (λ answer. answer
-            ≡ answer_given self.old.kind (room_of window.old.place) finish (queue_of self.old)) }
-        ensures queue { OnOk result (queue_of self.new
-            ≡ queue_left self.old.kind (room_of window.old.place) (queue_of self.old)) }
-        ensures said { IfOk result (λ answer.
-            said_kept self.new.fed.payload self.new.fed.items self.new.polls.items
-            ≡ said_kept self.old.fed.payload self.old.fed.items self.old.polls.items
-            ++ record { room = room_of window.old.place; finish = finish; payload = window.old.payload; items = window.new.marked; answer = answer } ∷ []) }
+        ensures gives { IfOk result (GivesNext self.old self.new window.old window.new finish) }
+        ensures said { IfOk result (λ answer. (queue_tells self.new).said
+            ≡ (queue_tells self.old).said
+            ++ writer_record window.old finish window.new.marked [] answer ∷ []) }
         ensures fit { OnOk result (AreItems (scalars_of self.old.fed.payload) window.new.marked) }
         ensures err { OnErr result (self.new.polls.items ≡ self.old.polls.items) }
         ensures same_queue { OnErr result (queue_of self.new ≡ queue_of self.old) }
-        ensures same_fed { self.new.fed ≡ self.old.fed }
-        ensures kind { self.new.kind ≡ self.old.kind }
-        ensures closed { self.new.closed ≡ self.old.closed }
+        ensures same_fed { SameFed self.old self.new }
         ensures fills { Fills window.old window.new }
     {
         self.polls.reserve(1)?;

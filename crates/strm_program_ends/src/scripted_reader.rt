@@ -94,10 +94,10 @@ impl ScriptedReader {
 impl HostReader for ScriptedReader {
     ghost use Rattle.std.specs.Prelude.{false, OnErr};
     ghost use Rattle.strm_codes.specs.Layout.{scalars_of};
-    ghost use Rattle.strm_buffers.specs.Offers.{after_taking, IsBadNext};
+    ghost use Rattle.strm_buffers.specs.Offers.{IsBadNext};
     ghost use Rattle.strm_buffers.specs.Said.{IfAnswered, IfNoMemory};
     ghost use Rattle.strm_buffers.specs.Tells.{PollsReader, KeepsReader, SameOffer, reader_record, first_lent, reader_tells_closed, reader_granted};
-    ghost use Rattle.strm_program_ends.specs.Takings.{scripted_reader_tells, turn_after};
+    ghost use Rattle.strm_program_ends.specs.Takings.{scripted_reader_tells, DoesTurn};
 
     ghost reader_tells = { scripted_reader_tells };
 
@@ -125,12 +125,7 @@ impl HostReader for ScriptedReader {
         ensures same { SameOffer offer.old offer.new }
 
         // It does the turn of its place among the polls.
-        ensures takes { IfAnswered result (λ _. offer.new ≡
-            after_taking
-            (turn_after self.old.turns.items (length self.old.said.items)).take offer.old) }
-        ensures answer { IfAnswered result (λ answer. answer ≡
-            (turn_after self.old.turns.items (length self.old.said.items)).answer) }
-        ensures turns { self.new.turns ≡ self.old.turns }
+        ensures does_turn { DoesTurn self.old self.new offer.old offer.new result }
     {
         match self.said.reserve(1) {
             Ok(()) => {}
@@ -159,7 +154,8 @@ impl HostReader for ScriptedReader {
 
     fn grant(&mut self, _count: u32) -> Result<(), OutOfMemory>
         ensures ok { OnOk result
-            (scripted_reader_tells self.new ≡ reader_granted (scripted_reader_tells self.old) _count) }
+            (scripted_reader_tells self.new
+            ≡ reader_granted (scripted_reader_tells self.old) _count) }
         ensures err { OnErr result
             (scripted_reader_tells self.new ≡ scripted_reader_tells self.old) }
 
@@ -217,11 +213,11 @@ fn keep(kept: &mut Vec<u8>, keeps: bool, more: &[u8])
 }
 
 impl ScriptedReader {
-    ghost use Rattle.strm_program_ends.specs.Takings.{turn_after};
+    ghost use Rattle.strm_program_ends.specs.Takings.{turn_due};
 
     // The turn of the next poll.
     fn next_turn(&self) -> ReaderTurn
-        ensures { result ≡ turn_after self.now.turns.items (length self.now.said.items) }
+        ensures { result ≡ turn_due self.now }
     {
         let done = self.said.len();
         if done < self.turns.len() {

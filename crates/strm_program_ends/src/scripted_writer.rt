@@ -65,11 +65,11 @@ impl ScriptedWriter {
 }
 
 impl HostWriter for ScriptedWriter {
-    ghost use Rattle.std.specs.Prelude.{[], ◌++◌, drop, true, OnOk, OnErr};
+    ghost use Rattle.std.specs.Prelude.{[], true, OnOk, OnErr};
     ghost use Rattle.strm_buffers.specs.Windows.{Between, room_of};
     ghost use Rattle.strm_buffers.specs.Said.{in_room, IfAnswered, IfNoMemory};
     ghost use Rattle.strm_buffers.specs.Tells.{PollsWriter, KeepsWriter, ClosesWriter, Fills, writer_record, writer_given, writer_fed};
-    ghost use Rattle.strm_program_ends.specs.Scripts.{scripted_tells, next_items, next_answer};
+    ghost use Rattle.strm_program_ends.specs.Scripts.{scripted_tells, DoesNextTurn, SameTurns};
 
     ghost writer_tells = { scripted_tells };
 
@@ -94,20 +94,10 @@ impl HostWriter for ScriptedWriter {
             (KeepsWriter (scripted_tells self.old) (scripted_tells self.new)) }
         ensures fills { Fills window.old window.new }
 
-        // It does its next turn.
-        ensures answer { IfAnswered result (λ answer. answer ≡ next_answer self.old.turns.items) }
-        ensures items { IfAnswered result (λ _.
-            window.new.marked ++ self.new.held.items ≡ next_items self.old.turns.items) }
-        ensures turns { IfAnswered result (λ _.
-            self.new.turns.items ≡ drop 1 self.old.turns.items) }
-
-        // Without memory its turns are those that they were.
-        ensures same_answer { IfNoMemory result
-            (next_answer self.new.turns.items ≡ next_answer self.old.turns.items) }
-        ensures same_items { IfNoMemory result
-            (next_items self.new.turns.items ≡ next_items self.old.turns.items) }
-        ensures same_behind { IfNoMemory result
-            (drop 1 self.new.turns.items ≡ drop 1 self.old.turns.items) }
+        // It does its next turn; without memory its turns do what they did.
+        ensures does_turn { IfAnswered result (DoesNextTurn self.old self.new window.new) }
+        ensures same_turns { IfNoMemory result
+            (SameTurns self.old.turns.items self.new.turns.items) }
     {
         match self.find_turn() {
             Ok(()) => {}
@@ -175,25 +165,17 @@ impl HostWriter for ScriptedWriter {
 }
 
 impl ScriptedWriter {
-    ghost use Rattle.std.specs.Prelude.{◌<◌, [], ◌∷◌, ◌++◌, true, drop, vec_len, IfOk, OnOk, OnErr};
-    ghost use Rattle.strm_codes.specs.Layout.{scalars_of};
-    ghost use Rattle.strm_memory.specs.Items.{AreItems};
-    ghost use Rattle.strm_buffers.specs.Windows.{room_of};
-    ghost use Rattle.strm_buffers.specs.Said.{in_room, past_room};
-    ghost use Rattle.strm_buffers.specs.Tells.{Fills, writer_record};
-    ghost use Rattle.strm_program_ends.specs.Scripts.{next_items, next_answer};
+    ghost use Rattle.std.specs.Prelude.{◌<◌, [], vec_len, IfOk, OnOk, OnErr};
+    ghost use Rattle.strm_buffers.specs.Tells.{Fills};
+    ghost use Rattle.strm_program_ends.specs.Scripts.{SameTurns, PlaysTurn, PlaysNone, SameType};
 
     // Sees that there is a turn to do: after the last, one without items.
     fn find_turn(&mut self) -> Result<(), OutOfMemory>
         ensures found { OnOk result (0 < vec_len self.new.turns) }
-        ensures items { next_items self.new.turns.items ≡ next_items self.old.turns.items }
-        ensures answer { next_answer self.new.turns.items ≡ next_answer self.old.turns.items }
-        ensures behind { drop 1 self.new.turns.items ≡ drop 1 self.old.turns.items }
-        ensures kind { self.new.kind ≡ self.old.kind }
-        ensures payload { self.new.payload ≡ self.old.payload }
+        ensures turns { SameTurns self.old.turns.items self.new.turns.items }
+        ensures same_type { SameType self.old self.new }
         ensures said { self.new.said.items ≡ self.old.said.items }
         ensures held { self.new.held.items ≡ self.old.held.items }
-        ensures closed { self.new.closed ≡ self.old.closed }
     {
         if !self.turns.is_empty() {
             return Ok(());
@@ -211,24 +193,9 @@ impl ScriptedWriter {
         requires payload { window.old.payload ≡ self.old.payload }
         requires nothing_marked { window.old.marked ≡ [] }
         requires next { 0 < vec_len self.old.turns }
-        ensures answer { IfOk result (λ answer. answer ≡ next_answer self.old.turns.items) }
-        ensures marked { OnOk result
-            (window.new.marked
-            ≡ in_room (room_of window.old.place) (next_items self.old.turns.items)) }
-        ensures held { OnOk result
-            (self.new.held.items
-            ≡ past_room (room_of window.old.place) (next_items self.old.turns.items)) }
-        ensures said { OnOk result (self.new.said.items ≡ self.old.said.items
-            ++ record { room = room_of window.old.place; finish = finish; payload = window.old.payload; items = next_items self.old.turns.items; answer = next_answer self.old.turns.items } ∷ []) }
-        ensures fit { OnOk result
-            (AreItems (scalars_of self.old.payload) (next_items self.old.turns.items)) }
-        ensures turns { OnOk result (self.new.turns.items ≡ drop 1 self.old.turns.items) }
-        ensures err { OnErr result (self.new.said.items ≡ self.old.said.items) }
-        ensures same_turns { OnErr result (self.new.turns.items ≡ self.old.turns.items) }
-        ensures same_held { OnErr result (self.new.held.items ≡ self.old.held.items) }
-        ensures kind { self.new.kind ≡ self.old.kind }
-        ensures same_payload { self.new.payload ≡ self.old.payload }
-        ensures closed { self.new.closed ≡ self.old.closed }
+        ensures plays { IfOk result (PlaysTurn self.old self.new window.old window.new finish) }
+        ensures err { OnErr result (PlaysNone self.old self.new) }
+        ensures same_type { SameType self.old self.new }
         ensures fills { Fills window.old window.new }
     {
         let room = window.room();

@@ -1,4 +1,4 @@
-use Rattle.std.proofs.Common.{◌≡◌, ◌+◌, ◌-◌, ◌≤◌, [], ◌∷◌, ◌++◌, List, length, drop, refl, sym, ap, ◌∙◌, arith, length-drop}
+use Rattle.std.proofs.Common.{◌≡◌, ◌+◌, ◌-◌, ◌≤◌, [], ◌∷◌, ◌++◌, List, length, take, drop, refl, ap, ◌∙◌, arith, append-nil, length-drop}
 use Rattle.std.proofs.lemmas.List.{map-append}
 use Rattle.std.proofs.lemmas.List.Elements.{All-push, All-same}
 use Rattle.std.specs.Prelude.{min}
@@ -14,8 +14,8 @@ use Rattle.strm_buffers.proofs.ListingLemmas.{AreItems-take}
 use Rattle.strm_program_ends.proofs.QueueLemmas.{given_is, left_is}
 use Rattle.strm_program_ends.proofs.queue_writer.QueueWriter.give_next.Goals as goal
 
-pub returns-in-Err-clause-fills : goal.returns-in-Err-clause-fills
-returns-in-Err-clause-fills c = Fills-same c.args.window.now
+pub returns-in_err-reserve-clause-fills : goal.returns-in_err-reserve-clause-fills
+returns-in_err-reserve-clause-fills c = Fills-same c.args.window.now
 
 pub invariant_of-self-3 : goal.invariant_of-self-3
 invariant_of-self-3 c =
@@ -29,13 +29,22 @@ invariant_of-self-3 c =
           (All-push (IsPoll old.fed.items) old.polls.items poll old.polled (inside, omega (arith, c.min-count.ensures, c.most_given.ensures.few)));
     }
 
-pub returns-clause-marked : goal.returns-clause-marked
-returns-clause-marked c =
+pub returns-clause-gives : goal.returns-clause-gives
+returns-clause-gives c =
     let old = c.args.self.now in
     let room = room_of c.args.window.now.place in
+    let behind : List Item = drop old.given old.fed.items in
     let most : c.most_given.result ≡ most_given old.kind room = c.most_given.ensures.exact ∙ ap (most_given old.kind) c.room-room.ensures in
     let count : c.min-count.result ≡ min (most_given old.kind room) (length old.fed.items - old.given) = omega (arith, most, c.min-count.ensures, c.len.ensures) in
-    c.in_ok-mark.ensures.marked ∙ given_is (most_given old.kind room) c.min-count.result old.given old.fed.items count
+    let queued : c.len.result - old.given ≡ length behind = omega (arith, c.len.ensures, length-drop old.given old.fed.items) in
+    let left : c.len.result - old.given - c.min-count.result ≡ length (drop (most_given old.kind room) behind) =
+    omega (arith, most, queued, c.min-count.ensures, length-drop (most_given old.kind room) behind) in
+    let queue : List Item → Queue = λ xs. record { items = xs; ended = old.is_ended } in
+    record {
+      items = c.in_ok-mark.ensures.marked ∙ given_is (most_given old.kind room) c.min-count.result old.given old.fed.items count;
+      answers = c.answer-answer.ensures ∙ rw (left, queued) refl;
+      queue = ap queue (left_is (most_given old.kind room) c.min-count.result old.given old.fed.items count);
+    }
 
 pub returns-clause-fit : goal.returns-clause-fit
 returns-clause-fit c =
@@ -43,25 +52,7 @@ returns-clause-fit c =
     let ss = scalars_of old.fed.payload in
     rw c.in_ok-mark.ensures.marked (AreItems-take ss c.min-count.result (drop old.given old.fed.items) (AreItems-drop ss old.given old.fed.items c.sound.ensures))
 
-pub returns-clause-answer : goal.returns-clause-answer
-returns-clause-answer c =
-    let old = c.args.self.now in
-    let room = room_of c.args.window.now.place in
-    let most : c.most_given.result ≡ most_given old.kind room = c.most_given.ensures.exact ∙ ap (most_given old.kind) c.room-room.ensures in
-    let queued : c.len.result - old.given ≡ length (drop old.given old.fed.items) = omega (arith, c.len.ensures, length-drop old.given old.fed.items) in
-    let left : c.len.result - old.given - c.min-count.result ≡ length (drop (most_given old.kind room) (drop old.given old.fed.items)) = omega (arith, most, queued, c.min-count.ensures, length-drop (most_given old.kind room) (drop old.given old.fed.items)) in
-    c.answer-answer.ensures ∙ rw (left, queued) refl
-
-pub returns-clause-queue : goal.returns-clause-queue
-returns-clause-queue c =
-    let old = c.args.self.now in
-    let room = room_of c.args.window.now.place in
-    let most : c.most_given.result ≡ most_given old.kind room = c.most_given.ensures.exact ∙ ap (most_given old.kind) c.room-room.ensures in
-    let count : c.min-count.result ≡ min (most_given old.kind room) (length old.fed.items - old.given) = omega (arith, most, c.min-count.ensures, c.len.ensures) in
-    let queue : List Item → Queue = λ xs. record { items = xs; ended = old.is_ended } in
-    ap queue (left_is (most_given old.kind room) c.min-count.result old.given old.fed.items count)
-
 pub returns-clause-said : goal.returns-clause-said
 returns-clause-said c =
     let old = c.args.self.now in
-    rw (c.push_reserved.ensures.items, c.reserve.ensures.items, map-append (said_of old.fed.payload old.fed.items) old.polls.items, c.in_ok-mark.ensures.marked, c.room-room.ensures, c.requires.payload) refl
+    rw (c.push_reserved.ensures.items, c.reserve.ensures.items, map-append (said_of old.fed.payload old.fed.items) old.polls.items, c.in_ok-mark.ensures.marked, c.room-room.ensures, c.requires.payload, append-nil (take c.min-count.result (drop old.given old.fed.items))) refl

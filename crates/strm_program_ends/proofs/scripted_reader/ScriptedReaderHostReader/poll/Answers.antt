@@ -1,4 +1,4 @@
-use Rattle.std.proofs.Common.{◌≡◌, ◌≤◌, ◌+◌, ◌*◌, length, vec_len, refl, sym, ap, subst, ◌∙◌, arith}
+use Rattle.std.proofs.Common.{◌≡◌, ◌≤◌, ◌*◌, length, refl, sym, ap, subst, ◌∙◌, arith}
 use Rattle.strm_codes.specs.Layout.{scalars_of, item_size}
 use Rattle.strm_buffers.specs.Offers.{Offered, items_lent}
 use Rattle.strm_buffers.specs.Tells.{reader_record}

@@ -5,8 +5,8 @@ use Rattle.strm_buffers.proofs.EndLemmas.{Fills-same}
 use Rattle.strm_program_ends.specs.declared.scripted_writer.WriterTurn.{WriterTurn}
 use Rattle.strm_program_ends.proofs.scripted_writer.ScriptedWriter.play.Goals as goal
 
-pub returns-in-Err-clause-fills : goal.returns-in-Err-clause-fills
-returns-in-Err-clause-fills c = Fills-same c.args.window.now
+pub returns-in_err-reserve-clause-fills : goal.returns-in_err-reserve-clause-fills
+returns-in_err-reserve-clause-fills c = Fills-same c.args.window.now
 
 pub invariant_of-self-2-clause-typed : goal.invariant_of-self-2-clause-typed
 invariant_of-self-2-clause-typed c =
