@@ -5,6 +5,7 @@ use Rattle.std.proofs.Math.ListN.{get_or-map}
 use Rattle.std.proofs.Math.Seq.{map-set_same}
 use Rattle.std.proofs.lemmas.List.{length-map, map-set, map_push}
 use Rattle.std.specs.Prelude.{nat_lt, option_map, option_and_then}
+use Rattle.strm_codes.specs.OptionalNumbers.{is_number}
 use Rattle.strm_resources.specs.Nodes.{node_at, parent_at, children_at, children_of, is_childless, new_node, cut_from, cut, filled}
 use Rattle.strm_resources.specs.Links as links
 use Rattle.strm_resources.proofs.NodeLemmas.{lacks-childless, empty_is_childless}
@@ -69,7 +70,7 @@ links-kept contexts kept = record {
   apart = kept.apart;
   linked = λ child parent.
       lacks-childless _ child (childless-lone contexts.slots parent)
-      ∙ sym (ap (λ o. links.is_number o parent) (parent-lone contexts.slots child));
+      ∙ sym (ap (λ o. is_number o parent) (parent-lone contexts.slots child));
 }
 
 -- and back
