@@ -1,6 +1,6 @@
 -- What the calls that give, move and free a handle do to the guests and to the counter of live handles.
 -- Ours; wasmtime, `handle_table.rs`, `HandleTable::insert` and `remove`.
-use Rattle.std.specs.Prelude.{◌≡◌, ℕ, ◌×◌, ◌+◌, List, Result, IfOk, OnOk, OnErr}
+use Rattle.std.specs.Prelude.{◌≡◌, ℕ, ◌+◌, List, Result, IfOk, OnOk, OnErr}
 use Rattle.strm_codes.specs.declared.counts.OutOfMemory.{OutOfMemory}
 use Rattle.strm_codes.specs.declared.codes.TransmitIndex.{TransmitIndex}
 use Rattle.strm_handles.specs.Handles.{next_index}

@@ -17,7 +17,7 @@ use Rattle.strm_channels.specs.declared.guests.Guest.{Guest}
 -- the operation of the end on a side is this one, and it is open
 pub record Waits (side : Side) (stream : Stream) (operation : Operation) : Type 0 where
   pub there : (end_of side stream).operation ≡ Some operation
-  pub open : operation.is_open ≡ true
+  pub is_open : operation.is_open ≡ true
 
 -- so many items go from where the write's next ones lie to where the read's are to lie, or one of them is
 -- bad and nothing changes

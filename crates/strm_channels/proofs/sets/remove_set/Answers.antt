@@ -1,11 +1,11 @@
-use Rattle.std.proofs.Common.{◌<◌, ap, sym, ◌∙◌, length, arith}
+use Rattle.std.proofs.Common.{◌≡◌, ◌<◌, ap, sym, ◌∙◌, length, set, arith}
 use Rattle.std.specs.Prelude.{is_err}
 use Rattle.std.proofs.lemmas.List.{length-map}
 use Rattle.strm_handles.specs.Handles.{removed}
 use Rattle.strm_waitable_sets.specs.Sets.{without_set}
 use Rattle.strm_machine.specs.State as machine
 use Rattle.strm_machine.specs.State.{guest_in, with_table}
-use Rattle.strm_channels.specs.Guests.{guests_of, guest_of, live_in, sets_among}
+use Rattle.strm_channels.specs.Guests.{guests_of, guest_of, live_in, sets_among, without_set_in}
 use Rattle.strm_channels.proofs.GuestLemmas.{guest_in-seen, guests_of-with_table, was_ok}
 use Rattle.strm_channels.proofs.EndLemmas.{live_less}
 use Rattle.strm_waitable_sets.proofs.SetLemmas.{count-without}
@@ -22,7 +22,7 @@ returns-clause-frees c =
     let dropped = ap is_err (c.waitable_set_remove.ensures.answer ∙ named) in
     let freed = was_ok c.waitable_set_remove.result _ dropped c.waitable_set_remove.ensures.removes.ok in
     let taken = was_ok c.remove.result _ (ap is_err c.unwrap-2.ensures) c.remove.ensures.ok in
-    let now = guests_of-with_table guests c.args.guest x c.waitable_set_remove.new.self c.remove.new.self c.requires.there c.index_mut-guest.ensures.value
+    let now : guests_of (set guests c.args.guest (record x { table = c.waitable_set_remove.new.self; sets = c.remove.new.self })) ≡ without_set_in (guests_of guests) c.args.guest c.args.handle c.args.set = guests_of-with_table guests c.args.guest x c.waitable_set_remove.new.self c.remove.new.self c.requires.there c.index_mut-guest.ensures.value
     ∙ rw (freed, taken) (ap (λ (k : machine.Guest). with_table (guests_of guests) c.args.guest (removed k.handles c.args.handle) (without_set k.sets c.args.set)) (sym read)) in
     let there : c.args.guest < length (guests_of guests) = omega (arith, c.requires.there, length-map guests guest_of) in
     record {
