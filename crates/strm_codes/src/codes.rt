@@ -114,7 +114,8 @@ impl ReturnCode {
 
 /// Words tell codes apart: each code is read from its own word, and no other has that word.
 pub fn words_tell_codes()
-    ensures returns { (code : ReturnCode) → count_of code < count_limit → code_of (word_of code) ≡ Some code }
-    ensures injective { (code other : ReturnCode) → count_of code < count_limit → count_of other < count_limit →
-        word_of code ≡ word_of other → code ≡ other }
+    ensures returns { (code : ReturnCode) → count_of code < count_limit →
+        code_of (word_of code) ≡ Some code }
+    ensures injective { (code other : ReturnCode) → count_of code < count_limit →
+        count_of other < count_limit → word_of code ≡ word_of other → code ≡ other }
 {}

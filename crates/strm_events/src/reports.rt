@@ -69,7 +69,8 @@ pub fn report(
     told: bool,
     passed: bool,
 ) -> Option<ReturnCode>
-    ensures { result ≡ report_of kind (option_map (λ p. p.now) pending.entry) other_gone told passed }
+    ensures { result
+        ≡ report_of kind (option_map (λ p. p.now) pending.entry) other_gone told passed }
 {
     if other_gone {
         return last_report(kind, pending, told, passed);

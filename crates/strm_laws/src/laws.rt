@@ -98,7 +98,8 @@ pub fn contexts_count_their_handles()
 /// other bytes of each guest stay as they were, no guest goes, and no memory changes its length.
 pub fn other_bytes_stay()
     ensures { (tag : ℕ) (limits : Limits) (run : List Step) (step : Step) →
-        AreSteps (run ++ step ∷ []) → StaysAside (moment_of (state_after_steps (empty tag limits) run) step) }
+        AreSteps (run ++ step ∷ []) →
+        StaysAside (moment_of (state_after_steps (empty tag limits) run) step) }
 {}
 
 /// The bytes that a step puts into a memory, those of a poke or of an error context's message, lie there

@@ -13,5 +13,6 @@ ghost use Rattle.strm_record_laws.specs.Alike.{AreAlike, ComeOutAlike};
 /// From worlds that are alike, runs of the same steps come out alike: with the same replies and the same
 /// state, by the same stop, or in want of a record behind the same replies.
 pub fn runs_are_alike()
-    ensures { (a b : World) (steps : List Step) → AreAlike a b → ComeOutAlike (host_play [] a steps) (host_play [] b steps) }
+    ensures { (a b : World) (steps : List Step) → AreAlike a b →
+        ComeOutAlike (host_play [] a steps) (host_play [] b steps) }
 {}
