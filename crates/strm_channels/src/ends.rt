@@ -84,6 +84,7 @@ pub(crate) fn reserve(guests: &mut Vec<Guest>, guest: usize, needed: u32) -> Res
 }
 
 // An end's handle, in the table of a guest that has room for it.
+#[inline(always)]
 fn insert_end(
     guests: &mut Vec<Guest>,
     counter: &mut HandleCounter,
@@ -166,6 +167,7 @@ fn try_remove(
 
 /// Frees the handle of an end that the table shows idle, in its guest's table; it leaves the set that
 /// it is in.
+#[inline(always)]
 pub fn remove_end(guests: &mut Vec<Guest>, counter: &mut HandleCounter, side: Side, end: &NamedEnd)
     requires there { end.now.guest < length guests.old.items }
     requires idle { removable side end.now.ty

@@ -28,6 +28,7 @@ pub fn is_live(stream: &Channel) -> bool
 
 /// The end on a side of a stream has another owner from now on; `live_streams` counts the streams of
 /// which an end is there.
+#[inline(always)]
 pub fn set_owner(
     streams: &mut Vec<Channel>,
     live_streams: &mut u32,

@@ -140,9 +140,7 @@ impl<E: Copy> Slots<E> {
         ensures { Inserts self.old self.new counter.old counter.new entry result }
     {
         if self.free == 0 {
-            // A copy, so that the entry goes through memory here alone.
-            let copy = entry;
-            return self.append(counter, copy);
+            return self.append(counter, entry);
         }
         if counter.is_full() {
             return Err(HandleError::HandleLimit);
@@ -152,8 +150,8 @@ impl<E: Copy> Slots<E> {
         Ok(number)
     }
 
-    // Adds an entry in a new slot, apart from the code of an insert in a freed one.
-    #[inline(never)]
+    // Adds an entry in a new slot.
+    #[inline(always)]
     fn append(&mut self, counter: &mut HandleCounter, entry: E) -> Result<u32, HandleError>
         requires { length self.old.handles.freed ≡ 0 }
         ensures { Inserts self.old self.new counter.old counter.new entry result }
