@@ -55,7 +55,8 @@ pub fn apply<H: HostEnds>(
     perform_step(store, hosts, step)
 }
 
-// What a step does. Reads, writes and events, of which a run has most, go to their calls at once.
+// What a step does. Reads, writes, events and new streams, of which a run has most, go to their calls at
+// once.
 #[inline(always)]
 fn perform_step<H: HostEnds>(
     store: &mut Store,
@@ -103,6 +104,13 @@ fn perform_other<H: HostEnds>(
     store.served();
     match *step {
         Step::Event { guest, handle } => reply(event(store, guest, handle)),
+        Step::New { guest, ty } => {
+            let (writer, reader) = (guest, guest);
+            reply(make(store, Making::Between { writer, reader, ty }))
+        }
+        Step::Between { writer, reader, ty } => {
+            reply(make(store, Making::Between { writer, reader, ty }))
+        }
         _ => perform_act(store, hosts, step),
     }
 }
