@@ -189,6 +189,12 @@ pub record IsAcross (state : State) (side : Side) (end : NamedEnd) (address coun
 is_host_of : (owner : Owner) (n : ℕ) → owner ≡ Host n → is_host owner ≡ true
 is_host_of owner n e = rw e refl
 
+-- memory may run out in it
+pub polls_there : (state : State) (side : Side) (end : NamedEnd) (address count n s : ℕ) (operation : Operation) → IsAcross state side end address count n s operation → may_poll (lone state) (operating side end address count) ≡ true
+polls_there state side end address count n s operation h =
+    ap (λ k. is_host (end_of (opposite side) (stream_at state k)).owner) (sym h.stream)
+    ∙ is_host_of (end_of (opposite side) (stream_at state s)).owner n h.owner
+
 -- host end n has the end across of stream s
 abbrev HasAcross : World → Side → ℕ → ℕ → Type 0
 HasAcross world side n s = (end_of (opposite side) (stream_at world.state s)).owner ≡ Host n
@@ -207,9 +213,7 @@ module _ (old new : State) (tells told : Tells) (side : Side) (end : NamedEnd) (
   act = operating side end address count
 
   across : may_poll (lone old) act ≡ true
-  across =
-      ap (λ k. is_host (end_of (opposite side) (stream_at old k)).owner) (sym h.stream)
-      ∙ is_host_of (end_of (opposite side) (stream_at old s)).owner n h.owner
+  across = polls_there old side end address count n s operation h
 
   polls : PerformsAs old tells act (polls_for side s n operation)
   polls logs =

@@ -1,6 +1,6 @@
 -- The walk of every call: a trapped store answers nothing else, what may not be done is refused, and
 -- what may be done is what the machine performs. A call gives its test and its doing.
-use Rattle.std.proofs.Common.{◌≡◌, ap, Bool, true, false, cond, Option, Some, None, Result, Ok, Err, refl, sym, subst, ◌∙◌}
+use Rattle.std.proofs.Common.{◌≡◌, ◌≢◌, ap, Bool, true, false, cond, Option, Some, None, Result, Ok, Err, refl, sym, subst, ◌∙◌}
 use Rattle.strm_codes.specs.declared.refusals.Refusal.{Refusal}
 use Rattle.strm_codes.specs.declared.refusals.Refusal.TheVariants as refusals
 use Rattle.strm_handles.specs.declared.errors.HandleError.{HandleError}
@@ -15,7 +15,7 @@ use Rattle.strm_machine.proofs.NameLemmas.{IsEndError, IsNameError}
 use Rattle.strm_machine.proofs.ReactionLemmas.{reaction-trapped, reaction-refused, reaction-performs}
 use Rattle.strm_transmit.specs.Meets.{Meets, as_answer, admitted, or_found}
 use Rattle.strm_transmit.specs.declared.errors.StoreError.{StoreError}
-use Rattle.strm_transmit.specs.declared.errors.StoreError.TheVariants.{Refused, StoreTrapped}
+use Rattle.strm_transmit.specs.declared.errors.StoreError.TheVariants.{Refused, StoreTrapped, OutOfMemory}
 
 -- ## What was found, or what refused it
 
@@ -88,6 +88,11 @@ pub meets_not_admitted : {V : Type 0} (state : State) (act : Act) (wanted : V) (
 meets_not_admitted state act wanted found error e a =
     not_admitted state (refusal state act) wanted found (λ x. Meets state state (Err x) (reaction state act)) error e a
     (λ t. (reaction-trapped state act t, refl)) (λ q t r. (reaction-refused state act q t r, refl))
+
+-- and memory had not run out
+pub not_admitted_has_memory : {V : Type 0} (state : State) (o : Option Refusal) (wanted : V) (found : Result V Refusal) (error : StoreError) → found ≡ or_found o wanted → Err error ≡ admitted state found → error ≢ OutOfMemory
+not_admitted_has_memory state o wanted found error e a =
+    not_admitted state o wanted found (λ x. x ≢ OutOfMemory) error e a (λ t k. cc k) (λ q t r k. cc k)
 
 -- an act that was admitted does with what was found what the machine performs
 pub reacts : {V : Type 0} (state : State) (act : Act) (wanted value : V) (does : V → Reaction) → IsAdmitted state (refusal state act) wanted value → performs state act ≡ does wanted → reaction state act ≡ does value

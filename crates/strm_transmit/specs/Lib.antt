@@ -8,6 +8,7 @@ pub mod OutOfMemory
 pub mod HostEnds
 pub mod Hosted
 pub mod Turning
+pub mod Operating
 pub mod Piping
 pub mod Rounds
 pub mod Guests

@@ -16,6 +16,7 @@ mod hosting;
 mod making;
 mod memories;
 mod moves;
+mod operating;
 mod operations;
 mod piping;
 mod refusals;

@@ -1,10 +1,11 @@
-//! Reads and writes of guests.
+//! Reads and writes of guests: what refuses them, and the calls. How they are done stands in
+//! `operating.rt`.
 //!
 //! Meaning: `operates` of `Reactions.antt` of `strm_machine`. Source: Canonical ABI,
 //! `canon stream.{read,write}` and `canon future.{read,write}`; wasmtime, `guest_read` and
 //! `guest_write`.
 
-ghost use Rattle.std.specs.Prelude.{◌≡◌, ◌≢◌, ◌<◌, ◌↔◌, length, true, false, Err, None, IfOk, OnOk, IfSome, IfNone, IsErr};
+ghost use Rattle.std.specs.Prelude.{◌≡◌, ◌<◌, ◌↔◌, length, true, false, None, IfOk, OnOk, IfSome, IfNone, IsErr};
 ghost use Rattle.strm_codes.specs.Types.{payload_of};
 ghost use Rattle.strm_codes.specs.declared.codes.TransmitIndex.TheVariants as index;
 ghost use Rattle.strm_machine.specs.Acts.{act_of};
@@ -13,7 +14,6 @@ ghost use Rattle.strm_machine.specs.Meetings.{begun};
 ghost use Rattle.strm_machine.specs.Sides.{opposite, end_of};
 ghost use Rattle.strm_machine.specs.Tests.{is_too_big, items_asked, named, stream_named};
 ghost use Rattle.strm_machine.specs.Refusals.{first_of, region_reasons, refusal};
-ghost use Rattle.strm_machine.specs.Reactions.{on_stream, reaction};
 ghost use Rattle.strm_machine.specs.declared.acts.Act.TheVariants.{OnEnd};
 ghost use Rattle.strm_machine.specs.declared.acts.EndAct.TheVariants.{Operate};
 ghost use Rattle.strm_machine.specs.declared.replies.Reply.TheVariants as replies;
@@ -21,23 +21,21 @@ ghost use Rattle.strm_machine.specs.declared.steps.Step.TheVariants as steps;
 ghost use Rattle.strm_machine.specs.declared.streams.Owner.TheVariants.{Host};
 ghost use Rattle.strm_machine.specs.declared.streams.Side.TheVariants.{Writing, Reading};
 ghost use Rattle.strm_host_machine.specs.Does.{Fits};
-ghost use Rattle.strm_transmit.specs.Meets.{Meets, as_reply, or_found};
-ghost use Rattle.strm_transmit.specs.Hosted.{MeetsHosted, StillFits, RunsOutOnlyPolling, RunsOutNoneHeld};
+ghost use Rattle.strm_transmit.specs.Meets.{as_reply, or_found};
+ghost use Rattle.strm_transmit.specs.Hosted.{MeetsHosted, RunsOutOnlyPolling, RunsOutNoneHeld};
 ghost use Rattle.strm_transmit.specs.Turning.{across, IsPlacedOn, IsNumberWithin};
 
 use crate::errors::StoreError;
 use crate::host_ends::HostEnds;
-use crate::store::{Store, number_type};
-use crate::telling::retell;
+use crate::store::Store;
 use strm_channels::guests::memory;
-use strm_channels::meetings::{begin, meet_or_wait};
 use strm_channels::sides::opposite;
 use strm_codes::codes::{ReturnCode, TransmitIndex};
 use strm_codes::counts::{ItemCount, StreamOpTooBig};
 use strm_codes::payloads::Payload;
 use strm_codes::refusals::Refusal;
 use strm_machine::acts::{EndAct, NamedEnd};
-use strm_machine::streams::{Operation, Owner, Side};
+use strm_machine::streams::{Owner, Side};
 use strm_memory::memories::RegionError;
 
 // The items that a call asks for: a future's is one.
@@ -79,7 +77,7 @@ impl Store {
     // The stream and the items of a read or write that nothing refuses.
     #[inline(always)]
     #[tactic(auto, unfolding(strm_machine::specs::Refusals::refusal))]
-    fn operation_found(
+    pub(crate) fn operation_found(
         &self,
         side: Side,
         end: &NamedEnd,
@@ -110,7 +108,7 @@ impl Store {
 
     // The host end on the other side of an end, if there is one.
     #[inline(always)]
-    fn host_across(&self, side: Side, stream: u32) -> Option<u32>
+    pub(crate) fn host_across(&self, side: Side, stream: u32) -> Option<u32>
         requires { stream < length self.now.streams }
         ensures some { IfSome result (λ number. (across self.now side stream).owner ≡ Host number) }
         ensures none { IfNone result (is_host (across self.now side stream).owner ≡ false) }
@@ -118,267 +116,6 @@ impl Store {
         match self.stream(stream).owner(opposite(side)) {
             Owner::Host { number } => Some(number),
             _ => None,
-        }
-    }
-
-    // A read or write on a stream, done.
-    #[inline(always)]
-    fn take(
-        &mut self,
-        side: Side,
-        stream: u32,
-        payload: &Payload,
-        mine: Operation,
-    ) -> Result<ReturnCode, StoreError>
-        requires there { stream < length self.old.streams }
-        requires payload { payload.now ≡ (stream_at self.old stream).payload }
-        requires idle { (end_of side (stream_at self.old stream)).operation ≡ None }
-        requires begun { mine ≡ begun mine.guest mine.address mine.left }
-        requires mine { IsPlacedOn self.old stream mine }
-        requires numbers { IsNumberWithin self.old side stream mine.guest }
-        requires untrapped { self.old.trapped ≡ false }
-        ensures meets { Meets self.old self.new (as_reply replies.Code result)
-            (on_stream self.old stream side mine) }
-        ensures takes_no_memory { result ≢ Err StoreError.OutOfMemory }
-    {
-        let meeting = &mut self.streams[stream as usize];
-        let taken = meet_or_wait(self.alloc, &mut self.guests, meeting, payload, side, mine);
-        retell(&mut self.ready, &self.guests, meeting);
-        match taken {
-            Ok(code) => Ok(code),
-            Err(_) => {
-                self.is_trapped = true;
-                Err(StoreError::BadItem { stream })
-            }
-        }
-    }
-
-    // The same of one that is just called.
-    #[inline(always)]
-    fn take_called(
-        &mut self,
-        side: Side,
-        stream: u32,
-        guest: u32,
-        address: u32,
-        count: ItemCount,
-    ) -> Result<ReturnCode, StoreError>
-        requires there { stream < length self.old.streams }
-        requires idle { (end_of side (stream_at self.old stream)).operation ≡ None }
-        requires mine { IsPlacedOn self.old stream (begun guest address count) }
-        requires numbers { IsNumberWithin self.old side stream guest }
-        requires untrapped { self.old.trapped ≡ false }
-        ensures meets { Meets self.old self.new (as_reply replies.Code result)
-            (on_stream self.old stream side (begun guest address count)) }
-        ensures takes_no_memory { result ≢ Err StoreError.OutOfMemory }
-    {
-        let payload = self.stream(stream).payload();
-        let mine = begin(guest, address, count);
-        self.take(side, stream, &payload, mine)
-    }
-
-    // The same, apart from the code that refuses: so that is inlined in a run.
-    #[inline(never)]
-    fn take_apart(
-        &mut self,
-        side: Side,
-        stream: u32,
-        guest: u32,
-        address: u32,
-        count: ItemCount,
-    ) -> Result<ReturnCode, StoreError>
-        requires there { stream < length self.old.streams }
-        requires idle { (end_of side (stream_at self.old stream)).operation ≡ None }
-        requires mine { IsPlacedOn self.old stream (begun guest address count) }
-        requires numbers { IsNumberWithin self.old side stream guest }
-        requires untrapped { self.old.trapped ≡ false }
-        ensures meets { Meets self.old self.new (as_reply replies.Code result)
-            (on_stream self.old stream side (begun guest address count)) }
-        ensures takes_no_memory { result ≢ Err StoreError.OutOfMemory }
-    {
-        self.take_called(side, stream, guest, address, count)
-    }
-
-    /// A read or write of the end that is named; a future's count is not looked at.
-    #[inline(always)]
-    pub(crate) fn operate<H: HostEnds>(
-        &mut self,
-        hosts: &mut H,
-        side: Side,
-        end: &NamedEnd,
-        address: u32,
-        count: u32,
-    ) -> Result<ReturnCode, StoreError>
-        requires fits { Fits self.old (H.tells hosts.old) }
-        ensures meets { MeetsHosted self.old self.new (H.tells hosts.old) (H.tells hosts.new)
-            (as_reply replies.Code result) (OnEnd side end.now (Operate address count)) }
-        ensures takes_no_memory { RunsOutOnlyPolling self.old
-            (OnEnd side end.now (Operate address count)) result }
-        ensures held { RunsOutNoneHeld self.old (H.tells hosts.old)
-            (OnEnd side end.now (Operate address count)) result }
-    {
-        match number_type(end.ty) {
-            Some(ty) => {
-                let end = NamedEnd { ty, ..*end };
-                self.operate_here(hosts, side, &end, address, count)
-            }
-            None => self.operate_any(hosts, side, end, address, count),
-        }
-    }
-
-    // The same of any payload. Inlined, so that the end is copied there alone.
-    #[inline(always)]
-    fn operate_any<H: HostEnds>(
-        &mut self,
-        hosts: &mut H,
-        side: Side,
-        end: &NamedEnd,
-        address: u32,
-        count: u32,
-    ) -> Result<ReturnCode, StoreError>
-        requires fits { Fits self.old (H.tells hosts.old) }
-        ensures meets { MeetsHosted self.old self.new (H.tells hosts.old) (H.tells hosts.new)
-            (as_reply replies.Code result) (OnEnd side end.now (Operate address count)) }
-        ensures takes_no_memory { RunsOutOnlyPolling self.old
-            (OnEnd side end.now (Operate address count)) result }
-        ensures held { RunsOutNoneHeld self.old (H.tells hosts.old)
-            (OnEnd side end.now (Operate address count)) result }
-    {
-        self.operate_apart(hosts, side, *end, address, count)
-    }
-
-    // The same, apart from the code for plain numbers. The end comes by value, so that where numbers move
-    // it lies in registers.
-    #[inline(never)]
-    fn operate_apart<H: HostEnds>(
-        &mut self,
-        hosts: &mut H,
-        side: Side,
-        end: NamedEnd,
-        address: u32,
-        count: u32,
-    ) -> Result<ReturnCode, StoreError>
-        requires fits { Fits self.old (H.tells hosts.old) }
-        ensures meets { MeetsHosted self.old self.new (H.tells hosts.old) (H.tells hosts.new)
-            (as_reply replies.Code result) (OnEnd side end (Operate address count)) }
-        ensures takes_no_memory { RunsOutOnlyPolling self.old (OnEnd side end (Operate address count))
-            result }
-        ensures held { RunsOutNoneHeld self.old (H.tells hosts.old)
-            (OnEnd side end (Operate address count)) result }
-    {
-        self.operate_here(hosts, side, &end, address, count)
-    }
-
-    // The same, inlined, and so without tests of the payload where its form is known.
-    #[inline(always)]
-    fn operate_here<H: HostEnds>(
-        &mut self,
-        hosts: &mut H,
-        side: Side,
-        end: &NamedEnd,
-        address: u32,
-        count: u32,
-    ) -> Result<ReturnCode, StoreError>
-        requires fits { Fits self.old (H.tells hosts.old) }
-        ensures meets { MeetsHosted self.old self.new (H.tells hosts.old) (H.tells hosts.new)
-            (as_reply replies.Code result) (OnEnd side end.now (Operate address count)) }
-        ensures takes_no_memory { RunsOutOnlyPolling self.old
-            (OnEnd side end.now (Operate address count)) result }
-        ensures held { RunsOutNoneHeld self.old (H.tells hosts.old)
-            (OnEnd side end.now (Operate address count)) result }
-    {
-        self.sound();
-        self.served();
-        match self.admit(self.operation_found(side, end, address, count)) {
-            Ok(found) => match self.host_across(side, found.0) {
-                Some(number) => {
-                    let mine = begin(end.guest, address, found.1);
-                    self.poll_across(hosts, found.0, side, number, mine)
-                }
-                None => self.take_apart(side, found.0, end.guest, address, found.1),
-            },
-            Err(error) => Err(error),
-        }
-    }
-
-    /// A read or write of the end that is named, as the machine without host ends does it: a host end
-    /// on the other side is not polled. Refused as the call of that side and type. BadItem.
-    #[inline(always)]
-    pub fn operate_alone(
-        &mut self,
-        side: Side,
-        end: &NamedEnd,
-        address: u32,
-        count: u32,
-    ) -> Result<ReturnCode, StoreError>
-        ensures meets { Meets self.old self.new (as_reply replies.Code result)
-            (reaction self.old (OnEnd side end.now (Operate address count))) }
-        ensures fits { StillFits self.old self.new }
-        ensures takes_no_memory { result ≢ Err StoreError.OutOfMemory }
-    {
-        match number_type(end.ty) {
-            Some(ty) => {
-                let end = NamedEnd { ty, ..*end };
-                self.alone_here(side, &end, address, count)
-            }
-            None => self.alone_any(side, end, address, count),
-        }
-    }
-
-    // The same of any payload. Inlined, so that the end is copied there alone.
-    #[inline(always)]
-    fn alone_any(
-        &mut self,
-        side: Side,
-        end: &NamedEnd,
-        address: u32,
-        count: u32,
-    ) -> Result<ReturnCode, StoreError>
-        ensures meets { Meets self.old self.new (as_reply replies.Code result)
-            (reaction self.old (OnEnd side end.now (Operate address count))) }
-        ensures fits { StillFits self.old self.new }
-        ensures takes_no_memory { result ≢ Err StoreError.OutOfMemory }
-    {
-        self.alone_apart(side, *end, address, count)
-    }
-
-    // The same, apart from the code for plain numbers. The end comes by value, so that where numbers move
-    // it lies in registers.
-    #[inline(never)]
-    fn alone_apart(
-        &mut self,
-        side: Side,
-        end: NamedEnd,
-        address: u32,
-        count: u32,
-    ) -> Result<ReturnCode, StoreError>
-        ensures meets { Meets self.old self.new (as_reply replies.Code result)
-            (reaction self.old (OnEnd side end (Operate address count))) }
-        ensures fits { StillFits self.old self.new }
-        ensures takes_no_memory { result ≢ Err StoreError.OutOfMemory }
-    {
-        self.alone_here(side, &end, address, count)
-    }
-
-    // The same, inlined, and so without tests of the payload where its form is known.
-    #[inline(always)]
-    fn alone_here(
-        &mut self,
-        side: Side,
-        end: &NamedEnd,
-        address: u32,
-        count: u32,
-    ) -> Result<ReturnCode, StoreError>
-        ensures meets { Meets self.old self.new (as_reply replies.Code result)
-            (reaction self.old (OnEnd side end.now (Operate address count))) }
-        ensures fits { StillFits self.old self.new }
-        ensures takes_no_memory { result ≢ Err StoreError.OutOfMemory }
-    {
-        self.sound();
-        self.served();
-        match self.admit(self.operation_found(side, end, address, count)) {
-            Ok(found) => self.take_called(side, found.0, end.guest, address, found.1),
-            Err(error) => Err(error),
         }
     }
 
