@@ -16,7 +16,7 @@ use Rattle.strm_machine.specs.declared.streams.Stream.{Stream}
 use Rattle.strm_host_machine.specs.Ends.{Writer, Reader, no_writer, no_reader, closed_writer, closed_reader}
 use Rattle.strm_host_machine.specs.World.{World, stream_in, writer_at, reader_at, with_producer, with_kept, with_consumer, with_writer, with_reader, leaves_writer, leaves_reader, with_stream_in}
 use Rattle.strm_host_laws.specs.Isolation.{StreamStaysWhole}
-use Rattle.strm_host_laws.proofs.Goings.{with_state}
+use Rattle.strm_host_laws.proofs.GoingRules.{with_state}
 use Rattle.strm_host_laws.proofs.HostsAgree.{one_stream}
 use Rattle.strm_host_laws.proofs.WrittenBack.{set_back}
 

@@ -34,7 +34,8 @@ use Rattle.strm_host_machine.specs.Does.{is_ended, saids, writers_from, start_wo
 use Rattle.strm_host_laws.specs.HostMoments.{Part, Acts, HostMoment, part_on, host_moments, first_moments, end_world}
 use Rattle.strm_host_laws.specs.HostLaws.{ClosesExactly, EndsExactly}
 use Rattle.strm_host_laws.proofs.Chains.{is_part, Chain, moments-chain, first-chain, StopsAt, host_play-ends, host_play-halts}
-use Rattle.strm_host_laws.proofs.Goings.{with_state, with_passed, LeftBy, Begins, Stopping, hosted, Rules, Halted, Comes, with_stream_in-same, part-comes, feed-comes, grant-comes}
+use Rattle.strm_host_laws.proofs.GoingRules.{with_state, with_passed, LeftBy, Begins, Stopping, hosted, Rules, Halted, Comes, with_stream_in-same}
+use Rattle.strm_host_laws.proofs.Goings.{part-comes, feed-comes, grant-comes}
 use Rattle.strm_machine.proofs.Ways.{HostsFrom, HostsFromIn, set-from}
 use Rattle.strm_machine.proofs.ShapeLemmas.{reaction-producers, reaction-from}
 use Rattle.strm_machine.proofs.TableLemmas.{set-keeps}

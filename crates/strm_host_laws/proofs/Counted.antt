@@ -24,11 +24,11 @@ use Rattle.strm_host_machine.proofs.OutcomeLemmas.{outcome-trapped}
 use Rattle.strm_host_laws.specs.HostMoments.{Part, Acts, Turns, HostMoment, parts_of, part_on, followed, acted, host_moments, first_moments}
 use Rattle.strm_host_laws.proofs.Chains.{is_part}
 use Rattle.strm_host_laws.proofs.Forms.{HasTurned, reacted_to, Form, BySame, ByReacting, ByForsaking, ByHosting, ByFeeding, ByGranting, ByPiping, ByTurning, ByPassing, ByCalling}
-use Rattle.strm_host_laws.proofs.Goings.{IfGoes}
+use Rattle.strm_host_laws.proofs.GoingRules.{IfGoes}
 use Rattle.strm_machine.proofs.HostLemmas.{serving_known}
 use Rattle.strm_host_machine.specs.Piping.{pipe_round}
 use Rattle.strm_host_laws.proofs.Rounds.{HasPassed, round_is}
-use Rattle.strm_host_laws.proofs.Standing.{Holds}
+use Rattle.strm_host_laws.proofs.TurnsStand.{Holds}
 use Rattle.strm_host_laws.proofs.Lives.{Lives, goes_form, goes_lives}
 use Rattle.strm_host_laws.proofs.Turned.{turn_is, taking_is}
 use Rattle.strm_host_laws.proofs.WrittenBack.{back-length, round_length, turned_length, call_length, pipe_length}

@@ -25,7 +25,7 @@ use Rattle.strm_host_laws.specs.HostLaws.{is_piped_in}
 use Rattle.strm_host_laws.proofs.Effects.{opened_by, piped_in, ByStaying, ByGone, ByDry, Pipes, Effect, ByReaction, ByRest, ByHosting, ByPiping, ByDriving, ByPassing, ByCalling, ByForsaking}
 use Rattle.strm_host_laws.proofs.HostsAgree.{known_all, one_stream}
 use Rattle.strm_host_laws.proofs.HostTurns.{known_on, Leaves, leaves_ended, with_ended, Turned}
-use Rattle.strm_host_laws.proofs.Standing.{Holds, Holds-reaction}
+use Rattle.strm_host_laws.proofs.TurnsStand.{Holds, Holds-reaction}
 
 -- what host reader k does
 abbrev pub duty : State → ℕ → Duty

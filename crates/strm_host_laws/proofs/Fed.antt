@@ -27,7 +27,8 @@ use Rattle.strm_host_machine.specs.Steps.{performs_in, unless_refused_in, outcom
 use Rattle.strm_host_laws.specs.HostMoments.{Part, Acts, HostMoment, part_on, first_moments, end_world}
 use Rattle.strm_host_laws.specs.HostLaws.{used_records, used_in, all_used, fed_in, all_fed, WriterGoesOn}
 use Rattle.strm_host_laws.proofs.Chains.{is_part, Follows, Chain, first-chain}
-use Rattle.strm_host_laws.proofs.Goings.{Begins, Stopping, Rules, Comes, IfGoes, is_passing, part-comes, grant-comes}
+use Rattle.strm_host_laws.proofs.GoingRules.{Begins, Stopping, Rules, Comes, IfGoes, is_passing}
+use Rattle.strm_host_laws.proofs.Goings.{part-comes, grant-comes}
 use Rattle.strm_machine.proofs.RefusalLemmas.{not_refused, not_le}
 
 -- WHAT HOLDS OF EACH HOST WRITER

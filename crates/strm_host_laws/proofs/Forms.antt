@@ -37,8 +37,9 @@ use Rattle.strm_host_machine.specs.Steps.{reacts, reads_from, writes_to, operate
 use Rattle.strm_host_machine.proofs.OutcomeLemmas.{refusal_in-on_end}
 use Rattle.strm_host_laws.specs.HostMoments.{Part, Acts, Turns, part_on}
 use Rattle.strm_host_laws.proofs.Chains.{is_part}
-use Rattle.strm_host_laws.proofs.Goings.{with_state, hosted, piped_to, IfGoes}
-use Rattle.strm_host_laws.proofs.Standing.{Holds, Begun, call_begun}
+use Rattle.strm_host_laws.proofs.GoingRules.{with_state, hosted, piped_to, IfGoes}
+use Rattle.strm_host_laws.proofs.TurnsStand.{Holds}
+use Rattle.strm_host_laws.proofs.Standing.{Begun, call_begun}
 use Rattle.strm_host_machine.specs.Piping.{pipe_round}
 use Rattle.strm_host_laws.proofs.Rounds.{Passed, HasPassed, round_is}
 use Rattle.strm_host_laws.proofs.Turned.{Turned, turn_is, Taken, taking_is}

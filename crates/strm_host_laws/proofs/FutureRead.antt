@@ -42,7 +42,7 @@ use Rattle.strm_host_machine.specs.Settling.{result_of, went, operation_settled,
 use Rattle.strm_host_machine.proofs.SettleLemmas.{is_done_with}
 use Rattle.strm_host_laws.proofs.HostTurns.{since_of, turned_stream, Turned}
 use Rattle.strm_host_laws.proofs.PartsSeen.{IsTaken}
-use Rattle.strm_host_laws.proofs.Standing.{Holds}
+use Rattle.strm_host_laws.proofs.TurnsStand.{Holds}
 use Rattle.strm_host_laws.proofs.TurnMoves.{Moves, moved_on-moves}
 
 -- ## What is known of it

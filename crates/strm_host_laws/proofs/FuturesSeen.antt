@@ -31,12 +31,14 @@ use Rattle.strm_machine.proofs.TallyLemmas.{AreOne, PassesOne, begins_by}
 use Rattle.strm_host_machine.specs.Attaching.{withdrawn, piped, without_ends, forsaken}
 use Rattle.strm_host_machine.specs.HostRefusals.{is_used}
 use Rattle.strm_host_laws.specs.HostMoments.{Part}
-use Rattle.strm_host_laws.proofs.Effects.{opened_by, Driven, Calls, piped_in, Piped, ByStaying, ByGone, ByDry, piped_streams, Pipes, forsaken_by, Forsakes, Effect, ByReaction, ByRest, ByHosting, ByPiping, ByDriving, ByPassing, ByCalling, ByForsaking, Passes, passing_other}
+use Rattle.strm_host_laws.proofs.Effects.{opened_by, Driven, Calls, piped_in, Piped, ByStaying, ByGone, ByDry, piped_streams, Pipes, forsaken_by, Forsakes, Effect, ByReaction, ByRest, ByHosting, ByPiping, ByDriving, ByPassing, ByCalling, ByForsaking, Passes}
+use Rattle.strm_host_laws.proofs.PartEffects.{passing_other}
 use Rattle.strm_host_laws.proofs.FutureRead.{OpenOne, AreOpenOne, FutureRead, BeginsOne, FutureStep, Leaves, Opens, still_step, future_step, reaction_future, turned_future}
 use Rattle.strm_host_laws.proofs.GuestsSeen.{IsGuests, turned_other}
 use Rattle.strm_host_laws.proofs.HostTurns.{since_of, since_ended, Turned}
 use Rattle.strm_host_laws.proofs.PartsSeen.{IsTaken}
-use Rattle.strm_host_laws.proofs.Standing.{Holds, call_begun, opened_owner, opened_operation}
+use Rattle.strm_host_laws.proofs.TurnsStand.{Holds}
+use Rattle.strm_host_laws.proofs.Standing.{call_begun, opened_owner, opened_operation}
 
 -- ## What host readers took since, where another has its turn
 

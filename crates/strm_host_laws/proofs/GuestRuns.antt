@@ -29,17 +29,20 @@ use Rattle.strm_host_laws.specs.HostMoments.{Part, Acts, Turns, HostMoment, firs
 use Rattle.strm_host_laws.specs.HostLaws.{plain, plains, is_made_by, is_hosted, is_piped_in, was_piped, host_taken_in, all_taken, host_got_in, host_got, ConservesAmong, MovesByHosts}
 use Rattle.strm_host_laws.proofs.Chains.{Chain, first-chain}
 use Rattle.strm_host_laws.proofs.StepsLeft.{left_after, Pays, Costs, first_cost}
-use Rattle.strm_host_laws.proofs.Effects.{Effect, follows_effect}
-use Rattle.strm_host_laws.proofs.Standing.{Holds, Holds-effect, Holds-empty}
+use Rattle.strm_host_laws.proofs.Effects.{Effect}
+use Rattle.strm_host_laws.proofs.PartEffects.{follows_effect}
+use Rattle.strm_host_laws.proofs.TurnsStand.{Holds}
+use Rattle.strm_host_laws.proofs.Standing.{Holds-effect, Holds-empty}
 use Rattle.strm_host_laws.proofs.PartsSeen.{IsTaken, effect_taken}
-use Rattle.strm_host_laws.proofs.HostBytes.{NoPipe, effect_kind}
+use Rattle.strm_host_laws.proofs.HostCounts.{NoPipe, effect_kind}
 use Rattle.strm_machine.proofs.HostLemmas.{no_host}
 use Rattle.strm_host_laws.proofs.GuestsSeen.{IsGuests, SeenIn, guests_after, effect_in, effect_makes, effect_pipes, PutsPart, effect_bytes}
 use Rattle.strm_host_laws.proofs.Moments.{got_unread}
 use Rattle.strm_host_laws.proofs.Rooms.{has_room, room_next}
 use Rattle.strm_host_laws.proofs.FutureRead.{FutureRead}
 use Rattle.strm_host_laws.proofs.FuturesSeen.{effect_future, enters_future}
-use Rattle.strm_host_laws.proofs.ReadSeen.{entering, IsRead, ReadIn, effect_read, effect_enters, effect_unread}
+use Rattle.strm_host_laws.proofs.ReadSeen.{entering, effect_read, effect_enters, effect_unread}
+use Rattle.strm_host_laws.proofs.ReadStepSeen.{IsRead, ReadIn}
 use Rattle.strm_host_laws.proofs.TakenItems.{run_items}
 use Rattle.strm_host_laws.proofs.HostAccounts.{is_hosted-push, was_piped-push, plains-push, host_got-push, all_taken-push, all_front, all_back, taken_unread, HostAccount, account_guests, whole_read, account_writing, account_reading}
 

@@ -1,7 +1,7 @@
 -- What a part of a run with host ends does to a stream of which no host end has an end: what a step without
 -- them does.
 use Rattle.std.proofs.Common.{◌≡◌, ◌≢◌, ℕ, ◌+◌, ◌^◌, ◌<◌, ◌≤◌, ◌==◌, true, false, List, [], ◌∷◌, ◌++◌, length, get_or, set, inl, inr, refl, sym, ap, subst, ◌∙◌, arith, length-set, length-append}
-use Rattle.std.proofs.lemmas.Bool.{eq-eqb, eqb-true}
+use Rattle.std.proofs.lemmas.Bool.{eq-eqb, eqb-true, true≢false}
 use Rattle.std.proofs.lemmas.List.{get_or-set_other}
 use Rattle.strm_machine.specs.State.{State, Guest, no_stream, no_consumer, memory_in, stream_at, is_held, is_loose, is_host}
 use Rattle.strm_machine.specs.Hosting.{duty_of}
@@ -37,16 +37,17 @@ use Rattle.strm_machine.proofs.ShapeLemmas.{reaction-from, reaction-consumers}
 use Rattle.strm_machine.proofs.EndLemmas.{each_side}
 use Rattle.strm_machine.proofs.TableLemmas.{at_push}
 use Rattle.strm_host_laws.proofs.HostTurns.{Fills, Turned, turned_stream}
-use Rattle.strm_host_laws.proofs.Effects.{opened_by, Driven, Calls, Hosts, piped_streams, piped_guests, Pipes, forsaken_by, Forsakes, Rests, Effect, ByReaction, ByRest, ByHosting, ByPiping, ByDriving, ByPassing, ByCalling, ByForsaking, Passes, passing_guests, passing_many, passing_other, is_idle}
+use Rattle.strm_host_laws.proofs.Effects.{opened_by, Driven, Calls, Hosts, piped_streams, piped_guests, Pipes, forsaken_by, Forsakes, Rests, Effect, ByReaction, ByRest, ByHosting, ByPiping, ByDriving, ByPassing, ByCalling, ByForsaking, Passes, is_idle}
+use Rattle.strm_host_laws.proofs.PartEffects.{passing_guests, passing_many, passing_other}
 use Rattle.strm_machine.proofs.StreamSteps.{reaction_streams}
 use Rattle.strm_machine.proofs.SeenSteps.{same_seen, named_other, reaction_seen}
 use Rattle.strm_machine.proofs.ByteSteps.{reaction_bytes}
 use Rattle.strm_codes.specs.Layout.{scalars_of}
 use Rattle.strm_codes.specs.declared.payloads.Payload.{Payload}
 use Rattle.strm_host_laws.proofs.PartsSeen.{IsTaken, Parted, pipe_taken}
-use Rattle.strm_host_laws.proofs.Standing.{Holds, Holds-reaction, call_begun}
+use Rattle.strm_host_laws.proofs.TurnsStand.{Holds, Holds-reaction}
+use Rattle.strm_host_laws.proofs.Standing.{call_begun}
 use Rattle.strm_machine.proofs.HostLemmas.{no_host, unless_host}
-use Rattle.std.proofs.lemmas.Bool.{true≢false}
 
 -- a stream of which no host end had an end, as the laws know it
 pub record IsGuests (state : State) (s : ℕ) : Type 0 where

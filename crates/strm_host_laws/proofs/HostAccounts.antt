@@ -26,7 +26,7 @@ use Rattle.strm_laws.proofs.Conserved.{IsQuiet}
 use Rattle.strm_host_laws.specs.HostMoments.{HostMoment}
 use Rattle.strm_host_laws.specs.HostLaws.{plain, plains, is_made_by, is_hosted, is_piped_in, was_piped, taken_in_moment, taken_from_owner, taken_by, host_taken_in, all_taken, got_by, host_got_in, host_got}
 use Rattle.strm_host_laws.proofs.Moments.{got_unread}
-use Rattle.strm_host_laws.proofs.ReadSeen.{ReadIn, taken_none}
+use Rattle.strm_host_laws.proofs.ReadStepSeen.{ReadIn, taken_none}
 
 -- ## One moment more
 

@@ -44,9 +44,9 @@ use Rattle.strm_host_laws.proofs.Tracing.{holder_of, held_for, over_for, seen, c
 use Rattle.strm_host_laws.proofs.CourseLemmas.{forsaken-seen, piped-seen}
 use Rattle.strm_host_laws.proofs.CourseRuns.{course_after}
 use Rattle.strm_host_laws.proofs.Closed.{is_new, is_new_reader}
-use Rattle.strm_host_laws.proofs.Goings.{hosted}
-use Rattle.strm_host_laws.proofs.Standing.{Holds, nothing_kept}
-use Rattle.strm_host_laws.proofs.Effects.{loose_made}
+use Rattle.strm_host_laws.proofs.GoingRules.{hosted}
+use Rattle.strm_host_laws.proofs.TurnsStand.{Holds, nothing_kept}
+use Rattle.strm_host_laws.proofs.PartEffects.{loose_made}
 use Rattle.strm_host_laws.proofs.Unmoved.{push-other}
 use Rattle.strm_host_laws.proofs.WrittenBack.{set_back, back-here, back-kept, back-stays, back-length}
 use Rattle.strm_host_laws.proofs.Apart.{push-here, OnlyAt, WritesIt, ReadsIt, only-then, only-set, only-producer, only-consumer, only-back, served_once, stays-only}

@@ -38,7 +38,7 @@ use Rattle.strm_host_machine.specs.Attaching.{has_items}
 use Rattle.strm_host_machine.specs.WriterTurn.{lowered_items, receives, is_last, with_answer, produced_result, produces, writer_turn}
 use Rattle.strm_host_machine.specs.ReaderTurn.{lifted_items, reader_with_taken, gives_up, reader_turn}
 use Rattle.strm_host_machine.proofs.SettleLemmas.{is_done_with, leaves_writer-stays, leaves_reader-stays}
-use Rattle.strm_host_laws.proofs.Goings.{with_state, gave_up, with_stream_in-same}
+use Rattle.strm_host_laws.proofs.GoingRules.{with_state, gave_up, with_stream_in-same}
 use Rattle.strm_host_laws.proofs.TurnMoves.{moved-theirs, moved-mine}
 
 -- ## What is kept of host ends

@@ -19,11 +19,12 @@ use Rattle.strm_host_laws.specs.Isolation.{LeavesOthers, AreIsolated}
 use Rattle.strm_host_laws.proofs.Chains.{is_part, Follows}
 use Rattle.strm_host_laws.proofs.Closed.{Stands, Kept, SameClosed, part-closes, Stands-start}
 use Rattle.strm_host_laws.proofs.CourseRuns.{streams_in, BySelf, AllBySelf, unmade-runs}
-use Rattle.strm_host_laws.proofs.Effects.{follows_effect}
-use Rattle.strm_host_laws.proofs.Goings.{Comes, IfGoes}
+use Rattle.strm_host_laws.proofs.PartEffects.{follows_effect}
+use Rattle.strm_host_laws.proofs.GoingRules.{Comes, IfGoes}
 use Rattle.strm_host_laws.proofs.Happenings.{moment_at, Happening, ToNone, ToOne, Makes, happening-by_self, happening-leaves}
-use Rattle.strm_host_laws.proofs.HostBytes.{effect_kind}
-use Rattle.strm_host_laws.proofs.Standing.{Holds, Holds-next, Holds-empty}
+use Rattle.strm_host_laws.proofs.HostCounts.{effect_kind}
+use Rattle.strm_host_laws.proofs.TurnsStand.{Holds}
+use Rattle.strm_host_laws.proofs.Standing.{Holds-next, Holds-empty}
 use Rattle.strm_host_laws.proofs.StreamsApart.{IsMadePart, part-happens}
 
 -- what a moment does is done to one stream, as it is by itself

@@ -23,9 +23,9 @@ use Rattle.strm_host_laws.specs.HostMoments.{Part, HostMoment}
 use Rattle.strm_host_laws.specs.HostLaws.{used_by}
 use Rattle.strm_host_laws.proofs.Fed.{used_are}
 use Rattle.strm_host_laws.proofs.Forms.{HasTurned, opened, called, reacted_to, stream_of, IsRound, IsCall, IsPiping, Form, BySame, ByReacting, ByForsaking, ByHosting, ByFeeding, ByGranting, ByPiping, ByTurning, ByPassing, ByCalling}
-use Rattle.strm_host_laws.proofs.Goings.{piped_to}
+use Rattle.strm_host_laws.proofs.GoingRules.{piped_to}
 use Rattle.strm_host_laws.proofs.HostsAgree.{no_two, one_stream}
-use Rattle.strm_host_laws.proofs.Standing.{Holds}
+use Rattle.strm_host_laws.proofs.TurnsStand.{Holds}
 use Rattle.strm_host_laws.proofs.Took.{Took, Rests, Takes, Passes, form_took}
 use Rattle.strm_host_laws.proofs.Turned.{turned, stream_moved, taken_by, stream_taken}
 use Rattle.strm_host_laws.proofs.WrittenBack.{told_of, back-kept, round_kept}

@@ -31,7 +31,8 @@ use Rattle.strm_host_machine.specs.HostRefusals.{refusal_in}
 use Rattle.strm_host_machine.specs.Steps.{outcome, unless_refused_in, performs_in}
 use Rattle.strm_host_machine.specs.Does.{LogBegins as BeginsWith, AllBegin, saids, Extends, held_while, writers_from, world_of, Does}
 use Rattle.strm_host_laws.specs.HostMoments.{Acts, Turns}
-use Rattle.strm_host_laws.proofs.Goings.{Begins, Stopping, Rules, Comes, part-comes, feed-comes, grant-comes}
+use Rattle.strm_host_laws.proofs.GoingRules.{Begins, Stopping, Rules, Comes}
+use Rattle.strm_host_laws.proofs.Goings.{part-comes, feed-comes, grant-comes}
 use Rattle.strm_host_laws.proofs.Rounds.{writer_there}
 
 -- ONE CHANGE

@@ -2,6 +2,8 @@
 
 -- The moments of a run follow each other, and the world after the last of them is where its play ends
 pub mod Chains
+-- The changes that a part of a run is made of, and what each of them leaves of a stream
+pub mod GoingRules
 -- What comes of a part of a run, by the changes that it is made of: what holds of each of them and from
 -- one to the next holds of the whole
 pub mod Goings
@@ -23,10 +25,22 @@ pub mod Rounds
 pub mod HostTurns
 -- What a part of a run does to the state: the few ways, and what is known of each
 pub mod Effects
+-- A turn in a drive round, what the machine does without host ends, and a read or write that a host end
+-- answers do to the state one of the few ways
+pub mod TurnEffects
+-- Every part of a run does to the state one of the few ways, drops of ends and what is done to host ends
+-- among them
+pub mod PartEffects
 -- What the turn of a host end does to its stream
 pub mod TurnMoves
 -- Handles and ends, host ends and streams still agree after a stream is another or goes
 pub mod HostsAgree
+-- What every state of a run with host ends keeps, and that a step of the machine, the turn of a host end, an
+-- end that opens or is told, and a stream more keep it
+pub mod TurnsStand
+-- A host end that goes with the other end, a read end that goes to a host reader, and the round of a pipe
+-- keep what every state keeps
+pub mod PipesStand
 -- Every state of a run with host ends is sound; handles and ends agree in it, and so do host ends and
 -- streams; and a read end that is loose has no operation
 pub mod Standing
@@ -47,6 +61,12 @@ pub mod FutureRead
 -- Every part of a run keeps what is known of a future that guests write, and whose read end went to a
 -- host reader; and it is so once the read end went there
 pub mod FuturesSeen
+-- What a step of the machine does to a stream that guests write and a host reader reads, or has read, and
+-- what is known of such a stream
+pub mod ReadStepSeen
+-- What a turn of the host reader, and a write that is called, do to the write end of a stream that guests
+-- write and a host reader reads
+pub mod ReadTurnSeen
 -- What a part of a run with host ends does to a stream that guests write and a host reader reads, or has
 -- read: on its write end one of the five changes, and on its read end nothing but what the host reader
 -- took
@@ -56,6 +76,8 @@ pub mod HostAccounts
 -- Every run with host ends: what its states keep of each stream, and the account of each of which no host
 -- end had an end
 pub mod GuestRuns
+-- How many items a part of a run with host ends may bring to a stream, and that its kind stays
+pub mod HostCounts
 -- Memories in a run with host ends: the bytes that are put lie there, and those that are not touched
 -- stay; what a host writer hands over touches those where its items are received, and a host reader
 -- touches none
@@ -74,6 +96,11 @@ pub mod Took
 -- What a moment does to the items that are kept of a host writer, and to the records of the host reader
 -- of its stream: nothing, unless it is the round of that stream
 pub mod KeptItems
+-- What is known of a future that a host writer writes, and that a moment which is no turn of it keeps that
+pub mod FutureKept
+-- What is known of a future that a host writer writes is known after a turn for its read, after its round,
+-- and after a read of it that is called
+pub mod FutureTurns
 -- A future that a host writer writes: it passes one item at most, if its writer held no more than one
 -- when it was made
 pub mod FutureWritten
@@ -98,6 +125,9 @@ pub mod Touched
 -- What one moment delivers on a stream of a host writer: what it produced and held is what was received,
 -- and what is held then
 pub mod Moments
+-- Moments that make no stream of a number, and streams that no host writer writes: no host writer produces
+-- for them
+pub mod Unhosted
 -- What a host writer produced is what was received and what is held, over the moments of a run
 pub mod Delivered
 -- A run has no more moments than its steps can have: a drive round has one for each stream, and a step

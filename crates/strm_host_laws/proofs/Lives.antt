@@ -33,8 +33,10 @@ use Rattle.strm_host_laws.proofs.Chains.{is_part}
 use Rattle.strm_host_laws.proofs.Closed.{Stands, Kept, SameClosed, part-closes}
 use Rattle.strm_host_laws.proofs.Fed.{OfWriters, OfEach, part-each, grant-each, rules-each, stopping-each, with-each}
 use Rattle.strm_host_laws.proofs.Forms.{opened, called, stream_of, IsTurn, IsCall, Form, part-formed}
-use Rattle.strm_host_laws.proofs.Goings.{IfGoes, Comes, with_stream_in-same, feed-comes}
-use Rattle.strm_host_laws.proofs.Standing.{Holds, Holds-next}
+use Rattle.strm_host_laws.proofs.GoingRules.{IfGoes, Comes, with_stream_in-same}
+use Rattle.strm_host_laws.proofs.Goings.{feed-comes}
+use Rattle.strm_host_laws.proofs.TurnsStand.{Holds}
+use Rattle.strm_host_laws.proofs.Standing.{Holds-next}
 use Rattle.strm_host_laws.proofs.Unmoved.{IsQuiet, WriterHost}
 use Rattle.strm_host_laws.proofs.WrittenBack.{back-guests, back-here, back-length, CanTurn, turned-length}
 

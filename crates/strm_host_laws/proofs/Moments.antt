@@ -45,7 +45,7 @@ use Rattle.strm_host_laws.proofs.HostBytes.{ReadOrRoomy}
 use Rattle.strm_host_laws.proofs.KeptItems.{Rested, Passing, rested_or_passing}
 use Rattle.strm_host_laws.proofs.PartsSeen.{IsTaken}
 use Rattle.strm_host_laws.proofs.Rounds.{Passed}
-use Rattle.strm_host_laws.proofs.Standing.{Holds, nothing_kept}
+use Rattle.strm_host_laws.proofs.TurnsStand.{Holds, nothing_kept}
 use Rattle.strm_host_laws.proofs.Lives.{Lives, owned_made, drive_can, opened_here, read_can, mid_made}
 use Rattle.strm_host_laws.proofs.Lowered.{lowered_lie}
 use Rattle.strm_host_laws.proofs.Touched.{Touch, NotTouched, IsLost, HasTurn, HasRound, HasRead, told_stream}

@@ -12,7 +12,7 @@ use Rattle.strm_machine.specs.Making.{made_stream, made_pair, with_stream}
 use Rattle.strm_machine.specs.Moves.{with_owner}
 use Rattle.strm_machine.specs.Endings.{delivered, report_on, told_end}
 use Rattle.strm_machine.specs.Tests.{named, stream_named, items_asked}
-use Rattle.strm_machine.specs.Turns.{Turn, finds, turn}
+use Rattle.strm_machine.specs.Turns.{Turn, finds, turn, with_received}
 use Rattle.strm_machine.specs.Reactions.{Reaction, told, written_back, reaction}
 use Rattle.strm_machine.specs.declared.acts.Act.{Act}
 use Rattle.strm_machine.specs.declared.acts.NamedEnd.{NamedEnd}
@@ -37,13 +37,14 @@ use Rattle.strm_machine.proofs.TableLemmas.{OwnersStay}
 use Rattle.strm_codes.specs.declared.codes.StreamResult.{StreamResult}
 use Rattle.strm_codes.specs.declared.payloads.Payload.{Payload}
 use Rattle.strm_host_machine.specs.Settling.{went, operation_settled, with_some_received}
-use Rattle.strm_machine.specs.Turns.{with_received}
 use Rattle.strm_host_machine.proofs.SettleLemmas.{is_done_with}
 use Rattle.strm_host_laws.specs.HostMoments.{Part}
 use Rattle.strm_host_laws.proofs.HostTurns.{Turned, turned_stream}
-use Rattle.strm_host_laws.proofs.Effects.{opened_by, piped_streams, Pipes, Passes, passing_streams, forsaken_by, Effect, ByReaction, ByRest, ByHosting, ByPiping, ByDriving, ByPassing, ByCalling, ByForsaking}
-use Rattle.strm_host_laws.proofs.Goings.{some_received-by}
-use Rattle.strm_host_laws.proofs.Standing.{Holds, call_begun, opened_owner, opened_operation}
+use Rattle.strm_host_laws.proofs.Effects.{opened_by, piped_streams, Pipes, Passes, forsaken_by, Effect, ByReaction, ByRest, ByHosting, ByPiping, ByDriving, ByPassing, ByCalling, ByForsaking}
+use Rattle.strm_host_laws.proofs.PartEffects.{passing_streams}
+use Rattle.strm_host_laws.proofs.GoingRules.{some_received-by}
+use Rattle.strm_host_laws.proofs.TurnsStand.{Holds}
+use Rattle.strm_host_laws.proofs.Standing.{call_begun, opened_owner, opened_operation}
 use Rattle.strm_host_laws.proofs.TurnMoves.{Moves, moved_on-moves}
 use Rattle.strm_machine.proofs.HostLemmas.{serving_made, turn_idle}
 

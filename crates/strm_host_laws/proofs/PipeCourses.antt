@@ -36,7 +36,7 @@ use Rattle.strm_host_laws.specs.StreamEvents.{poll_of_record, poll_of_reader}
 use Rattle.strm_host_laws.proofs.Tracing.{held_for, over_for, seen, course_of}
 use Rattle.strm_host_laws.proofs.CourseLemmas.{with_items-seen}
 use Rattle.strm_host_laws.proofs.Fed.{used_are}
-use Rattle.strm_host_laws.proofs.Goings.{IfGoes, some_received-end, some_received-kind}
+use Rattle.strm_host_laws.proofs.GoingRules.{IfGoes, some_received-end, some_received-kind}
 use Rattle.strm_host_laws.proofs.Rounds.{none_held, reader_there, set_empty}
 use Rattle.strm_host_laws.proofs.WrittenBack.{set_back, back-here, back-coming, back-told, back-length}
 use Rattle.strm_host_laws.proofs.Apart.{OnlyAt, only-same, only-then, only-producer, only-kept, only-writer, only-consumer, only-reader, only-back}

@@ -28,7 +28,7 @@ use Rattle.strm_machine.proofs.TableLemmas.{OwnersStay, set-keeps}
 use Rattle.strm_host_machine.specs.Ends.{Writer, Reader, no_reader, reader_in, polled_reader, closed_reader, granted_reader}
 use Rattle.strm_host_machine.specs.World.{World, stream_in, reader_at, with_consumer, with_reader, without_reader, leaves_writer, leaves_reader, with_stream_in}
 use Rattle.strm_host_machine.specs.ReaderTurn.{lifted_items}
-use Rattle.strm_host_machine.specs.Settling.{since_after}
+use Rattle.strm_host_machine.specs.Settling.{since_after, with_some_received}
 use Rattle.strm_host_machine.specs.Attaching.{piped, without_ends, forsaken}
 use Rattle.strm_host_machine.specs.HostPlays.{Ends, Halts, host_play}
 use Rattle.strm_host_machine.specs.Does.{is_ended, start_world}
@@ -37,16 +37,18 @@ use Rattle.strm_host_laws.specs.HostMoments.{Part, Acts, HostMoment, part_on, ho
 use Rattle.strm_host_laws.specs.HostLaws.{ReadersCloseExactly}
 use Rattle.strm_host_laws.proofs.Chains.{is_part, Chain, moments-chain, first-chain, StopsAt, host_play-ends, host_play-halts}
 use Rattle.strm_host_laws.proofs.Closed.{is_new_reader, unused-unended, or-true, or-false}
-use Rattle.strm_host_laws.proofs.Effects.{pipe_is, loose_made}
+use Rattle.strm_host_laws.proofs.PartEffects.{pipe_is, loose_made}
 use Rattle.strm_host_laws.proofs.Forms.{HasTurned, opened, called, reacted_to, stream_of, IsRound, IsCall, IsPiping, Form, BySame, ByReacting, ByForsaking, ByHosting, ByFeeding, ByGranting, ByPiping, ByTurning, ByPassing, ByCalling, part-formed}
 use Rattle.strm_host_laws.proofs.WrittenBack.{leaves_writer-readers, mid_end}
 use Rattle.strm_host_laws.proofs.Rounds.{between}
 use Rattle.strm_host_laws.proofs.HostTurns.{with_stream_in-kept}
 use Rattle.strm_host_machine.specs.Piping.{both_gone}
-use Rattle.strm_host_machine.specs.Settling.{with_some_received}
 use Rattle.strm_machine.specs.declared.streams.End.{End}
-use Rattle.strm_host_laws.proofs.Goings.{with_state, some_received-end, piped_to, Begins, Stopping, Rules, Halted, Comes, IfGoes, with_stream_in-same, part-comes, feed-comes, grant-comes}
-use Rattle.strm_host_laws.proofs.Standing.{Holds, Holds-reaction, Holds-next, Holds-empty, Holds-pipe}
+use Rattle.strm_host_laws.proofs.GoingRules.{with_state, some_received-end, piped_to, Begins, Stopping, Rules, Halted, Comes, IfGoes, with_stream_in-same}
+use Rattle.strm_host_laws.proofs.Goings.{part-comes, feed-comes, grant-comes}
+use Rattle.strm_host_laws.proofs.TurnsStand.{Holds, Holds-reaction}
+use Rattle.strm_host_laws.proofs.Standing.{Holds-next, Holds-empty}
+use Rattle.strm_host_laws.proofs.PipesStand.{Holds-pipe}
 use Rattle.strm_host_laws.proofs.Turned.{turned, stream_moved, taken_by, stream_taken, Taken}
 
 -- WHAT HOLDS OF A RUN SO FAR

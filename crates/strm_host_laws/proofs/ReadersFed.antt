@@ -29,7 +29,8 @@ use Rattle.strm_host_laws.specs.HostLaws.{used_records, used_by, all_used_by, gr
 use Rattle.strm_host_laws.proofs.Chains.{is_part, Follows, Chain, first-chain}
 use Rattle.strm_host_laws.proofs.Fed.{set-relates, used_are, heard_none, heard_both}
 use Rattle.strm_host_laws.proofs.WrittenBack.{leaves_writer-readers}
-use Rattle.strm_host_laws.proofs.Goings.{Begins, Stopping, Rules, Comes, IfGoes, is_passing, part-comes, feed-comes}
+use Rattle.strm_host_laws.proofs.GoingRules.{Begins, Stopping, Rules, Comes, IfGoes, is_passing}
+use Rattle.strm_host_laws.proofs.Goings.{part-comes, feed-comes}
 use Rattle.strm_machine.proofs.RefusalLemmas.{not_refused, not_le}
 
 -- WHAT HOLDS OF EACH HOST READER

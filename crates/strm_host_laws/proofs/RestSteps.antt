@@ -31,8 +31,8 @@ use Rattle.strm_host_laws.specs.HostMoments.{Acts}
 use Rattle.strm_host_laws.specs.Isolation.{StreamStaysWhole}
 use Rattle.strm_host_laws.proofs.Tracing.{held_for, over_for, seen, course_of}
 use Rattle.strm_host_laws.proofs.CourseRuns.{streams_in}
-use Rattle.strm_host_laws.proofs.Goings.{with_state}
-use Rattle.strm_host_laws.proofs.Standing.{Holds}
+use Rattle.strm_host_laws.proofs.GoingRules.{with_state}
+use Rattle.strm_host_laws.proofs.TurnsStand.{Holds}
 use Rattle.strm_host_laws.proofs.Unmoved.{push-other}
 use Rattle.strm_host_laws.proofs.Happenings.{moment_at, Silent, Happening, ToNone, Makes}
 use Rattle.strm_host_laws.proofs.Apart.{push-here}

@@ -11,8 +11,8 @@ use Rattle.strm_machine.specs.declared.replies.Reply.{Reply}
 use Rattle.strm_host_laws.specs.HostMoments.{Part, Acts, Turns}
 use Rattle.strm_host_laws.proofs.StepsLeft.{left_after, Pays}
 use Rattle.strm_host_laws.proofs.Effects.{Effect}
-use Rattle.strm_host_laws.proofs.Standing.{Holds}
-use Rattle.strm_host_laws.proofs.HostBytes.{NoPipe, effect_most, effect_still}
+use Rattle.strm_host_laws.proofs.TurnsStand.{Holds}
+use Rattle.strm_host_laws.proofs.HostCounts.{NoPipe, effect_most, effect_still}
 
 -- it has room for what a part may move on it
 abbrev pub HasRoom : State → ℕ → Part → Type 0

@@ -31,7 +31,7 @@ use Rattle.strm_host_machine.specs.Attaching.{has_items}
 use Rattle.strm_host_machine.specs.Piping.{wants_items, fetches, gathered, is_resting, passed_on, offers, is_done_with, is_run_dry, both_gone, ends_if_done, pipe_round}
 use Rattle.strm_host_machine.proofs.WorldLemmas.{set-same}
 use Rattle.strm_host_laws.specs.HostLaws.{items_of_records, count_taken}
-use Rattle.strm_host_laws.proofs.Goings.{with_state, IfGoes, some_received-kind, written-streams, with_stream_in-same}
+use Rattle.strm_host_laws.proofs.GoingRules.{with_state, IfGoes, some_received-kind, written-streams, with_stream_in-same}
 
 -- FETCHING
 

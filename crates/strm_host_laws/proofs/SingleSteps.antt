@@ -50,9 +50,9 @@ use Rattle.strm_host_laws.specs.Isolation.{StreamStaysWhole}
 use Rattle.strm_host_laws.specs.StreamEvents.{polls_across, by_name, by_loose_act, events_by_number, code_answered}
 use Rattle.strm_host_laws.proofs.Tracing.{holder_of, held_for, over_for, seen, course_of}
 use Rattle.strm_host_laws.proofs.CourseLemmas.{delivered-seen, cancelled-seen, owner-seen, dropped-seen, turn-seen}
-use Rattle.strm_host_laws.proofs.Goings.{with_state, IfGoes}
-use Rattle.strm_host_laws.proofs.Standing.{Holds}
-use Rattle.strm_host_laws.proofs.Effects.{loose_made}
+use Rattle.strm_host_laws.proofs.GoingRules.{with_state, IfGoes}
+use Rattle.strm_host_laws.proofs.TurnsStand.{Holds}
+use Rattle.strm_host_laws.proofs.PartEffects.{loose_made}
 use Rattle.strm_host_laws.proofs.Apart.{OnlyAt, WritesIt, ReadsIt, only-set, stays-apart}
 use Rattle.strm_host_laws.proofs.Happenings.{moment_at, Silent, silent-of, Happening, ToNone, ToOne, named-silent, named-events, named-answers}
 

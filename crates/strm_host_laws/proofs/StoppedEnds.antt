@@ -11,7 +11,8 @@ use Rattle.strm_host_machine.specs.HostPlays.{host_play, Halts}
 use Rattle.strm_host_laws.specs.HostLaws.{WriterHalts, ReaderHalts}
 use Rattle.strm_host_laws.specs.HostMoments.{Part, Acts, part_on, host_moments, end_world}
 use Rattle.strm_host_laws.proofs.Chains.{is_part, StopsAt, host_play-halts}
-use Rattle.strm_host_laws.proofs.Goings.{Halted, Comes, part-comes, feed-comes, grant-comes}
+use Rattle.strm_host_laws.proofs.GoingRules.{Halted, Comes}
+use Rattle.strm_host_laws.proofs.Goings.{part-comes, feed-comes, grant-comes}
 use Rattle.strm_host_laws.proofs.ReadersClosed.{Any, any_rules}
 use Rattle.strm_host_laws.proofs.Fed.{OfEach, stopping-each, Uses, of_uses}
 use Rattle.strm_host_laws.proofs.ReadersFed.{OfEachReader, stopping-each_reader, Uses as UsesReader, of_uses as of_uses_reader}

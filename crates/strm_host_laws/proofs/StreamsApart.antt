@@ -57,8 +57,8 @@ use Rattle.strm_host_laws.proofs.Chains.{is_part}
 use Rattle.strm_host_laws.proofs.Closed.{Stands}
 use Rattle.strm_host_laws.proofs.CourseLemmas.{report-seen, delivered-seen, opened-seen, unheard}
 use Rattle.strm_host_laws.proofs.Forms.{called, stream_of}
-use Rattle.strm_host_laws.proofs.Goings.{with_state, with_stream_in-same, IfGoes}
-use Rattle.strm_host_laws.proofs.Standing.{Holds, nothing_kept}
+use Rattle.strm_host_laws.proofs.GoingRules.{with_state, with_stream_in-same, IfGoes}
+use Rattle.strm_host_laws.proofs.TurnsStand.{Holds, nothing_kept}
 use Rattle.strm_host_laws.proofs.WrittenBack.{back-here, back-coming, back-told, back-length}
 use Rattle.strm_host_laws.proofs.Apart.{OnlyAt, WritesIt, ReadsIt, only-same, only-fewer, only-then, only-set, only-back, stays-apart}
 use Rattle.strm_host_laws.proofs.Happenings.{moment_at, silent-of, Happening, ToOne}

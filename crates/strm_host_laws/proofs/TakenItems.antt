@@ -21,17 +21,19 @@ use Rattle.strm_host_machine.specs.World.{World, stream_in}
 use Rattle.strm_host_laws.specs.HostMoments.{HostMoment, first_moments}
 use Rattle.strm_host_laws.specs.HostLaws.{plain, taken_in_moment, taken_from_owner, taken_by, host_taken_in, all_taken}
 use Rattle.strm_host_laws.proofs.Chains.{Follows, Chain, first-chain}
-use Rattle.strm_host_laws.proofs.Effects.{Effect, follows_effect}
+use Rattle.strm_host_laws.proofs.Effects.{Effect}
+use Rattle.strm_host_laws.proofs.PartEffects.{follows_effect}
 use Rattle.strm_host_laws.proofs.Forms.{IsRound, Form, part-formed}
-use Rattle.strm_host_laws.proofs.Goings.{IfGoes}
+use Rattle.strm_host_laws.proofs.GoingRules.{IfGoes}
 use Rattle.strm_host_laws.proofs.HostAccounts.{taken_unread}
 use Rattle.strm_host_laws.proofs.HostsAgree.{one_stream}
 use Rattle.strm_host_laws.proofs.KeptItems.{unused_by}
 use Rattle.strm_host_laws.proofs.Moments.{nothing_from, round_got}
 use Rattle.strm_host_laws.proofs.PartsSeen.{IsTaken}
-use Rattle.strm_host_laws.proofs.ReadSeen.{taken_at}
+use Rattle.strm_host_laws.proofs.ReadTurnSeen.{taken_at}
 use Rattle.strm_host_laws.proofs.Rooms.{HasRoom, WrittenOrRoom, written_or_room, written_or_room_next}
-use Rattle.strm_host_laws.proofs.Standing.{Holds, Holds-next, Holds-empty}
+use Rattle.strm_host_laws.proofs.TurnsStand.{Holds}
+use Rattle.strm_host_laws.proofs.Standing.{Holds-next, Holds-empty}
 use Rattle.strm_host_laws.proofs.StepsLeft.{left_after, Costs, first_cost}
 use Rattle.strm_host_laws.proofs.Took.{TakesOn, Took, Rests, Takes, Passes, form_took}
 

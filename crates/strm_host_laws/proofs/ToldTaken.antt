@@ -34,18 +34,21 @@ use Rattle.strm_host_laws.specs.HostMoments.{Part, Acts, HostMoment, first_momen
 use Rattle.strm_host_laws.specs.HostLaws.{plain, taken_in_moment, taken_from_owner, taken_by, host_taken_in, all_taken, is_piped_to, is_pipe_of, is_piped_in, TellsTaken}
 use Rattle.strm_host_laws.proofs.Chains.{Follows, Chain, first-chain}
 use Rattle.strm_host_laws.proofs.Duties.{duty, Stays, Ends, Gets, pipes_duty, effect_duty}
-use Rattle.strm_host_laws.proofs.Effects.{Pipes, Effect, follows_effect}
+use Rattle.strm_host_laws.proofs.Effects.{Pipes, Effect}
+use Rattle.strm_host_laws.proofs.PartEffects.{follows_effect}
 use Rattle.strm_host_laws.proofs.Forms.{IsRound, Form, part-formed}
-use Rattle.strm_host_laws.proofs.Goings.{IfGoes}
+use Rattle.strm_host_laws.proofs.GoingRules.{IfGoes}
 use Rattle.strm_host_laws.proofs.GuestsSeen.{effect_pipes}
 use Rattle.strm_host_laws.proofs.HostAccounts.{all_front, all_back, taken_unread}
 use Rattle.strm_host_laws.proofs.KeptItems.{unused_by}
 use Rattle.strm_host_laws.proofs.Moments.{nothing_from, round_got}
 use Rattle.strm_host_laws.proofs.WrittenBack.{told_of, round_told}
 use Rattle.strm_host_laws.proofs.PartsSeen.{IsTaken, owner_taken, effect_taken}
-use Rattle.strm_host_laws.proofs.ReadSeen.{taken_at, entering}
+use Rattle.strm_host_laws.proofs.ReadTurnSeen.{taken_at}
+use Rattle.strm_host_laws.proofs.ReadSeen.{entering}
 use Rattle.strm_host_laws.proofs.Rooms.{HasRoom, WrittenOrRoom, written_or_room, written_or_room_next}
-use Rattle.strm_host_laws.proofs.Standing.{Holds, Holds-next, Holds-empty}
+use Rattle.strm_host_laws.proofs.TurnsStand.{Holds}
+use Rattle.strm_host_laws.proofs.Standing.{Holds-next, Holds-empty}
 use Rattle.strm_host_laws.proofs.StepsLeft.{left_after, Costs, first_cost}
 use Rattle.strm_host_laws.proofs.TakenItems.{run_items}
 use Rattle.strm_host_laws.proofs.Took.{TakesOn, Took, Rests, Takes, Passes, form_took}

@@ -32,13 +32,14 @@ use Rattle.strm_host_machine.specs.World.{World, stream_in, writer_at, reader_at
 use Rattle.strm_host_laws.specs.HostMoments.{Acts, Turns, HostMoment}
 use Rattle.strm_host_laws.specs.HostLaws.{act_in, plain, source}
 use Rattle.strm_host_laws.proofs.Forms.{opened, called, reacted_to, stream_of, IsTurn, IsRound, IsCall, IsForsaking, IsPiping, Form, BySame, ByReacting, ByForsaking, ByHosting, ByFeeding, ByGranting, ByPiping, ByTurning, ByPassing, ByCalling}
-use Rattle.strm_host_laws.proofs.Goings.{piped_to}
-use Rattle.strm_host_laws.proofs.HostBytes.{placed_small}
+use Rattle.strm_host_laws.proofs.GoingRules.{piped_to}
+use Rattle.strm_host_laws.proofs.HostCounts.{placed_small}
 use Rattle.strm_host_laws.proofs.HostTurns.{taken_few}
 use Rattle.strm_host_laws.proofs.TurnMoves.{moved_on-received}
 use Rattle.strm_host_laws.proofs.PartsSeen.{IsTaken, owner_taken}
 use Rattle.strm_host_laws.proofs.Rooms.{HasRoom}
-use Rattle.strm_host_laws.proofs.Standing.{Holds, waiting_placed}
+use Rattle.strm_host_laws.proofs.TurnsStand.{Holds}
+use Rattle.strm_host_laws.proofs.Standing.{waiting_placed}
 use Rattle.strm_host_laws.proofs.Touched.{told_stream}
 use Rattle.strm_host_laws.proofs.Turned.{turned, stream_moved, taken_by, stream_taken, Taken}
 use Rattle.strm_host_laws.proofs.Unread.{reaction-counts}

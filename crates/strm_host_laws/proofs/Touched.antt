@@ -25,11 +25,11 @@ use Rattle.strm_host_laws.specs.HostMoments.{Part}
 use Rattle.strm_machine.proofs.TableLemmas.{set-keeps}
 use Rattle.strm_host_laws.proofs.Forms.{opened, called, reacted_to, stream_of, IsTurn, IsRound, IsCall, IsForsaking, IsPiping, Form, BySame, ByReacting, ByForsaking, ByHosting, ByFeeding, ByGranting, ByPiping, ByTurning, ByPassing, ByCalling}
 use Rattle.strm_host_laws.proofs.Closed.{is_new_reader}
-use Rattle.strm_host_laws.proofs.Effects.{loose_made}
+use Rattle.strm_host_laws.proofs.PartEffects.{loose_made}
 use Rattle.strm_host_laws.proofs.Turned.{Taken}
-use Rattle.strm_host_laws.proofs.Goings.{hosted, piped_to}
+use Rattle.strm_host_laws.proofs.GoingRules.{hosted, piped_to}
 use Rattle.strm_host_laws.proofs.Lives.{Lives, owned_made, owned_once, owned_quiet, drive_can, read_can}
-use Rattle.strm_host_laws.proofs.Standing.{Holds}
+use Rattle.strm_host_laws.proofs.TurnsStand.{Holds}
 use Rattle.strm_host_laws.proofs.Unmoved.{push-other, Unmoved, IsQuiet, unheld_by, quiet_none, reaction-unmoved}
 use Rattle.strm_host_laws.proofs.WrittenBack.{back-writer, back-coming, back-here, back-other, back-length, back-stays, turned-other, turned-length, turned-writer, round_other, round_length, round_writer, taken-other, taken-length, taken-writer}
 

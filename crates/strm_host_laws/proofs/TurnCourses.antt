@@ -35,7 +35,7 @@ use Rattle.strm_host_machine.specs.Polls.{AfterWriter, is_failed, is_writer_poll
 use Rattle.strm_host_machine.specs.WriterTurn.{lowered_items, receives, is_last, with_answer, produced_result, produces, writer_turn}
 use Rattle.strm_host_machine.proofs.SettleLemmas.{is_done_with, moved_on-owner}
 use Rattle.strm_host_machine.proofs.WorldLemmas.{set-same}
-use Rattle.strm_host_laws.proofs.Goings.{IfGoes}
+use Rattle.strm_host_laws.proofs.GoingRules.{IfGoes}
 use Rattle.strm_host_laws.proofs.Turned.{turned, stream_moved, Turned, turn_is, taken_by, stream_taken, Taken, taking_is}
 use Rattle.strm_host_laws.proofs.WrittenBack.{back-coming, back-told, back-length}
 use Rattle.strm_host_machine.specs.Courses.{Course, CoursePoll, goes_on}

@@ -30,7 +30,7 @@ use Rattle.strm_host_machine.specs.ReaderTurn.{lifted_items, reader_with_taken, 
 use Rattle.strm_host_machine.specs.WriterTurn.{lowered_items, receives, is_last, with_answer, produced_result, produces, writer_turn}
 use Rattle.strm_host_machine.proofs.WorldLemmas.{set-same}
 use Rattle.strm_host_laws.specs.HostLaws.{items_of_records}
-use Rattle.strm_host_laws.proofs.Goings.{gave_up, IfGoes}
+use Rattle.strm_host_laws.proofs.GoingRules.{gave_up, IfGoes}
 use Rattle.strm_host_laws.proofs.Rounds.{IsGoodSaid, one_said}
 
 -- the world after a turn, but for the stream: these items were lowered, and this is kept of the writer

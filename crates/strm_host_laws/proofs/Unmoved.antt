@@ -19,7 +19,7 @@ use Rattle.strm_machine.specs.declared.streams.Stream.{Stream}
 use Rattle.strm_machine.proofs.HeldLemmas.{StateIsHeld}
 use Rattle.strm_machine.proofs.Shapes.{stream_on, begun_on, turn_on, IsFreed, Shape, ByTurn, BySetting, ByOwner, ByTable, ByPair, ByGuest, ByPut, ByRest}
 use Rattle.strm_machine.proofs.ShapeLemmas.{reaction-shape}
-use Rattle.strm_host_laws.proofs.Standing.{Holds}
+use Rattle.strm_host_laws.proofs.TurnsStand.{Holds}
 
 -- a stream that stands before a new one
 pub push-other : (xs : List Stream) (x : Stream) (t : ℕ) → t ≢ length xs → get_or (xs ++ x ∷ []) t no_stream ≡ get_or xs t no_stream

@@ -23,7 +23,7 @@ use Rattle.strm_machine.proofs.HeldLemmas.{StateIsHeld}
 use Rattle.strm_machine.proofs.Shapes.{stream_on, begun_on, turn_on, Shape, ByTurn, BySetting, ByOwner, ByTable, ByPair, ByGuest, ByPut, ByRest}
 use Rattle.strm_machine.proofs.ShapeLemmas.{reaction-shape}
 use Rattle.strm_host_laws.proofs.PartsSeen.{IsTaken}
-use Rattle.strm_host_laws.proofs.Standing.{Holds}
+use Rattle.strm_host_laws.proofs.TurnsStand.{Holds}
 
 -- a write finds no read there
 turn_counts : (guests : List Guest) (stream : Stream) (mine : Operation) → stream.reader.operation ≡ None → (turn Writing guests stream mine).stream.received ≡ stream.received

@@ -19,7 +19,7 @@ use Rattle.strm_host_machine.specs.Settling.{result_of, with_some_received}
 use Rattle.strm_host_machine.specs.WriterTurn.{lowered_items}
 use Rattle.strm_host_machine.proofs.SettleLemmas.{is_done_with, moved_on-owner, leaves_writer-stays}
 use Rattle.strm_machine.proofs.TableLemmas.{set-keeps}
-use Rattle.strm_host_laws.proofs.Goings.{with_state, some_received-end, written-streams, piped_to}
+use Rattle.strm_host_laws.proofs.GoingRules.{with_state, some_received-end, written-streams, piped_to}
 use Rattle.strm_host_laws.proofs.Rounds.{Passed}
 use Rattle.strm_host_laws.specs.HostMoments.{Part}
 use Rattle.strm_machine.specs.declared.acts.NamedEnd.{NamedEnd}

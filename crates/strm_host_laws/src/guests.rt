@@ -26,11 +26,13 @@ ghost use Rattle.strm_host_laws.specs.HostLaws.{plains, is_hosted, was_piped, ho
 /// writes, and a host reader the read end of its one stream, on which no guest reads.
 pub fn states_are_sound()
     ensures sound { (tag : ℕ) (limits : Limits) (old new : Tells) (run : List Step) (count : ℕ) →
-        IsSound (end_world (start_world tag limits old new)
-        (first_moments count (start_world tag limits old new) run)).state }
+        let first = start_world tag limits old new in
+        let moments = first_moments count first run in
+        IsSound (end_world first moments).state }
     ensures hosts { (tag : ℕ) (limits : Limits) (old new : Tells) (run : List Step) (count : ℕ) →
-        HostsHold (end_world (start_world tag limits old new)
-        (first_moments count (start_world tag limits old new) run)).state }
+        let first = start_world tag limits old new in
+        let moments = first_moments count first run in
+        HostsHold (end_world first moments).state }
 {}
 
 /// An end that a handle names is held under that handle, and an end that is held is named by its
@@ -38,11 +40,13 @@ pub fn states_are_sound()
 /// end's, or once it is gone.
 pub fn handles_hold_their_ends()
     ensures holds { (tag : ℕ) (limits : Limits) (old new : Tells) (run : List Step) (count : ℕ) →
-        HandlesHold (end_world (start_world tag limits old new)
-        (first_moments count (start_world tag limits old new) run)).state }
+        let first = start_world tag limits old new in
+        let moments = first_moments count first run in
+        HandlesHold (end_world first moments).state }
     ensures single { (tag : ℕ) (limits : Limits) (old new : Tells) (run : List Step) (count : ℕ) →
-        HandlesAreSingle (end_world (start_world tag limits old new)
-        (first_moments count (start_world tag limits old new) run)).state }
+        let first = start_world tag limits old new in
+        let moments = first_moments count first run in
+        HandlesAreSingle (end_world first moments).state }
 {}
 
 /// A member of a waitable set is a live handle of a stream's or future's end, in the table of the set's
@@ -50,8 +54,9 @@ pub fn handles_hold_their_ends()
 /// is there.
 pub fn members_are_live()
     ensures { (tag : ℕ) (limits : Limits) (old new : Tells) (run : List Step) (count : ℕ) →
-        MembersAreLive (end_world (start_world tag limits old new)
-        (first_moments count (start_world tag limits old new) run)).state }
+        let first = start_world tag limits old new in
+        let moments = first_moments count first run in
+        MembersAreLive (end_world first moments).state }
 {}
 
 /// An error context counts the handles to it in all tables together, after whichever steps: it is there
@@ -59,53 +64,59 @@ pub fn members_are_live()
 /// 4,096 bytes.
 pub fn contexts_count_their_handles()
     ensures { (tag : ℕ) (limits : Limits) (old new : Tells) (run : List Step) (count : ℕ) →
-        ContextsCount (end_world (start_world tag limits old new)
-        (first_moments count (start_world tag limits old new) run)).state }
+        let first = start_world tag limits old new in
+        let moments = first_moments count first run in
+        ContextsCount (end_world first moments).state }
 {}
 
 /// No stream or future has both an open write and an open read, after at most 4,294,967,295 steps. On one
 /// that was made of a host writer no guest writes at all, and on one whose read end went to a host reader
 /// none reads any more.
 pub fn never_two_open()
-    ensures apart { (tag : ℕ) (limits : Limits) (old new : Tells) (run : List Step) (count : ℕ) (s : ℕ) →
-        AreSteps run → both_open (stream_in (end_world (start_world tag limits old new)
-        (first_moments count (start_world tag limits old new) run)) s) ≡ false }
-    ensures idle { (tag : ℕ) (limits : Limits) (old new : Tells) (run : List Step) (count : ℕ) (s : ℕ) →
-        AreSteps run → is_hosted s (first_moments count (start_world tag limits old new) run) ≡ true →
-        (stream_in (end_world (start_world tag limits old new)
-        (first_moments count (start_world tag limits old new) run)) s).writer.operation ≡ None }
-    ensures unread { (tag : ℕ) (limits : Limits) (old new : Tells) (run : List Step) (count : ℕ) (s : ℕ) →
-        AreSteps run → was_piped s (first_moments count (start_world tag limits old new) run) ≡ true →
-        (stream_in (end_world (start_world tag limits old new)
-        (first_moments count (start_world tag limits old new) run)) s).reader.operation ≡ None }
+    ensures apart { (tag : ℕ) (limits : Limits) (old new : Tells) (run : List Step) (count s : ℕ) →
+        let first = start_world tag limits old new in
+        let moments = first_moments count first run in
+        AreSteps run → both_open (stream_in (end_world first moments) s) ≡ false }
+    ensures idle { (tag : ℕ) (limits : Limits) (old new : Tells) (run : List Step) (count s : ℕ) →
+        let first = start_world tag limits old new in
+        let moments = first_moments count first run in
+        AreSteps run → is_hosted s moments ≡ true →
+        (stream_in (end_world first moments) s).writer.operation ≡ None }
+    ensures unread { (tag : ℕ) (limits : Limits) (old new : Tells) (run : List Step) (count s : ℕ) →
+        let first = start_world tag limits old new in
+        let moments = first_moments count first run in
+        AreSteps run → was_piped s moments ≡ true →
+        (stream_in (end_world first moments) s).reader.operation ≡ None }
 {}
 
 /// A read or write that has not met has moved nothing, on a stream that no host writer made and whose read
 /// end went to no host reader: so a cancel of it says Cancelled of no item. A poll of a host end may move
 /// items of a read or write that it leaves open.
 pub fn unmet_has_moved_none()
-    ensures { (tag : ℕ) (limits : Limits) (old new : Tells) (run : List Step) (count : ℕ) (s : ℕ) →
-        AreSteps run → is_hosted s (first_moments count (start_world tag limits old new) run) ≡ false →
-        was_piped s (first_moments count (start_world tag limits old new) run) ≡ false →
-        AreUnmoved (stream_in (end_world (start_world tag limits old new)
-        (first_moments count (start_world tag limits old new) run)) s) }
+    ensures { (tag : ℕ) (limits : Limits) (old new : Tells) (run : List Step) (count s : ℕ) →
+        let first = start_world tag limits old new in
+        let moments = first_moments count first run in
+        AreSteps run → is_hosted s moments ≡ false → was_piped s moments ≡ false →
+        AreUnmoved (stream_in (end_world first moments) s) }
 {}
 
 /// Of every stream: a write that has not met, and whose end is there, has moved something only while a host
 /// reader has the read end, and a read that has not met, and whose end is there, only while a host writer has
 /// the write end.
 pub fn unmet_moves_by_host_ends()
-    ensures { (tag : ℕ) (limits : Limits) (old new : Tells) (run : List Step) (count : ℕ) (s : ℕ) →
-        AreSteps run → MovesByHosts (stream_in (end_world (start_world tag limits old new)
-        (first_moments count (start_world tag limits old new) run)) s) }
+    ensures { (tag : ℕ) (limits : Limits) (old new : Tells) (run : List Step) (count s : ℕ) →
+        let first = start_world tag limits old new in
+        let moments = first_moments count first run in
+        AreSteps run → MovesByHosts (stream_in (end_world first moments) s) }
 {}
 
 /// The items of an operation, those that it moved and those that it has left, are below 2^28
 /// together.
 pub fn totals_are_counts()
-    ensures { (tag : ℕ) (limits : Limits) (old new : Tells) (run : List Step) (count : ℕ) (s : ℕ) →
-        AreCounted (stream_in (end_world (start_world tag limits old new)
-        (first_moments count (start_world tag limits old new) run)) s) }
+    ensures { (tag : ℕ) (limits : Limits) (old new : Tells) (run : List Step) (count s : ℕ) →
+        let first = start_world tag limits old new in
+        let moments = first_moments count first run in
+        AreCounted (stream_in (end_world first moments) s) }
 {}
 
 /// On each stream of which no host end had an end, what was received is, in order, exactly the first k items
@@ -115,20 +126,19 @@ pub fn totals_are_counts()
 /// carries it: a read or write that has no report yet has moved what its operation says, and its next item
 /// lies behind that.
 pub fn conservation()
-    ensures conserves { (tag : ℕ) (limits : Limits) (old new : Tells) (run : List Step) (count : ℕ) (s : ℕ) →
-        AreSteps run → is_hosted s (first_moments count (start_world tag limits old new) run) ≡ false →
-        was_piped s (first_moments count (start_world tag limits old new) run) ≡ false →
-        Conserves s (plains (first_moments count (start_world tag limits old new) run))
-        (end_world (start_world tag limits old new) (first_moments count (start_world tag limits old new) run)).state }
-    ensures stands { (tag : ℕ) (limits : Limits) (old new : Tells) (run : List Step) (count : ℕ) (s : ℕ)
+    ensures conserves { (tag : ℕ) (limits : Limits) (old new : Tells) (run : List Step)
+        (count s : ℕ) →
+        let first = start_world tag limits old new in
+        let moments = first_moments count first run in
+        AreSteps run → is_hosted s moments ≡ false → was_piped s moments ≡ false →
+        Conserves s (plains moments) (end_world first moments).state }
+    ensures stands { (tag : ℕ) (limits : Limits) (old new : Tells) (run : List Step) (count s : ℕ)
         (side : Side) →
-        AreSteps run → is_hosted s (first_moments count (start_world tag limits old new) run) ≡ false →
-        was_piped s (first_moments count (start_world tag limits old new) run) ≡ false →
-        Stands (stream_in (end_world (start_world tag limits old new)
-        (first_moments count (start_world tag limits old new) run)) s).payload
-        (waiting s side (end_world (start_world tag limits old new)
-        (first_moments count (start_world tag limits old new) run)).state)
-        (calls s side (plains (first_moments count (start_world tag limits old new) run))) }
+        let first = start_world tag limits old new in
+        let moments = first_moments count first run in
+        AreSteps run → is_hosted s moments ≡ false → was_piped s moments ≡ false →
+        Stands (stream_in (end_world first moments) s).payload
+        (waiting s side (end_world first moments).state) (calls s side (plains moments)) }
 {}
 
 /// The same of each stream or future that guests write, where a host reader had the read end too: what was
@@ -136,33 +146,34 @@ pub fn conservation()
 /// the count reported, each as its guest's memory held it just before it was copied or taken. What the reads
 /// report and what the host reader took are together as many items. On a future one item is received at most.
 pub fn conservation_among()
-    ensures conserves { (tag : ℕ) (limits : Limits) (old new : Tells) (run : List Step) (count : ℕ) (s : ℕ) →
-        AreSteps run → is_hosted s (first_moments count (start_world tag limits old new) run) ≡ false →
-        ConservesAmong s (first_moments count (start_world tag limits old new) run)
-        (end_world (start_world tag limits old new) (first_moments count (start_world tag limits old new) run)).state }
-    ensures stands { (tag : ℕ) (limits : Limits) (old new : Tells) (run : List Step) (count : ℕ) (s : ℕ)
+    ensures conserves { (tag : ℕ) (limits : Limits) (old new : Tells) (run : List Step)
+        (count s : ℕ) →
+        let first = start_world tag limits old new in
+        let moments = first_moments count first run in
+        AreSteps run → is_hosted s moments ≡ false →
+        ConservesAmong s moments (end_world first moments).state }
+    ensures stands { (tag : ℕ) (limits : Limits) (old new : Tells) (run : List Step) (count s : ℕ)
         (side : Side) →
-        AreSteps run → is_hosted s (first_moments count (start_world tag limits old new) run) ≡ false →
-        Stands (stream_in (end_world (start_world tag limits old new)
-        (first_moments count (start_world tag limits old new) run)) s).payload
-        (waiting s side (end_world (start_world tag limits old new)
-        (first_moments count (start_world tag limits old new) run)).state)
-        (calls s side (plains (first_moments count (start_world tag limits old new) run))) }
-    ensures one { (tag : ℕ) (limits : Limits) (old new : Tells) (run : List Step) (count : ℕ) (s : ℕ) →
-        AreSteps run → is_hosted s (first_moments count (start_world tag limits old new) run) ≡ false →
-        (stream_in (end_world (start_world tag limits old new)
-        (first_moments count (start_world tag limits old new) run)) s).kind ≡ Future →
-        length (host_got s (first_moments count (start_world tag limits old new) run)) ≤ 1 }
+        let first = start_world tag limits old new in
+        let moments = first_moments count first run in
+        AreSteps run → is_hosted s moments ≡ false →
+        Stands (stream_in (end_world first moments) s).payload
+        (waiting s side (end_world first moments).state) (calls s side (plains moments)) }
+    ensures one { (tag : ℕ) (limits : Limits) (old new : Tells) (run : List Step) (count s : ℕ) →
+        let first = start_world tag limits old new in
+        let moments = first_moments count first run in
+        AreSteps run → is_hosted s moments ≡ false →
+        (stream_in (end_world first moments) s).kind ≡ Future → length (host_got s moments) ≤ 1 }
 {}
 
 /// On a future of which no host end had an end one item is received at most.
 pub fn futures_pass_one()
-    ensures { (tag : ℕ) (limits : Limits) (old new : Tells) (run : List Step) (count : ℕ) (s : ℕ) →
-        AreSteps run → is_hosted s (first_moments count (start_world tag limits old new) run) ≡ false →
-        was_piped s (first_moments count (start_world tag limits old new) run) ≡ false →
-        (stream_in (end_world (start_world tag limits old new)
-        (first_moments count (start_world tag limits old new) run)) s).kind ≡ Future →
-        length (got s (plains (first_moments count (start_world tag limits old new) run))) ≤ 1 }
+    ensures { (tag : ℕ) (limits : Limits) (old new : Tells) (run : List Step) (count s : ℕ) →
+        let first = start_world tag limits old new in
+        let moments = first_moments count first run in
+        AreSteps run → is_hosted s moments ≡ false → was_piped s moments ≡ false →
+        (stream_in (end_world first moments) s).kind ≡ Future →
+        length (got s (plains moments)) ≤ 1 }
 {}
 
 /// Nothing but a poke, a message and the items received changes a memory: in each moment of a run all other
@@ -170,13 +181,17 @@ pub fn futures_pass_one()
 /// writer hands over touches the bytes where its items are received, and what a host reader takes touches
 /// none.
 pub fn other_bytes_stay()
-    ensures { (tag : ℕ) (limits : Limits) (old new : Tells) (run : List Step) (count : ℕ) → AreSteps run →
-        All StaysAside (plains (first_moments count (start_world tag limits old new) run)) }
+    ensures { (tag : ℕ) (limits : Limits) (old new : Tells) (run : List Step) (count : ℕ) →
+        let first = start_world tag limits old new in
+        let moments = first_moments count first run in
+        AreSteps run → All StaysAside (plains moments) }
 {}
 
 /// The bytes that a step puts into a memory, those of a poke or of an error context's message, lie there
 /// after it, in whichever run: exactly as many as the step names, or answers.
 pub fn bytes_are_put()
     ensures { (tag : ℕ) (limits : Limits) (old new : Tells) (run : List Step) (count : ℕ) →
-        All LieThere (plains (first_moments count (start_world tag limits old new) run)) }
+        let first = start_world tag limits old new in
+        let moments = first_moments count first run in
+        All LieThere (plains moments) }
 {}

@@ -28,39 +28,43 @@ pub fn moments_lead_to_the_end()
 /// where it was closed at first, and where it was an end of a stream and is none any more, and nowhere
 /// else. A step that stops closes none, and those tell then that they are gone that were gone before it.
 pub fn ends_close_exactly()
-    ensures runs { (tag : ℕ) (limits : Limits) (old new : Tells) (run : List Step) (replies : List Reply)
-        (end : World) → host_play [] (start_world tag limits old new) run ≡ Ends replies end →
-        ClosesExactly (start_world tag limits old new) end.state end.writers }
+    ensures runs { (tag : ℕ) (limits : Limits) (old new : Tells) (run : List Step)
+        (replies : List Reply) (end : World) →
+        let first = start_world tag limits old new in
+        host_play [] first run ≡ Ends replies end → ClosesExactly first end.state end.writers }
     ensures moments { (tag : ℕ) (limits : Limits) (old new : Tells) (run : List Step) (count : ℕ) →
-        ClosesExactly (start_world tag limits old new)
-        (end_world (start_world tag limits old new) (first_moments count (start_world tag limits old new) run)).state
-        (end_world (start_world tag limits old new) (first_moments count (start_world tag limits old new) run)).writers }
-    ensures stops { (tag : ℕ) (limits : Limits) (old new : Tells) (run : List Step) (replies : List Reply)
-        (stop : Stop) (writers : List Writer) (readers : List Reader) →
-        host_play [] (start_world tag limits old new) run ≡ Halts replies stop writers readers →
-        ClosesExactly (start_world tag limits old new)
-        (end_world (start_world tag limits old new) (host_moments (start_world tag limits old new) run)).state writers }
-    ensures gone { (tag : ℕ) (limits : Limits) (old new : Tells) (run : List Step) (replies : List Reply)
-        (stop : Stop) (writers : List Writer) (readers : List Reader) →
-        host_play [] (start_world tag limits old new) run ≡ Halts replies stop writers readers →
-        EndsExactly (end_world (start_world tag limits old new) (host_moments (start_world tag limits old new) run)).state
-        writers }
+        let first = start_world tag limits old new in
+        let moments = first_moments count first run in
+        ClosesExactly first (end_world first moments).state (end_world first moments).writers }
+    ensures stops { (tag : ℕ) (limits : Limits) (old new : Tells) (run : List Step)
+        (replies : List Reply) (stop : Stop) (writers : List Writer) (readers : List Reader) →
+        let first = start_world tag limits old new in
+        host_play [] first run ≡ Halts replies stop writers readers →
+        ClosesExactly first (end_world first (host_moments first run)).state writers }
+    ensures gone { (tag : ℕ) (limits : Limits) (old new : Tells) (run : List Step)
+        (replies : List Reply) (stop : Stop) (writers : List Writer) (readers : List Reader) →
+        let first = start_world tag limits old new in
+        host_play [] first run ≡ Halts replies stop writers readers →
+        EndsExactly (end_world first (host_moments first run)).state writers }
 {}
 
 /// Exactly the host readers that became gone were closed, as for host writers.
 pub fn readers_close_exactly()
-    ensures runs { (tag : ℕ) (limits : Limits) (old new : Tells) (run : List Step) (replies : List Reply)
-        (end : World) → host_play [] (start_world tag limits old new) run ≡ Ends replies end →
-        ReadersCloseExactly (start_world tag limits old new) end.state end.readers }
+    ensures runs { (tag : ℕ) (limits : Limits) (old new : Tells) (run : List Step)
+        (replies : List Reply) (end : World) →
+        let first = start_world tag limits old new in
+        host_play [] first run ≡ Ends replies end →
+        ReadersCloseExactly first end.state end.readers }
     ensures moments { (tag : ℕ) (limits : Limits) (old new : Tells) (run : List Step) (count : ℕ) →
-        ReadersCloseExactly (start_world tag limits old new)
-        (end_world (start_world tag limits old new) (first_moments count (start_world tag limits old new) run)).state
-        (end_world (start_world tag limits old new) (first_moments count (start_world tag limits old new) run)).readers }
-    ensures stops { (tag : ℕ) (limits : Limits) (old new : Tells) (run : List Step) (replies : List Reply)
-        (stop : Stop) (writers : List Writer) (readers : List Reader) →
-        host_play [] (start_world tag limits old new) run ≡ Halts replies stop writers readers →
-        ReadersCloseExactly (start_world tag limits old new)
-        (end_world (start_world tag limits old new) (host_moments (start_world tag limits old new) run)).state readers }
+        let first = start_world tag limits old new in
+        let moments = first_moments count first run in
+        ReadersCloseExactly first (end_world first moments).state
+        (end_world first moments).readers }
+    ensures stops { (tag : ℕ) (limits : Limits) (old new : Tells) (run : List Step)
+        (replies : List Reply) (stop : Stop) (writers : List Writer) (readers : List Reader) →
+        let first = start_world tag limits old new in
+        host_play [] first run ≡ Halts replies stop writers readers →
+        ReadersCloseExactly first (end_world first (host_moments first run)).state readers }
 {}
 
 /// A host writer uses its records in order, each once, and hears exactly the accepted feeds to it, in
@@ -72,8 +76,10 @@ pub fn writers_are_fed_exactly()
         WriterGoesOn n (first_moments count first run) (writer_at first n)
         (writer_at (end_world first (first_moments count first run)) n) }
     ensures stops { (first : World) (run : List Step) (replies : List Reply) (stop : Stop)
-        (writers : List Writer) (readers : List Reader) → host_play [] first run ≡ Halts replies stop writers readers →
-        (n : ℕ) → WriterHalts (writer_at (end_world first (host_moments first run)) n) (writer_in writers n) }
+        (writers : List Writer) (readers : List Reader) →
+        host_play [] first run ≡ Halts replies stop writers readers →
+        (n : ℕ) → WriterHalts (writer_at (end_world first (host_moments first run)) n)
+        (writer_in writers n) }
 {}
 
 /// A host reader uses its records in order, each once, and hears exactly the accepted grants to it, in order,
@@ -84,8 +90,10 @@ pub fn readers_are_granted_exactly()
         ReaderGoesOn r (first_moments count first run) (reader_at first r)
         (reader_at (end_world first (first_moments count first run)) r) }
     ensures stops { (first : World) (run : List Step) (replies : List Reply) (stop : Stop)
-        (writers : List Writer) (readers : List Reader) → host_play [] first run ≡ Halts replies stop writers readers →
-        (r : ℕ) → ReaderHalts (reader_at (end_world first (host_moments first run)) r) (reader_in readers r) }
+        (writers : List Writer) (readers : List Reader) →
+        host_play [] first run ≡ Halts replies stop writers readers →
+        (r : ℕ) → ReaderHalts (reader_at (end_world first (host_moments first run)) r)
+        (reader_in readers r) }
 {}
 
 /// On each stream of a host writer, what the writer held when the stream was made and the items of all
@@ -95,10 +103,11 @@ pub fn readers_are_granted_exactly()
 /// given up together. As many items were counted, up to the end of the count's type. A future of a host
 /// writer passes one item at most, if the writer held no more than one when the future was made.
 pub fn producers_deliver_in_order()
-    ensures { (tag : ℕ) (limits : Limits) (old new : Tells) (run : List Step) (count : ℕ) (s : ℕ) →
-        ((n : ℕ) → Supplies (writer_at (start_world tag limits old new) n)) → length run ≤ 4294967295 →
-        DeliversAll s (first_moments count (start_world tag limits old new) run)
-        (end_world (start_world tag limits old new) (first_moments count (start_world tag limits old new) run)) }
+    ensures { (tag : ℕ) (limits : Limits) (old new : Tells) (run : List Step) (count s : ℕ) →
+        let first = start_world tag limits old new in
+        let moments = first_moments count first run in
+        ((n : ℕ) → Supplies (writer_at first n)) → length run ≤ 4294967295 →
+        DeliversAll s moments (end_world first moments) }
 {}
 
 /// What host readers take of a stream are items, each of them. A host reader that got the read end of a
@@ -106,11 +115,11 @@ pub fn producers_deliver_in_order()
 /// each as it lay in its guest's memory just before it was taken, or the front of what the stream's host
 /// writer held and produced: so what it tells is what was taken.
 pub fn readers_tell_what_they_took()
-    ensures { (tag : ℕ) (limits : Limits) (old new : Tells) (run : List Step) (count : ℕ) (s r : ℕ) → AreSteps run →
-        TellsTaken s r (first_moments count (start_world tag limits old new) run)
-        (reader_at (start_world tag limits old new) r)
-        (reader_at (end_world (start_world tag limits old new)
-        (first_moments count (start_world tag limits old new) run)) r) }
+    ensures { (tag : ℕ) (limits : Limits) (old new : Tells) (run : List Step) (count s r : ℕ) →
+        let first = start_world tag limits old new in
+        let moments = first_moments count first run in
+        AreSteps run →
+        TellsTaken s r moments (reader_at first r) (reader_at (end_world first moments) r) }
 {}
 
 /// Streams are isolated: the codes answered for a stream are those of its kind and of its own events,
@@ -119,6 +128,7 @@ pub fn readers_tell_what_they_took()
 /// that stops.
 pub fn streams_are_isolated()
     ensures { (tag : ℕ) (limits : Limits) (old new : Tells) (run : List Step) (count : ℕ) →
-        AreIsolated (first_moments count (start_world tag limits old new) run)
-        (end_world (start_world tag limits old new) (first_moments count (start_world tag limits old new) run)) }
+        let first = start_world tag limits old new in
+        let moments = first_moments count first run in
+        AreIsolated moments (end_world first moments) }
 {}
