@@ -30,9 +30,9 @@ pub record GivesHandle (before after given : List Guest) (g : ℕ) (old new : Co
 pub record GivesEnds (before after : List Guest) (writer reader : ℕ) (ty : TransmitIndex) (s : ℕ) (old new : Counter) (result : Result (ℕ × ℕ) OutOfMemory) : Type 0 where
   -- the read end's number, and the write end's, which is given once the read end's is
   pub numbers : IfOk result (λ numbers. numbers ≡ (
-      next_index (guest_in before reader).handles,
-      next_index (guest_in (with_read_end before reader ty s) writer).handles,
-    ))
+    next_index (guest_in before reader).handles,
+    next_index (guest_in (with_read_end before reader ty s) writer).handles,
+  ))
   pub guests : OnOk result (after ≡ with_ends before writer reader ty s)
   pub counter : OnOk result (new ≡ counted (counted old))
   pub live : OnOk result (live_in after ≡ live_in before + 2)

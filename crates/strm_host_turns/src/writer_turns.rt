@@ -50,7 +50,9 @@ fn note_held(producer: &mut Producer, held: usize)
 /// A writer that answered Dropped has no more to come, and so many items are held.
 pub(crate) fn note_answer(producer: &mut Producer, answer: Answer, held: usize)
     ensures { producer.new ≡ record producer.old {
-        over = producer.old.over || is_last answer; holding = nat_lt 0 held } }
+      over = producer.old.over || is_last answer;
+      holding = nat_lt 0 held;
+    } }
 {
     producer.over = producer.over || answer == Answer::Dropped;
     note_held(producer, held);
@@ -90,8 +92,8 @@ fn hand_over(
     requires placed { IsPlaced (sizes_of (guests_of guests.old.items)) stream.old.payload read }
     requires sizes { sum (sizes_of (guests_of guests.old.items)) ≤ 268435456 }
     requires payload { (writer_tells writer.old).payload ≡ stream.old.payload }
-    ensures {
-        writer_scene (guests_of guests.new.items) stream.new producer.new (writer_tells writer.new)
+    ensures { writer_scene (guests_of guests.new.items) stream.new producer.new
+        (writer_tells writer.new)
         ≡ handed_over (writer_scene (guests_of guests.old.items) stream.old producer.old
         (writer_tells writer.old)) read }
 {

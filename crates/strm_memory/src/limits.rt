@@ -194,9 +194,8 @@ fn blend_vectors<const N: usize>(
     requires destination_holds { to + len ≤ length destination.old }
     ensures most { result ≤ len }
     ensures few { len < result + N }
-    ensures rest {
-        blended_on (drop result (take len limits.now)) source.now (from + result) (to + result)
-        destination.new
+    ensures rest { blended_on (drop result (take len limits.now)) source.now (from + result)
+        (to + result) destination.new
         ≡ blended_on (drop at (take len limits.now)) source.now (from + at) (to + at)
         destination.old }
 {
