@@ -10,6 +10,8 @@ pub mod ForsakeLemmas
 pub mod ToldLemmas
 pub mod HeldStoreLemmas
 pub mod StoreLemmas
+-- a stream made between two guests
+pub mod MakingLemmas
 pub mod LendingLemmas
 pub mod OperationLemmas
 pub mod DropLemmas
@@ -22,6 +24,8 @@ pub mod WriterTurnLemmas
 pub mod DriveStoreLemmas
 pub mod HostingLemmas
 pub mod PipeStoreLemmas
+-- what a fetch and an offer of a pipe keep
+pub mod PipeKeptLemmas
 pub mod RoundLemmas
 pub mod RoundStoreLemmas
 pub mod OperateLemmas

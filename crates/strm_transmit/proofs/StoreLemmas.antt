@@ -1,18 +1,16 @@
 -- The store's counters after each change.
-use Rattle.std.proofs.Common.{◌≡◌, ℕ, Bool, false, cond, get_or, set, ◌+◌, ◌<◌, ◌≤◌, List, [], ◌∷◌, ◌++◌, length, map, sum_by, refl, sym, ap, ◌∙◌, subst, None, replicate, arith, length-append}
+use Rattle.std.proofs.Common.{◌≡◌, ℕ, Bool, cond, get_or, set, ◌+◌, ◌<◌, ◌≤◌, List, [], ◌∷◌, ◌++◌, length, map, sum_by, refl, sym, ap, ◌∙◌, subst, None, replicate, arith, length-append}
 use Rattle.std.specs.Prelude.{sum, count_by, nat_lt, ◌*◌}
 use Rattle.std.proofs.Math.Seq.{map-set_same}
-use Rattle.std.proofs.lemmas.List.{map-append, length-map, length-replicate, length-set, get_or_default, get_or-set_same, get_or_push}
+use Rattle.std.proofs.lemmas.List.{map-append, length-map, length-replicate, length-set, get_or_default, get_or-set_same}
 use Rattle.std.proofs.lemmas.List.Sums.{sum_by_push, sum_by-set, sum-map}
 use Rattle.std.proofs.lemmas.Simd.{map-map}
 use Rattle.strm_machine.specs.Turns.{Turn}
 use Rattle.strm_machine.specs.declared.streams.Producer.{Producer}
 use Rattle.strm_machine.specs.declared.streams.Consumer.{Consumer}
-use Rattle.strm_machine.specs.declared.streams.Side.{Side}
-use Rattle.strm_machine.specs.declared.streams.Side.TheVariants.{Writing, Reading}
 use Rattle.strm_machine.specs.declared.streams.Stream.{Stream}
 use Rattle.strm_handles.specs.Counters.{Counter, counted, uncounted}
-use Rattle.strm_handles.specs.Handles.{Handles, no_handles, live_of, next_index}
+use Rattle.strm_handles.specs.Handles.{Handles, no_handles, live_of}
 use Rattle.strm_handles.proofs.HandleLemmas.{live_of-no_handles}
 use Rattle.strm_machine.specs.State as machine
 use Rattle.strm_memory.specs.Bytes.{put_at}
@@ -24,31 +22,27 @@ use Rattle.strm_machine.specs.Bases.{with_base, with_base_in}
 use Rattle.strm_machine.proofs.BaseLemmas.{with_base-keeps}
 use Rattle.std.specs.Ptr.{Ptr}
 use Rattle.strm_machine.specs.Soundness.{IsSound, sizes_of, handles_of}
-use Rattle.strm_machine.specs.Sides.{end_of}
 use Rattle.strm_machine.specs.Tests.{are_places_full}
 use Rattle.strm_machine.specs.Refusals.{refusal}
 use Rattle.strm_machine.specs.Reactions.{goes, performs}
-use Rattle.strm_machine.specs.declared.acts.Making.TheVariants.{Guest, Between}
+use Rattle.strm_machine.specs.declared.acts.Making.TheVariants.{Guest}
 use Rattle.strm_machine.specs.declared.acts.MemoryAct.TheVariants.{Poke}
 use Rattle.strm_machine.specs.declared.acts.Act.TheVariants.{Make, OnMemory}
 use Rattle.strm_machine.specs.declared.replies.Reply.TheVariants as replies
-use Rattle.strm_machine.proofs.RefusalLemmas.{BytesFit, PairFits, guest_fits, poke_fits, pair_fits}
-use Rattle.strm_machine.proofs.SoundLemmas.{IsSound-guest, IsSound-guests, IsSound-turn, IsSound-with_stream, sizes_of-with_handles}
+use Rattle.strm_machine.proofs.RefusalLemmas.{BytesFit, guest_fits, poke_fits}
+use Rattle.strm_machine.proofs.SoundLemmas.{IsSound-guest, IsSound-guests, IsSound-turn}
 use Rattle.strm_machine.proofs.BoundLemmas.{length-poked}
 use Rattle.strm_machine.proofs.TurnLemmas.{GuestsKeep, TurnKeeps, all_kept, with_memory-keeps, sets_of}
-use Rattle.strm_codes.specs.declared.codes.TransmitIndex.{TransmitIndex}
-use Rattle.strm_machine.specs.Making.{with_read_end, with_ends, made_stream, made_pair, with_stream}
-use Rattle.strm_machine.specs.declared.replies.Pair.{Pair}
 use Rattle.strm_channels.specs.Guests.{guest_of, guests_of, live_in, sets_among}
 use Rattle.strm_transmit.specs.Inside.{state_of, AreServed, HavePlaces, IsStore}
 use Rattle.strm_channels.specs.declared.guests.Guest as ours
 use Rattle.strm_transmit.specs.declared.store.Store.TheInside.{Inside}
-use Rattle.strm_transmit.proofs.ServedLemmas.{AreServed-set, AreServed-push, same_owners}
-use Rattle.strm_transmit.proofs.KeptLemmas.{have_set, have_push}
-use Rattle.strm_machine.proofs.HeldLemmas.{StateIsHeld, IsHeld, IsHeld-same, between_held}
+use Rattle.strm_transmit.proofs.ServedLemmas.{AreServed-set, same_owners}
+use Rattle.strm_transmit.proofs.KeptLemmas.{have_set}
+use Rattle.strm_machine.proofs.HeldLemmas.{StateIsHeld, IsHeld, IsHeld-same}
 use Rattle.strm_machine.proofs.TableLemmas.{handles-same, handles-more, sets-more, owner-set_stays}
-use Rattle.strm_transmit.specs.Telling.{AreTold, Retells, member_of}
-use Rattle.strm_transmit.proofs.ToldLemmas.{SameMembers, members-sets, members-with_table, but-besides, besides-set, besides-push, told-same, told-retold}
+use Rattle.strm_transmit.specs.Telling.{AreTold, Retells}
+use Rattle.strm_transmit.proofs.ToldLemmas.{members-sets, but-besides, besides-set, told-same, told-retold}
 
 -- fields that a call leaves as they were
 pub record SameBut (old new : Inside) : Type 0 where
@@ -418,112 +412,6 @@ stream_at-there s stream x l e = get_or_default s.streams.items stream no_stream
 -- the stream that an index reads once one was set there
 pub set_at : (old : List Stream) (new : List Stream) (s : ℕ) (given x : Stream) → s < length old → new ≡ set old s given → x ≡ get_or new s x → x ≡ given
 set_at old new s given x l e is = is ∙ ap (λ (xs : List Stream). get_or xs s x) e ∙ get_or-set_same old s given x l
-
--- ## One stream more
-
--- neither end is a host end's
-nobodys : (stream : Stream) → machine.is_host stream.writer.owner ≡ false → machine.is_host stream.reader.owner ≡ false → (side : Side) → machine.is_host (end_of side stream).owner ≡ false
-nobodys stream w r Writing = w
-nobodys stream w r Reading = r
-
--- the stream that is made
-abbrev pub stream_made : Inside → ℕ → ℕ → TransmitIndex → Stream
-stream_made old writer reader ty =
-    let pair = made_pair (state_of old) writer reader ty in made_stream ty writer pair.write reader pair.read
-
--- one stream more, with its two ends in their guests' tables
-pub record MakesStream (old new : Inside) (writer reader : ℕ) (ty : TransmitIndex) : Type 0 where
-  pub same : SameBut old new
-  pub counter : new.counter ≡ counted (counted old.counter)
-  pub live : live_in (guests_of new.guests.items) ≡ live_in (guests_of old.guests.items) + 2
-  pub live_streams : new.live_streams ≡ old.live_streams + 1
-  pub live_sets : new.live_sets ≡ old.live_sets
-  pub bytes : new.bytes ≡ old.bytes
-  pub guests : guests_of new.guests.items ≡ with_ends (guests_of old.guests.items) writer reader ty (length old.streams.items)
-  pub streams : new.streams.items ≡ old.streams.items ++ stream_made old writer reader ty ∷ []
-  pub retold : Retells (guests_of new.guests.items) (stream_made old writer reader ty) old.ready.items new.ready.items
-
-state_of-made : (old new : Inside) (writer reader : ℕ) (ty : TransmitIndex) → MakesStream old new writer reader ty → state_of new ≡ with_stream (state_of old) writer reader ty
-unfolding with_stream
-state_of-made old new writer reader ty h = rw (h.same.tag, h.same.limits, h.same.producers, h.same.kept, h.same.consumers, h.same.contexts, h.same.trapped, h.guests, h.streams) refl
-
-pub performs-made : (old new : Inside) (writer reader : ℕ) (ty : TransmitIndex) (pair : Pair) → MakesStream old new writer reader ty → pair ≡ made_pair (state_of old) writer reader ty → performs (state_of old) (Make (Between writer reader ty)) ≡ goes (replies.Pair pair) (state_of new)
-unfolding performs
-performs-made old new writer reader ty pair h e =
-    ap (λ (s : State). goes (replies.Pair (made_pair (state_of old) writer reader ty)) s) (sym (state_of-made old new writer reader ty h))
-    ∙ ap (λ (p : Pair). goes (replies.Pair p) (state_of new)) (sym e)
-
-sizes-made : (guests : List machine.Guest) (writer reader : ℕ) (ty : TransmitIndex) (s : ℕ) → sizes_of (with_ends guests writer reader ty s) ≡ sizes_of guests
-sizes-made guests writer reader ty s =
-    sizes_of-with_handles (with_read_end guests reader ty s) writer _ ∙ sizes_of-with_handles guests reader _
-
-sets-made : (guests : List machine.Guest) (writer reader : ℕ) (ty : TransmitIndex) (s : ℕ) → sets_among (with_ends guests writer reader ty s) ≡ sets_among guests
-sets-made guests writer reader ty s =
-    let held = with_read_end guests reader ty s in
-    sets-with_table held writer _ (sets_in held writer) refl ∙ sets-with_table guests reader _ (sets_in guests reader) refl
-
-members-made : (guests : List machine.Guest) (writer reader : ℕ) (ty : TransmitIndex) (s : ℕ) → SameMembers guests (with_ends guests writer reader ty s)
-members-made guests writer reader ty s k number handle =
-    let held = with_read_end guests reader ty s in
-    members-with_table held writer _ (sets_in held writer) (λ n q. refl) k number handle ∙ members-with_table guests reader _ (sets_in guests reader) (λ n q. refl) k number handle
-
--- what is known of the ends of the stream is as they were made
-agrees_made : (old new : Inside) (writer reader : ℕ) (ty : TransmitIndex) → MakesStream old new writer reader ty → PairFits (state_of old) writer reader ty → IsStore old → Agrees new
-agrees_made old new writer reader ty h fits i =
-    let guests = guests_of old.guests.items in
-    let stream = stream_made old writer reader ty in
-    let s = length old.streams.items in
-    let held : StateIsHeld (state_of new) = subst StateIsHeld (sym (state_of-made old new writer reader ty h)) (between_held (state_of old) writer reader ty fits i.held) in
-    record {
-      held = held;
-      told = rw h.streams
-          (told-retold (guests_of new.guests.items) (old.streams.items ++ stream ∷ []) s (rw h.streams at held) old.ready.items new.ready.items stream (get_or_push old.streams.items stream no_stream s refl)
-          (but-besides guests (guests_of new.guests.items) old.streams.items (old.streams.items ++ stream ∷ []) s old.ready.items (λ k number handle. ap (λ (x : _). member_of x k number handle) h.guests ∙ members-made guests writer reader ty s k number handle) (besides-push old.streams.items stream) i.told)
-          h.retold);
-    }
-
-pub IsStore-made : (old new : Inside) (writer reader : ℕ) (ty : TransmitIndex) → MakesStream old new writer reader ty → refusal (state_of old) (Make (Between writer reader ty)) ≡ None → IsStore old → IsStore new
-IsStore-made old new writer reader ty h e i =
-    let fits = pair_fits (state_of old) writer reader ty e in
-    let guests = guests_of old.guests.items in
-    let stream = stream_made old writer reader ty in
-    let live : count_by is_live new.streams.items ≡ count_by is_live old.streams.items + 1 = ap (count_by is_live) h.streams ∙ sum_by_push live_weight old.streams.items stream in
-    IsStore-counted old new
-    (record {
-      handles = record {
-        limit = rw (h.counter, h.same.limits) i.limit;
-        live = omega (arith, ap (λ (c : Counter). c.live) h.counter, i.live, h.live);
-        within = rw h.counter (omega (arith, fits.handles, i.limit, i.live));
-      };
-      sets = h.live_sets ∙ i.sets ∙ sym (ap sets_among h.guests ∙ sets-made guests writer reader ty (length old.streams.items));
-      sizes = ap sizes_of h.guests ∙ sizes-made guests writer reader ty (length old.streams.items);
-      bytes = h.bytes;
-    })
-    (record {
-      live = omega (arith, h.live_streams, i.streams, live);
-      served = rw (h.same.producers, h.same.consumers, h.streams) (AreServed-push old.producers old.consumers old.streams.items i.served stream (nobodys stream refl refl));
-      kept = rw (h.same.producers, h.same.kept, h.streams) (have_push old.producers old.kept.items old.streams.items i.kept old.consumers stream i.served);
-      few = rw h.streams (omega (arith, fits.streams, length-append old.streams.items (stream ∷ [])));
-    })
-    (subst IsSound (sym (state_of-made old new writer reader ty h)) (IsSound-with_stream (state_of old) writer reader ty fits.read fits.write i.sound))
-    (agrees_made old new writer reader ty h fits i) i
-
--- the numbers that the two handles got
-abbrev pub numbers_of : Inside → ℕ → ℕ → TransmitIndex → ℕ → ℕ × ℕ
-numbers_of old writer reader ty stream =
-    (next_index (guest_in (guests_of old.guests.items) reader).handles, next_index (guest_in (with_read_end (guests_of old.guests.items) reader ty stream) writer).handles)
-
-pub joined_is : (old : Inside) (writer reader : ℕ) (ty : TransmitIndex) (numbers : ℕ × ℕ) (joined : Stream) → numbers ≡ numbers_of old writer reader ty (length old.streams.items) → joined ≡ made_stream ty writer numbers.1 reader numbers.0 → joined ≡ stream_made old writer reader ty
-joined_is old writer reader ty numbers joined n j =
-    j ∙ ap (λ (k : ℕ × ℕ). made_stream ty writer k.1 reader k.0) n
-
-abbrev as_pair : ℕ × ℕ → ℕ → Pair
-as_pair numbers stream = record { read = numbers.0; write = numbers.1; stream = stream }
-
-pub pair_is : (old : Inside) (writer reader : ℕ) (ty : TransmitIndex) (stream : ℕ) (numbers : ℕ × ℕ) → stream ≡ length old.streams.items → numbers ≡ numbers_of old writer reader ty stream → as_pair numbers stream ≡ made_pair (state_of old) writer reader ty
-pair_is old writer reader ty stream numbers e n =
-    ap (λ (k : ℕ × ℕ). as_pair k stream) (n ∙ ap (numbers_of old writer reader ty) e)
-    ∙ ap (as_pair (numbers_of old writer reader ty (length old.streams.items))) e
 
 -- handles stay where one guest's sets are others
 pub live-with_sets : (guests : List machine.Guest) (g : ℕ) (sets : Sets) → live_in (with_sets guests g sets) ≡ live_in guests

@@ -108,13 +108,17 @@ pub trait HostEnds {
     ) -> Result<(), WriterStops>
         requires waiting { stream.old.reader.operation ≡ Some read.now }
         requires open { read.now.is_open ≡ true }
-        requires placed { IsPlaced (sizes_of (guests_of guests.old.items)) stream.old.payload read.now }
+        requires placed { IsPlaced (sizes_of (guests_of guests.old.items)) stream.old.payload
+            read.now }
         requires sizes { sum (sizes_of (guests_of guests.old.items)) ≤ 268435456 }
         requires there { number < length (tells self.old).writers }
         requires payload { (told_by (tells self.old) number).payload ≡ stream.old.payload }
-        ensures turns { IsWriterTurn result (writer_scene (guests_of guests.old.items) stream.old producer.old
-            (told_by (tells self.old) number)) (writer_scene (guests_of guests.new.items) stream.new
-            producer.new (told_by (tells self.new) number)) read.now }
+        ensures turns { IsWriterTurn result
+            (writer_scene (guests_of guests.old.items) stream.old producer.old
+            (told_by (tells self.old) number))
+            (writer_scene (guests_of guests.new.items) stream.new producer.new
+            (told_by (tells self.new) number))
+            read.now }
         ensures others { OnlyWriter number (tells self.old) (tells self.new) };
 
     /// The turn of a host reader for the open write on its stream: `reader_turn` of `strm_host_turns`.
@@ -129,13 +133,17 @@ pub trait HostEnds {
     ) -> Result<(), ReaderStops>
         requires waiting { stream.old.writer.operation ≡ Some write.now }
         requires open { write.now.is_open ≡ true }
-        requires placed { IsPlaced (sizes_of (guests_of guests.old.items)) stream.old.payload write.now }
+        requires placed { IsPlaced (sizes_of (guests_of guests.old.items)) stream.old.payload
+            write.now }
         requires sizes { sum (sizes_of (guests_of guests.old.items)) ≤ 268435456 }
         requires there { number < length (tells self.old).readers }
         requires payload { (told_by_reader (tells self.old) number).payload ≡ stream.old.payload }
-        ensures takes { IsReaderTurn result (reader_scene (guests_of guests.old.items) stream.old consumer.old
-            (told_by_reader (tells self.old) number)) (reader_scene (guests_of guests.new.items) stream.new
-            consumer.new (told_by_reader (tells self.new) number)) write.now }
+        ensures takes { IsReaderTurn result
+            (reader_scene (guests_of guests.old.items) stream.old consumer.old
+            (told_by_reader (tells self.old) number))
+            (reader_scene (guests_of guests.new.items) stream.new consumer.new
+            (told_by_reader (tells self.new) number))
+            write.now }
         ensures others { OnlyReader number (tells self.old) (tells self.new) };
 
     /// The poll of a host writer for a pipe: `fetch` of `strm_host_turns`.

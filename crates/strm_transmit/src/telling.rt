@@ -78,7 +78,8 @@ fn retell_end(ready: &mut Vec<ReadySets>, guests: &Vec<Guest>, stream: &Channel,
         → SaysOf ready.new.items g number handle (has_report side stream.now) }
     ensures others { (g number handle : ℕ) (b : Bool) → SaysOf ready.old.items g number handle b
         → ((end_of side stream.now).owner ≡ Held g handle
-        → member_of (guests_of guests.now.items) g number handle ≡ true → b ≡ has_report side stream.now)
+        → member_of (guests_of guests.now.items) g number handle ≡ true
+        → b ≡ has_report side stream.now)
         → SaysOf ready.new.items g number handle b }
 {
     let Owner::Held { guest, handle } = stream.owner(side) else {

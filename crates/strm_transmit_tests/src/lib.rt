@@ -22,6 +22,8 @@ mod moves;
 #[cfg(test)]
 mod pipes;
 #[cfg(test)]
+mod play;
+#[cfg(test)]
 mod readers;
 #[cfg(test)]
 mod sets;

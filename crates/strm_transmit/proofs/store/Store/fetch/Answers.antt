@@ -1,7 +1,7 @@
 use Rattle.std.proofs.Common.{refl, sym, ap, ◌∙◌}
 use Rattle.strm_machine.specs.declared.streams.Stream.{Stream}
 use Rattle.std.proofs.lemmas.List.{length-set}
-use Rattle.strm_transmit.proofs.RoundLemmas.{fetches_duty}
+use Rattle.strm_transmit.proofs.PipeKeptLemmas.{fetches_duty}
 use Rattle.strm_transmit.proofs.RoundStoreLemmas.{writer_known, writer_fits, serves, place, entry_there, entry_payload, entry_type, fetches_in, IsStore-items, duties_set}
 use Rattle.strm_transmit.proofs.store.Store.fetch.Goals as goal
 

@@ -7,7 +7,7 @@ use Rattle.strm_handles.specs.Handles.{next_index}
 use Rattle.strm_machine.specs.Making.{with_read_end, with_ends}
 use Rattle.strm_machine.specs.declared.streams.Stream.{Stream}
 use Rattle.strm_channels.specs.Guests.{guest_of, guests_of}
-use Rattle.strm_transmit.proofs.StoreLemmas.{MakesStream, IsStore-made, performs-made, numbers_of, joined_is, pair_is}
+use Rattle.strm_transmit.proofs.MakingLemmas.{MakesStream, IsStore-made, performs-made, numbers_of, joined_is, pair_is}
 use Rattle.strm_transmit.specs.Inside.{state_of}
 use Rattle.strm_transmit.specs.Telling.{Retells}
 use Rattle.strm_transmit.proofs.store.Store.make.Goals as goal

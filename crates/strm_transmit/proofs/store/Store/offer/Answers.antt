@@ -2,7 +2,7 @@ use Rattle.std.proofs.Common.{refl, sym, ◌∙◌}
 use Rattle.std.proofs.lemmas.List.{length-set}
 use Rattle.strm_machine.specs.declared.streams.Side.TheVariants.{Writing, Reading}
 use Rattle.strm_transmit.proofs.StoreLemmas.{stream_at-there}
-use Rattle.strm_transmit.proofs.RoundLemmas.{offers_keep}
+use Rattle.strm_transmit.proofs.PipeKeptLemmas.{offers_keep}
 use Rattle.strm_transmit.proofs.RoundStoreLemmas.{writer_known, reader_known, writer_fits, reader_fits, serves, place, entry_there, entry_payload, entry_type, offers_in, IsStore-passed, duties_set, reader_duties_set, hosts_held}
 use Rattle.strm_transmit.proofs.store.Store.offer.Goals as goal
 
