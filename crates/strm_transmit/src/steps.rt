@@ -7,6 +7,7 @@ ghost use Rattle.strm_codes.specs.declared.refusals.Refusal.{Refusal};
 ghost use Rattle.strm_machine.specs.Acts.{act_of};
 ghost use Rattle.strm_machine.specs.Reactions.{reaction};
 ghost use Rattle.strm_machine.specs.declared.acts.Act.TheVariants as acts;
+ghost use Rattle.strm_machine.specs.declared.acts.Making.TheVariants as makings;
 ghost use Rattle.strm_machine.specs.declared.acts.MemoryAct.TheVariants as memory_acts;
 ghost use Rattle.strm_machine.specs.declared.acts.SetAct.TheVariants as set_acts;
 ghost use Rattle.strm_machine.specs.declared.replies.Reply.TheVariants as replies;
@@ -24,7 +25,7 @@ use strm_codes::codes::{ReturnCode, TransmitIndex};
 use strm_machine::acts::{
     Act, ContextAct, EndAct, HostAct, LooseAct, Making, MemoryAct, NamedEnd, SetAct,
 };
-use strm_machine::replies::Reply;
+use strm_machine::replies::{Pair, Reply};
 use strm_machine::steps::Step;
 use strm_machine::streams::Side;
 
@@ -104,13 +105,8 @@ fn perform_other<H: HostEnds>(
     store.served();
     match *step {
         Step::Event { guest, handle } => reply(event(store, guest, handle)),
-        Step::New { guest, ty } => {
-            let (writer, reader) = (guest, guest);
-            reply(make(store, Making::Between { writer, reader, ty }))
-        }
-        Step::Between { writer, reader, ty } => {
-            reply(make(store, Making::Between { writer, reader, ty }))
-        }
+        Step::New { guest, ty } => pair_reply(make_pair(store, guest, guest, ty)),
+        Step::Between { writer, reader, ty } => pair_reply(make_pair(store, writer, reader, ty)),
         _ => perform_act(store, hosts, step),
     }
 }
@@ -219,6 +215,18 @@ fn code_reply(answer: Result<ReturnCode, StoreError>) -> Result<Reply, StoreErro
     }
 }
 
+// The ends of a new stream are a reply, and so is a refusal.
+#[inline(always)]
+fn pair_reply(answer: Result<Pair, StoreError>) -> Result<Reply, StoreError>
+    ensures { result ≡ refused_too (as_reply replies.Pair answer) }
+{
+    match answer {
+        Ok(pair) => Ok(Reply::Pair(pair)),
+        Err(StoreError::Refused(refusal)) => Ok(Reply::Refused(refusal)),
+        Err(error) => Err(error),
+    }
+}
+
 // What was done tells nothing.
 fn done(_nothing: ()) -> Reply
     ensures { result ≡ replies.Done }
@@ -262,7 +270,7 @@ fn make(store: &mut Store, making: Making) -> Result<Reply, StoreError>
     match making {
         Making::Guest { size } => store.add_guest(size).map(Reply::Number),
         Making::Between { writer, reader, ty } => {
-            store.new_between(writer, reader, ty).map(Reply::Pair)
+            make_pair(store, writer, reader, ty).map(Reply::Pair)
         }
         Making::Set { guest } => store.set_new(guest).map(Reply::Number),
         Making::Context {
@@ -275,6 +283,21 @@ fn make(store: &mut Store, making: Making) -> Result<Reply, StoreError>
                 .map(Reply::Number)
         }
     }
+}
+
+// A stream between two guests is made.
+#[inline(never)]
+fn make_pair(
+    store: &mut Store,
+    writer: u32,
+    reader: u32,
+    ty: TransmitIndex,
+) -> Result<Pair, StoreError>
+    ensures meets { Meets store.old store.new (as_reply replies.Pair result)
+        (reaction store.old (acts.Make (makings.Between writer reader ty))) }
+    ensures settled { IfOk (as_reply replies.Pair result) (λ reply. IsTrue (is_settled reply)) }
+{
+    store.new_between(writer, reader, ty)
 }
 
 // The operation of an end is cancelled.

@@ -1,4 +1,6 @@
 use Rattle.std.proofs.Common.{refl}
+use Rattle.strm_machine.specs.declared.replies.Reply.TheVariants.{Pair}
+use Rattle.strm_transmit.specs.Meets.{as_reply}
 use Rattle.strm_transmit.proofs.ApplyLemmas.{refused-hosted}
 use Rattle.strm_transmit.proofs.HostStepLemmas.{hosted_alone}
 use Rattle.strm_transmit.proofs.steps.perform_other.Goals as goal
@@ -11,12 +13,14 @@ returns-in-Event-clause-meets g c =
 
 pub returns-in-New-clause-meets : goal.returns-in-New-clause-meets
 returns-in-New-clause-meets g c =
-    rw (c.in-New.is, c.reply-in-New.ensures)
-    (refused-hosted c.args.store.now _ _ _ c.make.result _
-    (hosted_alone c.args.store.now _ _ _ c.make.result c.sound.ensures c.served.ensures.made refl c.make.ensures.settled c.make.ensures.meets c.requires.fits))
+    let answer = as_reply Pair c.make_pair.result in
+    rw (c.in-New.is, c.pair_reply.ensures)
+    (refused-hosted c.args.store.now _ _ _ answer _
+    (hosted_alone c.args.store.now _ _ _ answer c.sound.ensures c.served.ensures.made refl c.make_pair.ensures.settled c.make_pair.ensures.meets c.requires.fits))
 
 pub returns-in-Between-clause-meets : goal.returns-in-Between-clause-meets
 returns-in-Between-clause-meets g c =
-    rw (c.in-Between.is, c.reply-in-Between.ensures)
-    (refused-hosted c.args.store.now _ _ _ c.make-in-Between.result _
-    (hosted_alone c.args.store.now _ _ _ c.make-in-Between.result c.sound.ensures c.served.ensures.made refl c.make-in-Between.ensures.settled c.make-in-Between.ensures.meets c.requires.fits))
+    let answer = as_reply Pair c.make_pair-in-Between.result in
+    rw (c.in-Between.is, c.pair_reply-in-Between.ensures)
+    (refused-hosted c.args.store.now _ _ _ answer _
+    (hosted_alone c.args.store.now _ _ _ answer c.sound.ensures c.served.ensures.made refl c.make_pair-in-Between.ensures.settled c.make_pair-in-Between.ensures.meets c.requires.fits))
