@@ -7,25 +7,30 @@ ghost use Rattle.strm_codes.specs.declared.refusals.Refusal.{Refusal};
 ghost use Rattle.strm_machine.specs.Acts.{act_of};
 ghost use Rattle.strm_machine.specs.Reactions.{reaction};
 ghost use Rattle.strm_machine.specs.declared.acts.Act.TheVariants as acts;
-ghost use Rattle.strm_machine.specs.declared.acts.Making.TheVariants as makings;
 ghost use Rattle.strm_machine.specs.declared.acts.MemoryAct.TheVariants as memory_acts;
-ghost use Rattle.strm_machine.specs.declared.acts.SetAct.TheVariants as set_acts;
-ghost use Rattle.strm_machine.specs.declared.replies.Reply.TheVariants as replies;
 ghost use Rattle.strm_machine.specs.declared.acts.EndAct.TheVariants as end_acts;
 ghost use Rattle.strm_machine.specs.declared.acts.LooseAct.TheVariants as loose_acts;
 ghost use Rattle.strm_host_machine.specs.Steps.{outcome_of_step, touches};
 ghost use Rattle.strm_host_machine.specs.Does.{Fits, Does};
-ghost use Rattle.strm_transmit.specs.Meets.{Meets, as_reply, refused_too, is_settled, act_takes_memory};
+ghost use Rattle.strm_transmit.specs.Meets.{Meets, is_settled, act_takes_memory};
 ghost use Rattle.strm_transmit.specs.Hosted.{call_answered, lone, MayBeDone, Leaves, MeetsAlone, MeetsHosted, RunsOutOnlyTaking, RunsOutNoneHeld};
+
+mod calls;
+mod replies;
 
 use crate::errors::StoreError;
 use crate::host_ends::HostEnds;
-use crate::store::Store;
-use strm_codes::codes::{ReturnCode, TransmitIndex};
-use strm_machine::acts::{
-    Act, ContextAct, EndAct, HostAct, LooseAct, Making, MemoryAct, NamedEnd, SetAct,
+use crate::steps::calls::{
+    add_guest, drop_context, give_away, join_set, make, make_context, make_pair, move_context,
+    on_context, on_set, poll_set, transfer,
 };
-use strm_machine::replies::{Pair, Reply};
+use crate::steps::replies::{
+    code_reply, done, done_reply, member_reply, number_reply, pair_reply, reply,
+};
+use crate::store::Store;
+use strm_codes::codes::TransmitIndex;
+use strm_machine::acts::{Act, EndAct, HostAct, LooseAct, MemoryAct, NamedEnd};
+use strm_machine::replies::Reply;
 use strm_machine::steps::Step;
 use strm_machine::streams::Side;
 
@@ -107,6 +112,22 @@ fn perform_other<H: HostEnds>(
         Step::Event { guest, handle } => reply(event(store, guest, handle)),
         Step::New { guest, ty } => pair_reply(make_pair(store, guest, guest, ty)),
         Step::Between { writer, reader, ty } => pair_reply(make_pair(store, writer, reader, ty)),
+        Step::Guest { size } => number_reply(add_guest(store, size)),
+        Step::Move {
+            guest,
+            ty,
+            handle,
+            to,
+        } => number_reply(give_away(store, &NamedEnd { guest, ty, handle }, to)),
+        Step::SetJoin { guest, set, handle } => done_reply(join_set(store, guest, set, handle)),
+        Step::SetPoll { guest, set } => member_reply(poll_set(store, guest, set)),
+        Step::ErrNew {
+            guest,
+            address,
+            len,
+        } => number_reply(make_context(store, guest, address, len)),
+        Step::ErrMove { guest, handle, to } => number_reply(move_context(store, guest, handle, to)),
+        Step::ErrDrop { guest, handle } => done_reply(drop_context(store, guest, handle)),
         _ => perform_act(store, hosts, step),
     }
 }
@@ -192,48 +213,6 @@ fn perform_apart<H: HostEnds>(
     perform(store, hosts, &Act::of(step))
 }
 
-// A refusal is a reply.
-#[inline(always)]
-fn reply(answer: Result<Reply, StoreError>) -> Result<Reply, StoreError>
-    ensures { result ≡ refused_too answer }
-{
-    match answer {
-        Err(StoreError::Refused(refusal)) => Ok(Reply::Refused(refusal)),
-        other => other,
-    }
-}
-
-// A code is a reply, and so is a refusal.
-#[inline(always)]
-fn code_reply(answer: Result<ReturnCode, StoreError>) -> Result<Reply, StoreError>
-    ensures { result ≡ refused_too (as_reply replies.Code answer) }
-{
-    match answer {
-        Ok(code) => Ok(Reply::Code(code)),
-        Err(StoreError::Refused(refusal)) => Ok(Reply::Refused(refusal)),
-        Err(error) => Err(error),
-    }
-}
-
-// The ends of a new stream are a reply, and so is a refusal.
-#[inline(always)]
-fn pair_reply(answer: Result<Pair, StoreError>) -> Result<Reply, StoreError>
-    ensures { result ≡ refused_too (as_reply replies.Pair answer) }
-{
-    match answer {
-        Ok(pair) => Ok(Reply::Pair(pair)),
-        Err(StoreError::Refused(refusal)) => Ok(Reply::Refused(refusal)),
-        Err(error) => Err(error),
-    }
-}
-
-// What was done tells nothing.
-fn done(_nothing: ()) -> Reply
-    ensures { result ≡ replies.Done }
-{
-    Reply::Done
-}
-
 // The one call that an act names. Acts are not moved, since one may hold the bytes of a feed; and those
 // groups of calls that are not inlined write their replies in place.
 #[inline(always)]
@@ -261,45 +240,6 @@ fn perform<H: HostEnds>(store: &mut Store, hosts: &mut H, act: &Act) -> Result<R
     }
 }
 
-// What is made.
-#[inline(never)]
-fn make(store: &mut Store, making: Making) -> Result<Reply, StoreError>
-    ensures meets { Meets store.old store.new result (reaction store.old (acts.Make making)) }
-    ensures settled { IfOk result (λ reply. IsTrue (is_settled reply)) }
-{
-    match making {
-        Making::Guest { size } => store.add_guest(size).map(Reply::Number),
-        Making::Between { writer, reader, ty } => {
-            make_pair(store, writer, reader, ty).map(Reply::Pair)
-        }
-        Making::Set { guest } => store.set_new(guest).map(Reply::Number),
-        Making::Context {
-            guest,
-            address,
-            len,
-        } => {
-            store
-                .error_context_new(guest, address, len)
-                .map(Reply::Number)
-        }
-    }
-}
-
-// A stream between two guests is made.
-#[inline(never)]
-fn make_pair(
-    store: &mut Store,
-    writer: u32,
-    reader: u32,
-    ty: TransmitIndex,
-) -> Result<Pair, StoreError>
-    ensures meets { Meets store.old store.new (as_reply replies.Pair result)
-        (reaction store.old (acts.Make (makings.Between writer reader ty))) }
-    ensures settled { IfOk (as_reply replies.Pair result) (λ reply. IsTrue (is_settled reply)) }
-{
-    store.new_between(writer, reader, ty)
-}
-
 // The operation of an end is cancelled.
 fn cancel(store: &mut Store, side: Side, end: &NamedEnd) -> Result<Reply, StoreError>
     ensures meets { Meets store.old store.new result
@@ -308,16 +248,6 @@ fn cancel(store: &mut Store, side: Side, end: &NamedEnd) -> Result<Reply, StoreE
     ensures takes_no_memory { result ≢ Err StoreError.OutOfMemory }
 {
     store.cancel_side(side, end).map(Reply::Code)
-}
-
-// An end goes to a guest.
-fn transfer(store: &mut Store, end: &NamedEnd, to: u32) -> Result<Reply, StoreError>
-    ensures meets { Meets store.old store.new result
-        (reaction store.old (acts.Transfer end.now to)) }
-    ensures settled { IfOk result (λ reply. IsTrue (is_settled reply)) }
-    ensures takes_no_memory { end.now.guest ≡ to → result ≢ Err StoreError.OutOfMemory }
-{
-    store.transfer(end, to).map(Reply::Number)
 }
 
 // An end leaves its guest.
@@ -425,62 +355,6 @@ fn event(store: &mut Store, guest: u32, handle: u32) -> Result<Reply, StoreError
     ensures takes_no_memory { result ≢ Err StoreError.OutOfMemory }
 {
     store.take_event(guest, handle).map(Reply::Event)
-}
-
-// The least member of a waitable set that is ready is told its report.
-fn poll(store: &mut Store, guest: u32, set: u32) -> Result<Reply, StoreError>
-    ensures meets { Meets store.old store.new result
-        (reaction store.old (acts.OnSet guest set set_acts.Poll)) }
-    ensures settled { IfOk result (λ reply. IsTrue (is_settled reply)) }
-    ensures takes_no_memory { result ≢ Err StoreError.OutOfMemory }
-{
-    let member = store.set_poll(guest, set)?;
-    Ok(Reply::Member(member))
-}
-
-// What is done to the waitable set that a handle names.
-#[inline(never)]
-fn on_set(store: &mut Store, guest: u32, set: u32, act: SetAct) -> Result<Reply, StoreError>
-    ensures meets { Meets store.old store.new result
-        (reaction store.old (acts.OnSet guest set act)) }
-    ensures settled { IfOk result (λ reply. IsTrue (is_settled reply)) }
-    ensures takes_no_memory { act_takes_memory (acts.OnSet guest set act) ≡ false
-        → result ≢ Err StoreError.OutOfMemory }
-{
-    match act {
-        SetAct::Join { handle } => store.set_join(guest, set, handle).map(done),
-        SetAct::Poll => poll(store, guest, set),
-        SetAct::Drop => store.set_drop(guest, set).map(done),
-    }
-}
-
-// What is done to the error context that a handle names, or to the handle.
-#[inline(never)]
-fn on_context(
-    store: &mut Store,
-    guest: u32,
-    handle: u32,
-    act: ContextAct,
-) -> Result<Reply, StoreError>
-    ensures meets { Meets store.old store.new result
-        (reaction store.old (acts.OnContext guest handle act)) }
-    ensures settled { IfOk result (λ reply. IsTrue (is_settled reply)) }
-    ensures takes_no_memory { act_takes_memory (acts.OnContext guest handle act) ≡ false
-        → result ≢ Err StoreError.OutOfMemory }
-{
-    match act {
-        ContextAct::Text { address } => {
-            store
-                .error_context_message(guest, handle, address)
-                .map(Reply::Number)
-        }
-        ContextAct::Move { to } => {
-            store
-                .error_context_transfer(guest, handle, to)
-                .map(Reply::Number)
-        }
-        ContextAct::Drop => store.error_context_drop(guest, handle).map(done),
-    }
 }
 
 // What is done to a guest's memory.
