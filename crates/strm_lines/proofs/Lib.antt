@@ -5,8 +5,10 @@ pub mod HexLemmas
 pub mod ReadingLemmas
 pub mod TypeLemmas
 pub mod ArgumentLemmas
+pub mod GroupLemmas
 pub mod StepLemmas
 pub mod RowLemmas
 pub mod LineLemmas
 pub mod PartLemmas
+pub mod TailLemmas
 pub mod GeneratorLemmas

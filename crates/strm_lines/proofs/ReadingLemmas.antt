@@ -1,7 +1,9 @@
 -- A reading undoes a writing, word by word.
 use Rattle.std.proofs.lemmas.List.{take_at, drop_at, take-append-drop}
-use Rattle.std.proofs.Common.{◌≡◌, length, take, drop, ℕ, ◌*◌, ◌<◌, ◌^◌, Bool, false, cond, codes, List, [], ◌∷◌, ◌++◌, Option, Some, true, leb, ◌&&◌, refl, sym, ap, ◌∙◌, arith}
+use Rattle.std.proofs.Common.{◌≡◌, length, take, drop, ℕ, ◌*◌, ◌<◌, ◌^◌, Bool, false, cond, codes, List, [], ◌∷◌, ◌++◌, Option, Some, None, true, inl, inr, leb, ◌&&◌, refl, sym, ap, ◌∙◌, arith}
 use Rattle.std.specs.Fmt.{decimal}
+use Rattle.std.specs.Prelude.{option_and_then}
+use Rattle.std.proofs.lemmas.Bool.Decides.{eqb_tells}
 use Rattle.std.specs.Str.{bytes_eq}
 use Rattle.std.proofs.lemmas.Bool.{leb-true, le-leb}
 use Rattle.std.proofs.lemmas.Option.{option_and_then_some, same_Some, cond_some}
@@ -129,3 +131,18 @@ pub behind_complete : (front rest : List ℕ) → behind front (front ++ rest) �
 unfolding behind
 behind_complete front rest =
     rw (take_at front rest (length front) refl, (bytes_eq-Decides front front).1 refl, drop_at front rest (length front) refl) refl
+
+-- what stands behind two fronts, one behind the other
+
+behind-append : (front back line : List ℕ) → behind (front ++ back) line ≡ option_and_then (behind back) (behind front line)
+unfolding behind
+behind-append [] back line = refl
+behind-append (x ∷ front) back [] = refl
+behind-append (x ∷ front) back (y ∷ line) =
+    elim (eqb_tells y x) [ inl t ↦ rw t.0 (behind-append front back line) | inr t ↦ rw t.0 refl ]
+
+pub behind_none : (front back line : List ℕ) → behind front line ≡ None → behind (front ++ back) line ≡ None
+behind_none front back line e = behind-append front back line ∙ ap (option_and_then (behind back)) e
+
+pub behind_more : (front back line rest : List ℕ) → behind front line ≡ Some rest → behind (front ++ back) line ≡ behind back rest
+behind_more front back line rest e = behind-append front back line ∙ ap (option_and_then (behind back)) e

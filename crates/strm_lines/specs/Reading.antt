@@ -11,6 +11,8 @@ use Rattle.strm_codes.specs.declared.codes.TransmitIndex.TheVariants.{Stream, Fu
 use Rattle.strm_machine.specs.declared.acts.NamedEnd.{NamedEnd}
 use Rattle.strm_machine.specs.declared.steps.Step.{Step}
 use Rattle.strm_machine.specs.declared.steps.Step.TheVariants.{Guest, New, Between, Write, Read, DropWrite, DropRead, CancelWrite, CancelRead, Move, Lift, Lower, Close, HostNew, Feed, Pipe, Grant, Drive, Event, SetNew, SetJoin, SetPoll, SetDrop, ErrNew, ErrText, ErrMove, ErrDrop, Poke, Dump}
+use Rattle.strm_lines.specs.declared.lines.Group.{Group}
+use Rattle.strm_lines.specs.declared.lines.Group.TheVariants as groups
 use Rattle.strm_lines.specs.Words.{scalar_word}
 
 -- a reading, and then another of what it found
@@ -272,12 +274,15 @@ ending =
     ∷ command (codes "cancel-read ") named_end_of (λ e. CancelRead e.guest e.ty e.handle)
     ∷ command (codes "close ") decimal_number Close ∷ moving
 
+-- the one that makes streams between two guests
+unfoldable pub pairing : List Command
+pairing = command (codes "pair ") two_numbers_and_type (λ v. Between v.0 v.1 v.2) ∷ ending
+
 -- those that make guests and streams
 unfoldable pub making : List Command
 making =
     command (codes "guest ") decimal_number Guest
-    ∷ command (codes "new ") number_and_type (λ v. New v.0 v.1)
-    ∷ command (codes "pair ") two_numbers_and_type (λ v. Between v.0 v.1 v.2) ∷ ending
+    ∷ command (codes "new ") number_and_type (λ v. New v.0 v.1) ∷ pairing
 
 -- those of a guest's memory
 unfoldable pub touching : List Command
@@ -291,6 +296,18 @@ often =
     command (codes "write ") operands_of (λ v. Write v.0.guest v.0.ty v.0.handle v.1 v.2)
     ∷ command (codes "read ") operands_of (λ v. Read v.0.guest v.0.ty v.0.handle v.1 v.2)
     ∷ command (codes "event ") two_numbers (λ v. Event v.0 v.1) ∷ touching
+
+-- the commands of a group, and those behind it
+abbrev pub commands_of : Group → List Command
+commands_of groups.Often = often
+commands_of groups.Touching = touching
+commands_of groups.Making = making
+commands_of groups.Pairing = pairing
+commands_of groups.Ending = ending
+commands_of groups.Moving = moving
+commands_of groups.Hosting = hosting
+commands_of groups.Gathering = gathering
+commands_of groups.Explaining = explaining
 
 -- the step of the first of these commands that a line begins with
 abbrev pub read_by : List Command → List ℕ → Option Step

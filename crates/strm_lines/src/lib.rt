@@ -11,5 +11,6 @@ pub mod one_by_one;
 pub mod parsing;
 pub mod replies;
 pub mod rows;
+mod tails;
 pub mod texts;
 pub mod words;

@@ -3,9 +3,9 @@
 //! Here the commands stand in groups, those of most lines first; how arguments are read is in
 //! `arguments`. Source: ours.
 
-ghost use Rattle.std.specs.Prelude.{◌≡◌, ◌<◌, [], ◌∷◌, ◌++◌, true, is_some};
+ghost use Rattle.std.specs.Prelude.{◌≡◌, ◌<◌, [], ◌∷◌, ◌++◌, true, is_some, slice_index_or};
 ghost use Rattle.std.specs.Option.{option_to_list};
-ghost use Rattle.strm_lines.specs.Reading.{touching, making, ending, moving, hosting, gathering, explaining, read_by, step_of};
+ghost use Rattle.strm_lines.specs.Reading.{often, touching, making, pairing, ending, moving, hosting, gathering, explaining, commands_of, read_by, step_of};
 
 mod arguments;
 
@@ -14,9 +14,59 @@ use crate::lines::arguments::{
     place_and_len, three_numbers, two_numbers, two_numbers_and_type,
 };
 use crate::one_by_one::TakesSteps;
-use crate::words::{behind, number};
+use crate::words::{behind, behind_both, number};
 use strm_machine::acts::NamedEnd;
 use strm_machine::steps::Step;
+
+// Commands that stand together, with all that stand behind them.
+enum Group {
+    Often,
+    Touching,
+    Making,
+    Pairing,
+    Ending,
+    Moving,
+    Hosting,
+    Gathering,
+    Explaining,
+}
+
+// The byte at a place of a line; where there is none, 0.
+#[inline(always)]
+fn byte_at(line: &[u8], place: usize) -> u8
+    ensures { result ≡ slice_index_or line.now place 0 }
+{
+    if place < line.len() { line[place] } else { 0 }
+}
+
+// Commands among which a line's own is, if it has one, by its first two bytes.
+#[inline(always)]
+#[tactic(auto, using(crate::proofs::GroupLemmas::begins_c, crate::proofs::GroupLemmas::begins_dr, crate::proofs::GroupLemmas::begins_d, crate::proofs::GroupLemmas::begins_er, crate::proofs::GroupLemmas::begins_f, crate::proofs::GroupLemmas::begins_h, crate::proofs::GroupLemmas::begins_g, crate::proofs::GroupLemmas::begins_n, crate::proofs::GroupLemmas::begins_l, crate::proofs::GroupLemmas::begins_m, crate::proofs::GroupLemmas::begins_pa, crate::proofs::GroupLemmas::begins_pi, crate::proofs::GroupLemmas::begins_p, crate::proofs::GroupLemmas::begins_s))]
+fn group_of(line: &[u8]) -> Group
+    ensures { read_by often line.now ≡ read_by (commands_of result) line.now }
+{
+    match byte_at(line, 0) {
+        b'c' => Group::Ending,
+        b'd' => match byte_at(line, 1) {
+            b'r' => Group::Ending,
+            _ => Group::Touching,
+        },
+        b'e' => match byte_at(line, 1) {
+            b'r' => Group::Explaining,
+            _ => Group::Often,
+        },
+        b'f' | b'h' => Group::Hosting,
+        b'g' | b'n' => Group::Making,
+        b'l' | b'm' => Group::Moving,
+        b'p' => match byte_at(line, 1) {
+            b'a' => Group::Pairing,
+            b'i' => Group::Hosting,
+            _ => Group::Touching,
+        },
+        b's' => Group::Gathering,
+        _ => Group::Often,
+    }
+}
 
 // Keeps the step that was read.
 #[inline(always)]
@@ -30,11 +80,34 @@ fn keep<L: TakesSteps>(steps: &mut L, step: Step) -> bool
 }
 
 // Keeps the step that a line spells, where it spells one: each is made where it is to lie.
-#[tactic(auto, unfolding(crate::specs::Reading::step_of, crate::specs::Reading::often))]
+#[inline(always)]
+#[tactic(auto, unfolding(crate::specs::Reading::step_of))]
 pub(crate) fn keep_line<L: TakesSteps>(steps: &mut L, line: &[u8]) -> bool
     requires room { 0 < L.room steps.old }
     ensures items { L.steps steps.new ≡ L.steps steps.old ++ option_to_list (step_of line.now) }
     ensures found { result ≡ is_some (step_of line.now) }
+{
+    match group_of(line) {
+        Group::Often => keep_often(steps, line),
+        Group::Touching => keep_touching(steps, line),
+        Group::Making => keep_making(steps, line),
+        Group::Pairing => keep_pairing(steps, line),
+        Group::Ending => keep_ending(steps, line),
+        Group::Moving => keep_moving(steps, line),
+        Group::Hosting => keep_hosting(steps, line),
+        Group::Gathering => keep_gathering(steps, line),
+        Group::Explaining => keep_explaining(steps, line),
+    }
+}
+
+// Keeps that of a line that begins with a command of most lines, or with one of those below.
+#[inline(always)]
+#[tactic(auto, unfolding(crate::specs::Reading::often))]
+fn keep_often<L: TakesSteps>(steps: &mut L, line: &[u8]) -> bool
+    requires room { 0 < L.room steps.old }
+    ensures items { L.steps steps.new
+        ≡ L.steps steps.old ++ option_to_list (read_by often line.now) }
+    ensures found { result ≡ is_some (read_by often line.now) }
 {
     if let Some(rest) = behind(line, b"write ") {
         let Some((NamedEnd { guest, ty, handle }, address, count)) = operands(rest) else {
@@ -78,7 +151,8 @@ pub(crate) fn keep_line<L: TakesSteps>(steps: &mut L, line: &[u8]) -> bool
 #[tactic(auto, unfolding(crate::specs::Reading::touching))]
 fn keep_touching<L: TakesSteps>(steps: &mut L, line: &[u8]) -> bool
     requires room { 0 < L.room steps.old }
-    ensures items { L.steps steps.new ≡ L.steps steps.old ++ option_to_list (read_by touching line.now) }
+    ensures items { L.steps steps.new
+        ≡ L.steps steps.old ++ option_to_list (read_by touching line.now) }
     ensures found { result ≡ is_some (read_by touching line.now) }
 {
     if let Some(rest) = behind(line, b"poke ") {
@@ -114,7 +188,8 @@ fn keep_touching<L: TakesSteps>(steps: &mut L, line: &[u8]) -> bool
 #[tactic(auto, unfolding(crate::specs::Reading::making, crate::specs::Reading::behind))]
 fn keep_making<L: TakesSteps>(steps: &mut L, line: &[u8]) -> bool
     requires room { 0 < L.room steps.old }
-    ensures items { L.steps steps.new ≡ L.steps steps.old ++ option_to_list (read_by making line.now) }
+    ensures items { L.steps steps.new
+        ≡ L.steps steps.old ++ option_to_list (read_by making line.now) }
     ensures found { result ≡ is_some (read_by making line.now) }
 {
     if let Some(rest) = behind(line, b"guest ") {
@@ -127,7 +202,20 @@ fn keep_making<L: TakesSteps>(steps: &mut L, line: &[u8]) -> bool
             return false;
         };
         keep(steps, Step::New { guest, ty })
-    } else if let Some(rest) = behind(line, b"pair ") {
+    } else {
+        keep_pairing(steps, line)
+    }
+}
+
+// The same of streams between two guests.
+#[tactic(auto, unfolding(crate::specs::Reading::pairing))]
+fn keep_pairing<L: TakesSteps>(steps: &mut L, line: &[u8]) -> bool
+    requires room { 0 < L.room steps.old }
+    ensures items { L.steps steps.new
+        ≡ L.steps steps.old ++ option_to_list (read_by pairing line.now) }
+    ensures found { result ≡ is_some (read_by pairing line.now) }
+{
+    if let Some(rest) = behind(line, b"pair ") {
         let Some((writer, reader, ty)) = two_numbers_and_type(rest) else {
             return false;
         };
@@ -141,25 +229,26 @@ fn keep_making<L: TakesSteps>(steps: &mut L, line: &[u8]) -> bool
 #[tactic(auto, unfolding(crate::specs::Reading::ending, crate::specs::Reading::behind))]
 fn keep_ending<L: TakesSteps>(steps: &mut L, line: &[u8]) -> bool
     requires room { 0 < L.room steps.old }
-    ensures items { L.steps steps.new ≡ L.steps steps.old ++ option_to_list (read_by ending line.now) }
+    ensures items { L.steps steps.new
+        ≡ L.steps steps.old ++ option_to_list (read_by ending line.now) }
     ensures found { result ≡ is_some (read_by ending line.now) }
 {
-    if let Some(rest) = behind(line, b"drop-write ") {
+    if let Some(rest) = behind_both(line, b"drop-wri", b"te ") {
         let Some(NamedEnd { guest, ty, handle }) = named_end(rest) else {
             return false;
         };
         keep(steps, Step::DropWrite { guest, ty, handle })
-    } else if let Some(rest) = behind(line, b"drop-read ") {
+    } else if let Some(rest) = behind_both(line, b"drop-rea", b"d ") {
         let Some(NamedEnd { guest, ty, handle }) = named_end(rest) else {
             return false;
         };
         keep(steps, Step::DropRead { guest, ty, handle })
-    } else if let Some(rest) = behind(line, b"cancel-write ") {
+    } else if let Some(rest) = behind_both(line, b"cancel-w", b"rite ") {
         let Some(NamedEnd { guest, ty, handle }) = named_end(rest) else {
             return false;
         };
         keep(steps, Step::CancelWrite { guest, ty, handle })
-    } else if let Some(rest) = behind(line, b"cancel-read ") {
+    } else if let Some(rest) = behind_both(line, b"cancel-r", b"ead ") {
         let Some(NamedEnd { guest, ty, handle }) = named_end(rest) else {
             return false;
         };
@@ -178,7 +267,8 @@ fn keep_ending<L: TakesSteps>(steps: &mut L, line: &[u8]) -> bool
 #[tactic(auto, unfolding(crate::specs::Reading::moving))]
 fn keep_moving<L: TakesSteps>(steps: &mut L, line: &[u8]) -> bool
     requires room { 0 < L.room steps.old }
-    ensures items { L.steps steps.new ≡ L.steps steps.old ++ option_to_list (read_by moving line.now) }
+    ensures items { L.steps steps.new
+        ≡ L.steps steps.old ++ option_to_list (read_by moving line.now) }
     ensures found { result ≡ is_some (read_by moving line.now) }
 {
     if let Some(rest) = behind(line, b"move ") {
@@ -213,7 +303,8 @@ fn keep_moving<L: TakesSteps>(steps: &mut L, line: &[u8]) -> bool
 #[tactic(auto, unfolding(crate::specs::Reading::hosting))]
 fn keep_hosting<L: TakesSteps>(steps: &mut L, line: &[u8]) -> bool
     requires room { 0 < L.room steps.old }
-    ensures items { L.steps steps.new ≡ L.steps steps.old ++ option_to_list (read_by hosting line.now) }
+    ensures items { L.steps steps.new
+        ≡ L.steps steps.old ++ option_to_list (read_by hosting line.now) }
     ensures found { result ≡ is_some (read_by hosting line.now) }
 {
     if let Some(rest) = behind(line, b"host ") {
@@ -250,7 +341,8 @@ fn keep_hosting<L: TakesSteps>(steps: &mut L, line: &[u8]) -> bool
 #[tactic(auto, unfolding(crate::specs::Reading::gathering))]
 fn keep_gathering<L: TakesSteps>(steps: &mut L, line: &[u8]) -> bool
     requires room { 0 < L.room steps.old }
-    ensures items { L.steps steps.new ≡ L.steps steps.old ++ option_to_list (read_by gathering line.now) }
+    ensures items { L.steps steps.new
+        ≡ L.steps steps.old ++ option_to_list (read_by gathering line.now) }
     ensures found { result ≡ is_some (read_by gathering line.now) }
 {
     if let Some(rest) = behind(line, b"set-new ") {
@@ -258,17 +350,17 @@ fn keep_gathering<L: TakesSteps>(steps: &mut L, line: &[u8]) -> bool
             return false;
         };
         keep(steps, Step::SetNew { guest })
-    } else if let Some(rest) = behind(line, b"set-join ") {
+    } else if let Some(rest) = behind_both(line, b"set-join", b" ") {
         let Some((guest, set, handle)) = three_numbers(rest) else {
             return false;
         };
         keep(steps, Step::SetJoin { guest, set, handle })
-    } else if let Some(rest) = behind(line, b"set-poll ") {
+    } else if let Some(rest) = behind_both(line, b"set-poll", b" ") {
         let Some((guest, set)) = two_numbers(rest) else {
             return false;
         };
         keep(steps, Step::SetPoll { guest, set })
-    } else if let Some(rest) = behind(line, b"set-drop ") {
+    } else if let Some(rest) = behind_both(line, b"set-drop", b" ") {
         let Some((guest, set)) = two_numbers(rest) else {
             return false;
         };
@@ -282,7 +374,8 @@ fn keep_gathering<L: TakesSteps>(steps: &mut L, line: &[u8]) -> bool
 #[tactic(auto, unfolding(crate::specs::Reading::explaining, crate::specs::Reading::behind))]
 fn keep_explaining<L: TakesSteps>(steps: &mut L, line: &[u8]) -> bool
     requires room { 0 < L.room steps.old }
-    ensures items { L.steps steps.new ≡ L.steps steps.old ++ option_to_list (read_by explaining line.now) }
+    ensures items { L.steps steps.new
+        ≡ L.steps steps.old ++ option_to_list (read_by explaining line.now) }
     ensures found { result ≡ is_some (read_by explaining line.now) }
 {
     if let Some(rest) = behind(line, b"err-new ") {
@@ -297,7 +390,7 @@ fn keep_explaining<L: TakesSteps>(steps: &mut L, line: &[u8]) -> bool
                 len,
             },
         )
-    } else if let Some(rest) = behind(line, b"err-text ") {
+    } else if let Some(rest) = behind_both(line, b"err-text", b" ") {
         let Some((guest, handle, address)) = three_numbers(rest) else {
             return false;
         };
@@ -309,12 +402,12 @@ fn keep_explaining<L: TakesSteps>(steps: &mut L, line: &[u8]) -> bool
                 address,
             },
         )
-    } else if let Some(rest) = behind(line, b"err-move ") {
+    } else if let Some(rest) = behind_both(line, b"err-move", b" ") {
         let Some((guest, handle, to)) = three_numbers(rest) else {
             return false;
         };
         keep(steps, Step::ErrMove { guest, handle, to })
-    } else if let Some(rest) = behind(line, b"err-drop ") {
+    } else if let Some(rest) = behind_both(line, b"err-drop", b" ") {
         let Some((guest, handle)) = two_numbers(rest) else {
             return false;
         };

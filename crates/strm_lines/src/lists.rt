@@ -11,13 +11,28 @@ use strm_codes::counts::OutOfMemory;
 use strm_machine::replies::Reply;
 use strm_machine::steps::Step;
 
-// Adds an item at the end.
+// Adds an item at the end. The room is made apart: the error of a push would have the item in it.
+#[inline(always)]
 fn push_item<T: Copy>(items: &mut Vec<T>, item: &T) -> Result<(), OutOfMemory>
     ensures ok { OnOk result (items.new.items ≡ items.old.items ++ item.now ∷ []) }
     ensures err { OnErr result (items.new.items ≡ items.old.items) }
 {
-    items.push(*item)?;
+    make_room(items)?;
+    push_item_reserved(items, *item);
     Ok(())
+}
+
+// Makes room for an item more, where there is none.
+#[inline(always)]
+fn make_room<T>(items: &mut Vec<T>) -> Result<(), OutOfMemory>
+    ensures same { items.new.items ≡ items.old.items }
+    ensures ok { OnOk result (vec_len items.new < vec_capacity items.new) }
+{
+    if items.len() < items.capacity() {
+        Ok(())
+    } else {
+        reserve_items(items, 1)
+    }
 }
 
 // Adds an item at the end, where there is room for it.
@@ -90,6 +105,7 @@ impl Steps {
     }
 
     /// Adds a step at the end.
+    #[inline(always)]
     pub fn push(&mut self, item: Step) -> Result<(), OutOfMemory>
         ensures ok { OnOk result (self.new ≡ self.old ++ item ∷ []) }
         ensures err { OnErr result (self.new ≡ self.old) }
@@ -116,11 +132,7 @@ impl TakesSteps for Vec<Step> {
 
     #[inline(always)]
     fn make_room(&mut self) -> Result<(), OutOfMemory> {
-        if self.len() < self.capacity() {
-            Ok(())
-        } else {
-            reserve_items(self, 1)
-        }
+        make_room(self)
     }
 
     #[inline(always)]
@@ -202,6 +214,7 @@ impl Replies {
     }
 
     /// Adds a reply at the end.
+    #[inline(always)]
     pub fn push(&mut self, item: Reply) -> Result<(), OutOfMemory>
         ensures ok { OnOk result (self.new ≡ self.old ++ item ∷ []) }
         ensures err { OnErr result (self.new ≡ self.old) }

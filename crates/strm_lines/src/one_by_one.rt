@@ -58,5 +58,6 @@ pub trait KeepsReplies {
         requires few { (told : List Reply) × keeps self.old told × (length told < 4294967295) }
         ensures ok { (told : List Reply) → keeps self.old told →
             OnOk result (keeps self.new (told ++ reply.now ∷ [])) }
-        ensures err { (told : List Reply) → keeps self.old told → OnErr result (keeps self.new told) };
+        ensures err { (told : List Reply) → keeps self.old told →
+            OnErr result (keeps self.new told) };
 }

@@ -100,8 +100,8 @@ impl ReplyCounts {
 
     /// The summary of a run, from how many items were received on each stream.
     pub fn summary(&self, alloc: Global, moved: &[u128]) -> Result<TextBytes, OutOfMemory>
-        ensures { (told : List Reply) → AreRepliesCounted self.now.refused self.now.blocked self.now.count told →
-            IfOk result (λ text. text ≡ summary_text told moved.now) }
+        ensures { (told : List Reply) →
+            AreRepliesCounted self.now.refused self.now.blocked self.now.count told → IfOk result (λ text. text ≡ summary_text told moved.now) }
     {
         counts_text(
             alloc,

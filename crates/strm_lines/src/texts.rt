@@ -10,6 +10,7 @@ ghost use Rattle.strm_lines.specs.Text.{HasPart, line_ended, hex_word, count_tex
 ghost use Rattle.strm_machine.specs.Moments.{is_blocked};
 
 use crate::lists::TextBytes;
+use crate::tails::Tail;
 use itoa::{Buffer, Integer};
 use std::alloc::Global;
 use strm_codes::codes::ReturnCode;
@@ -85,36 +86,34 @@ fn push_parts(out: &mut TextBytes, parts: &[&[u8]]) -> Result<(), OutOfMemory>
 // Adds the line of a number.
 fn push_number_line(out: &mut TextBytes, number: u32) -> Result<(), OutOfMemory>
     ensures ok { OnOk result (out.new ≡ out.old ++ line_ended (decimal number)) }
-    ensures err { OnErr result (HasPart out.old out.new (line_ended (decimal number))) }
+    ensures err { OnErr result (out.new ≡ out.old) }
 {
-    let mut digits = Buffer::new();
-    push_parts(out, &[digits.format(number).as_bytes(), b"\n".as_slice()])
+    let mut line = Tail::new();
+    line.put_number(u64::from(number));
+    out.push_slice(line.as_slice())
 }
 
 // Adds the line of a new stream.
 fn push_pair(out: &mut TextBytes, pair: &Pair) -> Result<(), OutOfMemory>
     ensures ok { OnOk result (out.new ≡ out.old ++ line_ended (reply_text (Reply.Pair pair.now))) }
-    ensures err { OnErr result (HasPart out.old out.new (line_ended (reply_text (Reply.Pair pair.now)))) }
+    ensures err { OnErr result (out.new ≡ out.old) }
 {
-    let (mut read, mut write, mut stream) = (Buffer::new(), Buffer::new(), Buffer::new());
-    push_parts(
-        out,
-        &[
-            b"read ".as_slice(),
-            read.format(pair.read).as_bytes(),
-            b" write ".as_slice(),
-            write.format(pair.write).as_bytes(),
-            b" stream ".as_slice(),
-            stream.format(pair.stream).as_bytes(),
-            b"\n".as_slice(),
-        ],
-    )
+    let mut line = Tail::new();
+    line.put_number(u64::from(pair.stream));
+    line.put(b" stream ");
+    line.put_number(u64::from(pair.write));
+    line.put(b" write ");
+    line.put_number(u64::from(pair.read));
+    line.put(b"read ");
+    out.push_slice(line.as_slice())
 }
 
 // Adds the line of a member of a set and of what it was told.
 fn push_member(out: &mut TextBytes, member: &Member) -> Result<(), OutOfMemory>
-    ensures ok { OnOk result (out.new ≡ out.old ++ line_ended (reply_text (Reply.Member (Some member.now)))) }
-    ensures err { OnErr result (HasPart out.old out.new (line_ended (reply_text (Reply.Member (Some member.now))))) }
+    ensures ok { OnOk result
+        (out.new ≡ out.old ++ line_ended (reply_text (Reply.Member (Some member.now)))) }
+    ensures err { OnErr result
+        (HasPart out.old out.new (line_ended (reply_text (Reply.Member (Some member.now))))) }
 {
     let mut handle = Buffer::new();
     let code = hex_line(member.code.encode());
@@ -130,8 +129,10 @@ fn push_member(out: &mut TextBytes, member: &Member) -> Result<(), OutOfMemory>
 
 // Adds the line of a refusal.
 fn push_refusal(out: &mut TextBytes, refusal: Refusal) -> Result<(), OutOfMemory>
-    ensures ok { OnOk result (out.new ≡ out.old ++ line_ended (reply_text (Reply.Refused refusal))) }
-    ensures err { OnErr result (HasPart out.old out.new (line_ended (reply_text (Reply.Refused refusal)))) }
+    ensures ok { OnOk result
+        (out.new ≡ out.old ++ line_ended (reply_text (Reply.Refused refusal))) }
+    ensures err { OnErr result
+        (HasPart out.old out.new (line_ended (reply_text (Reply.Refused refusal)))) }
 {
     push_parts(
         out,
@@ -146,7 +147,8 @@ fn push_refusal(out: &mut TextBytes, refusal: Refusal) -> Result<(), OutOfMemory
 // Adds the line of a bad item.
 fn push_bad_item(out: &mut TextBytes, stream: u32) -> Result<(), OutOfMemory>
     ensures ok { OnOk result (out.new ≡ out.old ++ line_ended (reply_text (Reply.BadItem stream))) }
-    ensures err { OnErr result (HasPart out.old out.new (line_ended (reply_text (Reply.BadItem stream)))) }
+    ensures err { OnErr result
+        (HasPart out.old out.new (line_ended (reply_text (Reply.BadItem stream)))) }
 {
     let mut digits = Buffer::new();
     push_parts(
@@ -196,6 +198,23 @@ fn push_stream(out: &mut TextBytes, stream: usize, moved: u128) -> Result<(), Ou
     ensures ok { OnOk result (out.new ≡ out.old ++ line_ended (stream_text stream moved)) }
     ensures err { OnErr result (HasPart out.old out.new (line_ended (stream_text stream moved))) }
 {
+    if moved > u128::from(u64::MAX) {
+        return push_far_stream(out, stream, moved);
+    }
+    let mut line = Tail::new();
+    line.put_number(moved as u64);
+    line.put(b" moved ");
+    line.put_number(stream as u64);
+    line.put(b"stream ");
+    out.push_slice(line.as_slice())
+}
+
+// The same, whatever the count.
+#[inline(never)]
+fn push_far_stream(out: &mut TextBytes, stream: usize, moved: u128) -> Result<(), OutOfMemory>
+    ensures ok { OnOk result (out.new ≡ out.old ++ line_ended (stream_text stream moved)) }
+    ensures err { OnErr result (HasPart out.old out.new (line_ended (stream_text stream moved))) }
+{
     let (mut digits, mut count) = (Buffer::new(), Buffer::new());
     push_parts(
         out,
@@ -242,7 +261,8 @@ pub(crate) fn push_ending(
     moved: &[u128],
     steps: usize,
 ) -> Result<(), OutOfMemory>
-    ensures { OnOk result (out.new ≡ out.old ++ stream_lines 0 moved.now ++ line_ended (done_text steps)) }
+    ensures { OnOk result
+        (out.new ≡ out.old ++ stream_lines 0 moved.now ++ line_ended (done_text steps)) }
 {
     push_streams(out, moved)?;
     push_done(out, steps)
@@ -314,7 +334,8 @@ pub(crate) fn counts_text(
     steps: usize,
 ) -> Result<TextBytes, OutOfMemory>
     ensures { IfOk result (λ text. text ≡ line_ended (count_text (codes "refused") refused)
-        ++ line_ended (count_text (codes "blocked") blocked) ++ stream_lines 0 moved.now ++ line_ended (done_text steps)) }
+        ++ line_ended (count_text (codes "blocked") blocked)
+        ++ stream_lines 0 moved.now ++ line_ended (done_text steps)) }
 {
     let mut out = TextBytes::new(alloc);
     out.push_slice(b"refused ")?;
@@ -374,7 +395,8 @@ pub fn stopped_text(alloc: Global, replies: &[Reply], stop: Stop) -> Result<Text
 
 // Adds the line of the step of this number, from 1, at which a run stopped.
 pub(crate) fn push_stopped(out: &mut TextBytes, at: usize, stop: Stop) -> Result<(), OutOfMemory>
-    ensures { OnOk result (out.new ≡ out.old ++ line_ended (words (codes "stopped" ∷ decimal at ∷ stop_text stop ∷ []))) }
+    ensures { OnOk result (out.new ≡ out.old
+        ++ line_ended (words (codes "stopped" ∷ decimal at ∷ stop_text stop ∷ []))) }
 {
     out.push_slice(b"stopped ")?;
     push_number(out, at)?;

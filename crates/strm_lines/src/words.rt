@@ -2,7 +2,7 @@
 //!
 //! Source: ours.
 
-ghost use Rattle.std.specs.Prelude.{◌≡◌, ◌+◌, ◌-◌, ◌*◌, ◌%◌, ◌^◌, ◌≤◌, ◌<◌, true, false, IsTrue, length, drop, slice_index_or, SomeIff, Some, None};
+ghost use Rattle.std.specs.Prelude.{◌≡◌, ◌++◌, ◌+◌, ◌-◌, ◌*◌, ◌%◌, ◌^◌, ◌≤◌, ◌<◌, true, false, IsTrue, length, drop, slice_index_or, SomeIff, Some, None};
 ghost use Rattle.std.specs.Option.{option_map};
 ghost use Rattle.strm_lines.specs.Reading.{behind, cut_at, early, late, named_among, scalar_read, fields_read, shape_read, payload_read, leading, is_digit, decimal_number, read_to, number_within, nibble, pairs_from, hex, type_read};
 
@@ -22,11 +22,26 @@ pub fn behind<'a, const N: usize>(line: &'a [u8], front: &[u8; N]) -> Option<&'a
     if *first == *front { Some(rest) } else { None }
 }
 
+/// What follows these bytes, and then those, at the front of a line. Two comparisons of at most eight
+/// bytes each take less than one of more.
+#[inline(always)]
+#[tactic(auto, using(crate::proofs::ReadingLemmas::behind_none, crate::proofs::ReadingLemmas::behind_more))]
+pub(crate) fn behind_both<'a, const N: usize, const M: usize>(
+    line: &'a [u8],
+    front: &[u8; N],
+    back: &[u8; M],
+) -> Option<&'a [u8]>
+    ensures { option_map (λ rest. rest.now) result ≡ behind (front.now ++ back.now) line.now }
+{
+    let rest = behind(line, front)?;
+    behind(rest, back)
+}
+
 // A number with one more digit behind it, where that is below 2^32.
 #[inline(always)]
 fn with_digit(number: u32, digit: u8) -> Option<u32>
     requires { is_digit digit ≡ true }
-    ensures { SomeIff result (10 * decimal_number + (digit - 48) < 2 ^ 32) (10 * decimal_number + (digit - 48)) }
+    ensures { SomeIff result (10 * number + (digit - 48) < 2 ^ 32) (10 * number + (digit - 48)) }
 {
     let next = 10 * u64::from(number) + u64::from(digit - b'0');
     if next < 1 << 32 {
@@ -37,7 +52,7 @@ fn with_digit(number: u32, digit: u8) -> Option<u32>
 }
 
 // A number in decimal, below 2^32 and without leading zeros.
-#[tactic(auto, unfolding(crate::specs::Reading::number, crate::specs::Reading::digits_from))]
+#[tactic(auto, unfolding(crate::specs::Reading::decimal_number, crate::specs::Reading::digits_from))]
 pub(crate) fn number(word: &[u8]) -> Option<u32>
     ensures { result ≡ decimal_number word.now }
 {
@@ -110,7 +125,7 @@ pub(crate) fn leading_number(line: &[u8]) -> Option<(u32, &[u8])>
 fn behind_number(number: u32, line: &[u8], at: usize) -> Option<(u32, &[u8])>
     requires inside { at < length line.now }
     requires digit { is_digit (slice_index_or line.now at 0) ≡ false }
-    ensures { option_map (λ p. (p.0, p.1.now)) result ≡ read_to decimal_number (drop at line.now) }
+    ensures { option_map (λ p. (p.0, p.1.now)) result ≡ read_to number (drop at line.now) }
 {
     if line[at] != b' ' {
         return None;
@@ -233,7 +248,7 @@ pub(crate) fn transmit_type(word: &[u8]) -> Option<TransmitIndex>
     ensures { result ≡ type_read word.now }
 {
     // Most lines name this type.
-    if let Some(rest) = behind(word, b"stream:u8") {
+    if let Some(rest) = behind_both(word, b"stream:u", b"8") {
         if rest.is_empty() {
             return Some(TransmitIndex::Stream(Payload::One(Scalar::U8)));
         }
@@ -261,7 +276,7 @@ pub(crate) fn leading_type(line: &[u8]) -> Option<(TransmitIndex, &[u8])>
     ensures { option_map (λ p. (p.0, p.1.now)) result ≡ leading type_read line.now }
 {
     // Most lines name this type.
-    match behind(line, b"stream:u8 ") {
+    match behind_both(line, b"stream:u", b"8 ") {
         Some(rest) => Some((TransmitIndex::Stream(Payload::One(Scalar::U8)), rest)),
         None => leading_other_type(line),
     }

@@ -86,7 +86,7 @@ pub(crate) fn end_and_guest(rest: &[u8]) -> Option<(NamedEnd, u32)>
 
 // Handle, address and count, which a future's line does not have.
 #[inline(always)]
-#[tactic(auto, unfolding(crate::specs::Reading::place_of, crate::specs::Reading::two_numbers, crate::specs::Reading::three_numbers))]
+#[tactic(auto, unfolding(crate::specs::Reading::place_words, crate::specs::Reading::two_numbers, crate::specs::Reading::three_numbers))]
 fn place(ty: &TransmitIndex, rest: &[u8]) -> Option<(u32, u32, u32)>
     ensures { result ≡ place_words ty.now rest.now }
 {
@@ -119,7 +119,7 @@ pub(crate) fn operands(rest: &[u8]) -> Option<(NamedEnd, u32, u32)>
 }
 
 // What is fed: 1 to 64 bytes, or none for `end`.
-#[tactic(auto, unfolding(crate::specs::Reading::fed))]
+#[tactic(auto, unfolding(crate::specs::Reading::fed_bytes))]
 fn fed(word: &[u8]) -> Option<Chunk>
     ensures { result ≡ fed_bytes word.now }
 {
