@@ -11,7 +11,9 @@ use Rattle.strm_carry_laws.specs.OneStream.{new_store, carried_type, bytes_as_it
 
 -- both guests and the stream are made
 abbrev pub carry_made : State
-carry_made = state_after_steps new_store (steps.Guest 64 ∷ steps.Guest 64 ∷ steps.Between 0 1 carried_type ∷ [])
+carry_made =
+    state_after_steps new_store
+    (steps.Guest 64 ∷ steps.Guest 64 ∷ steps.Between 0 1 carried_type ∷ [])
 
 -- both ends are at rest, with these memories, after so many bytes
 abbrev pub rests : List ℕ → List ℕ → ℕ → State
@@ -28,7 +30,18 @@ serving m0 m1 n a j i met =
     let s = stream_at state 0 in
     record state {
       streams = (record s {
-        writer = record s.writer { operation = Some (record { guest = 0; address = a; left = j; moved = i; is_open = nat_lt 0 j; met = met; asked = false; outcome = Completed }) };
+        writer = record s.writer {
+          operation = Some (record {
+            guest = 0;
+            address = a;
+            left = j;
+            moved = i;
+            is_open = nat_lt 0 j;
+            met = met;
+            asked = false;
+            outcome = Completed;
+          });
+        };
       }) ∷ [];
     }
 
@@ -47,7 +60,8 @@ pub record Drains (m0 m1 : List ℕ) (n a j i : ℕ) (met : Bool) (run : List St
   pub long : length memory ≡ 64
   pub met_kept : met ≡ true → met_then ≡ true
   pub met_is : 0 < j → met_then ≡ true
-  pub runs : Runs (serving m0 m1 n a j i met) (serving m0 memory (n + j) address 0 (i + j) met_then) run
+  pub runs : Runs (serving m0 m1 n a j i met)
+      (serving m0 memory (n + j) address 0 (i + j) met_then) run
       (take j (drop a m0)) (take j (drop a m0))
 
 -- a run from rest to rest, that gets and dumps these bytes

@@ -11,7 +11,8 @@ pub record Written : Type 0 where
 unfoldable pub pieces_in : ℕ → ℕ → List ℕ → List Frame
 pieces_in zero lane bytes = []
 pieces_in (suc n) lane [] = []
-pieces_in (suc n) lane (b ∷ bytes) = Data lane (take 255 (b ∷ bytes)) ∷ pieces_in n lane (drop 255 (b ∷ bytes))
+pieces_in (suc n) lane (b ∷ bytes) =
+    Data lane (take 255 (b ∷ bytes)) ∷ pieces_in n lane (drop 255 (b ∷ bytes))
 
 -- all of them: frames of 255 bytes, and one for the rest
 unfoldable pub pieces_of : ℕ → List ℕ → List Frame

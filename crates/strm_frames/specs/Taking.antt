@@ -20,7 +20,8 @@ flags_after flags (frame ∷ more) = flags_after (flagged flags frame) more
 unfoldable pub AreAllowed : List Bool → List Frame → Type 0
 AreAllowed flags [] = Unit {0}
 AreAllowed flags (frame ∷ more) =
-    IsFrame frame × (lane_named frame < 256) × (slice_index_or flags (lane_named frame) false ≡ false)
+    IsFrame frame × (lane_named frame < 256)
+    × (slice_index_or flags (lane_named frame) false ≡ false)
     × AreAllowed (flagged flags frame) more
 
 -- frames of lanes that are bytes
@@ -81,7 +82,8 @@ pub record Surveys (bytes : List ℕ) (flags after : List Bool) (used : ℕ) : T
   pub part : IsPartOfFrame left
 
 -- allowed frames, behind which comes a fault
-pub record SurveysFault (bytes : List ℕ) (flags : List Bool) (place : ℕ) (fault : Fault) : Type 0 where
+pub record SurveysFault (bytes : List ℕ) (flags : List Bool)
+    (place : ℕ) (fault : Fault) : Type 0 where
   pub frames : List Frame
   pub next : List ℕ
   pub whole : bytes ≡ encoding frames ++ next
@@ -91,7 +93,8 @@ pub record SurveysFault (bytes : List ℕ) (flags : List Bool) (place : ℕ) (fa
 -- each lane has these frames' bytes more
 pub record ExtendsLanes (old new : List (List ℕ)) (frames : List Frame) : Type 0 where
   pub same : length new ≡ length old
-  pub each : (lane : ℕ) → lane < 256 → slice_index_or new lane [] ≡ slice_index_or old lane [] ++ lane_in lane frames
+  pub each : (lane : ℕ) → lane < 256 →
+      slice_index_or new lane [] ≡ slice_index_or old lane [] ++ lane_in lane frames
 
 -- behind these bytes comes no whole frame
 pub record IsHalted (bytes : List ℕ) : Type 0 where
@@ -129,4 +132,5 @@ pub record Counts (bytes : List ℕ) (lane count : ℕ) : Type 0 where
 pub record Retracts (bytes : List ℕ) (old new : List (List ℕ)) : Type 0 where
   pub same : length new ≡ length old
   pub each : (lane : ℕ) → lane < 256 → (count : ℕ) × Counts bytes lane count
-      × (slice_index_or new lane [] ≡ take (length (slice_index_or old lane []) - count) (slice_index_or old lane []))
+      × (slice_index_or new lane []
+      ≡ take (length (slice_index_or old lane []) - count) (slice_index_or old lane []))

@@ -61,15 +61,16 @@ impl Demux {
     /// each later feed answers it again; running out of memory changes nothing.
     pub fn feed(&mut self, piece: &[u8]) -> Result<(), MuxError>
         // However the stream was cut: what was fed is all pieces together.
-        ensures ok { OnOk result ((bytes : List ℕ) → IsDemuxFed self.old bytes → IsDemuxFed self.new (bytes ++ piece.now)) }
+        ensures ok { OnOk result ((bytes : List ℕ) →
+            IsDemuxFed self.old bytes → IsDemuxFed self.new (bytes ++ piece.now)) }
         ensures well { OnOk result ((self.old.fault ≡ None) × (self.new.fault ≡ None)) }
 
         // A fault comes exactly where the stream so far has it, and nothing but that changes.
         ensures fault { (fault : Fault) → self.old.fault ≡ None → result ≡ Err (error_of fault) →
             (self.new ≡ record self.old { fault = Some fault })
             × ((bytes : List ℕ) → IsDemuxFed self.old bytes → Faults (bytes ++ piece.now) fault) }
-        ensures exact { (bytes : List ℕ) (fault : Fault) → self.old.fault ≡ None → IsDemuxFed self.old bytes →
-            Faults (bytes ++ piece.now) fault →
+        ensures exact { (bytes : List ℕ) (fault : Fault) → self.old.fault ≡ None →
+            IsDemuxFed self.old bytes → Faults (bytes ++ piece.now) fault →
             (result ≡ Err (error_of fault)) ⊎ (result ≡ Err MuxError.OutOfMemory) }
         ensures again { (fault : Fault) → self.old.fault ≡ Some fault →
             (result ≡ Err (error_of fault)) × (self.new ≡ self.old) }
@@ -82,7 +83,8 @@ impl Demux {
     // The same, of which `feed` says more.
     fn take_piece(&mut self, piece: &[u8]) -> Result<(), MuxError>
         // However the stream was cut: what was fed is all pieces together.
-        ensures ok { OnOk result ((bytes : List ℕ) → IsDemuxFed self.old bytes → IsDemuxFed self.new (bytes ++ piece.now)) }
+        ensures ok { OnOk result ((bytes : List ℕ) →
+            IsDemuxFed self.old bytes → IsDemuxFed self.new (bytes ++ piece.now)) }
         ensures well { OnOk result ((self.old.fault ≡ None) × (self.new.fault ≡ None)) }
 
         // A fault comes exactly where the stream so far has it, and nothing but that changes.

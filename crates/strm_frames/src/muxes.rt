@@ -52,10 +52,15 @@ impl Mux {
 
     /// Puts bytes on a lane, in data frames of 255 bytes and one for the rest; none for no bytes.
     pub fn put(&mut self, lane: u8, bytes: &[u8]) -> Result<(), MuxError>
-        ensures ok { OnOk result (self.new ≡ record self.old { bytes = self.old.bytes ++ encoding (pieces_of lane bytes.now) }) }
-        ensures carries { (given : List Frame) → MuxCarries self.old given → OnOk result (MuxCarries self.new (given ++ Data lane bytes.now ∷ [])) }
-        ensures ended { (result ≡ Err (MuxError.Ended lane)) ↔ (slice_index_or self.old.ended lane false ≡ true) }
-        ensures known { IsErr result → (result ≡ Err (MuxError.Ended lane)) ⊎ (result ≡ Err MuxError.OutOfMemory) }
+        ensures ok { OnOk result (self.new ≡ record self.old {
+          bytes = self.old.bytes ++ encoding (pieces_of lane bytes.now);
+        }) }
+        ensures carries { (given : List Frame) → MuxCarries self.old given →
+            OnOk result (MuxCarries self.new (given ++ Data lane bytes.now ∷ [])) }
+        ensures ended { (result ≡ Err (MuxError.Ended lane))
+            ↔ (slice_index_or self.old.ended lane false ≡ true) }
+        ensures known { IsErr result →
+            (result ≡ Err (MuxError.Ended lane)) ⊎ (result ≡ Err MuxError.OutOfMemory) }
         ensures takes_no_memory { bytes.now ≡ [] → result ≢ Err MuxError.OutOfMemory }
         ensures err { OnErr result (self.new ≡ self.old) }
     {
@@ -72,10 +77,16 @@ impl Mux {
 
     /// Ends a lane.
     pub fn end(&mut self, lane: u8) -> Result<(), MuxError>
-        ensures ok { OnOk result (self.new ≡ record { bytes = self.old.bytes ++ spelled (End lane); ended = slice_set self.old.ended lane true }) }
-        ensures carries { (given : List Frame) → MuxCarries self.old given → OnOk result (MuxCarries self.new (given ++ End lane ∷ [])) }
-        ensures ended { (result ≡ Err (MuxError.Ended lane)) ↔ (slice_index_or self.old.ended lane false ≡ true) }
-        ensures known { IsErr result → (result ≡ Err (MuxError.Ended lane)) ⊎ (result ≡ Err MuxError.OutOfMemory) }
+        ensures ok { OnOk result (self.new ≡ record {
+          bytes = self.old.bytes ++ spelled (End lane);
+          ended = slice_set self.old.ended lane true;
+        }) }
+        ensures carries { (given : List Frame) → MuxCarries self.old given →
+            OnOk result (MuxCarries self.new (given ++ End lane ∷ [])) }
+        ensures ended { (result ≡ Err (MuxError.Ended lane))
+            ↔ (slice_index_or self.old.ended lane false ≡ true) }
+        ensures known { IsErr result →
+            (result ≡ Err (MuxError.Ended lane)) ⊎ (result ≡ Err MuxError.OutOfMemory) }
         ensures err { OnErr result (self.new ≡ self.old) }
     {
         if self.ended[lane as usize] {
@@ -121,7 +132,8 @@ fn push_frame(out: &mut Vec<u8>, lane: u8, bytes: &[u8]) -> bool
 
 // The data frames of bytes at the end; where memory has run out, a part of them.
 fn push_frames(out: &mut Vec<u8>, lane: u8, bytes: &[u8]) -> bool
-    ensures ok { IsTrue result → out.new.items ≡ out.old.items ++ encoding (pieces_of lane bytes.now) }
+    ensures ok { IsTrue result →
+        out.new.items ≡ out.old.items ++ encoding (pieces_of lane bytes.now) }
     ensures none { bytes.now ≡ [] → IsTrue result }
     ensures err { result ≡ false → (more : List ℕ) × (out.new.items ≡ out.old.items ++ more) }
 {

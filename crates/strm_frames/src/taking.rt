@@ -112,10 +112,12 @@ pub(crate) fn survey_both(
     ended: &mut [bool; 256],
 ) -> Result<usize, Fault>
     requires { StopsAtFrame first.now }
-    ensures ok { IfOk result (λ used. Surveys (first.now ++ second.now) ended.old ended.new (length first.now + used)) }
+    ensures ok { IfOk result (λ used.
+        Surveys (first.now ++ second.now) ended.old ended.new (length first.now + used)) }
     ensures within { IfOk result (λ used. used ≤ length second.now) }
     ensures whole { OnOk result (AreSpelled first.now) }
-    ensures fault { IfErr result (λ fault. SurveysFault (first.now ++ second.now) ended.old place fault) }
+    ensures fault { IfErr result (λ fault.
+        SurveysFault (first.now ++ second.now) ended.old place fault) }
 {
     let _all = survey(first, place, ended)?;
     survey(second, place.saturating_add(first.len() as u64), ended)
@@ -130,7 +132,8 @@ fn keep(kept: &mut Vec<u8>, bytes: &[u8]) -> bool
 
 // Bytes at the end of a lane; where memory has run out, none.
 fn keep_in(lanes: &mut [Vec<u8>; 256], lane: u8, bytes: &[u8]) -> bool
-    ensures kept { IsTrue result → map (λ v. v.items) lanes.new ≡ slice_set (map (λ v. v.items) lanes.old) lane
+    ensures kept { IsTrue result →
+        map (λ v. v.items) lanes.new ≡ slice_set (map (λ v. v.items) lanes.old) lane
         (slice_index_or (map (λ v. v.items) lanes.old) lane [] ++ bytes.now) }
     ensures unkept { result ≡ false → map (λ v. v.items) lanes.new ≡ map (λ v. v.items) lanes.old }
 {
@@ -140,8 +143,10 @@ fn keep_in(lanes: &mut [Vec<u8>; 256], lane: u8, bytes: &[u8]) -> bool
 // Puts the bytes of each data frame into its lane. Where memory is wanting it answers how many bytes the
 // frames before have.
 pub(crate) fn append(lanes: &mut [Vec<u8>; 256], bytes: &[u8]) -> Result<(), usize>
-    ensures ok { OnOk result (Appends bytes.now (map (λ v. v.items) lanes.old) (map (λ v. v.items) lanes.new)) }
-    ensures err { IfErr result (λ done. AppendsSome bytes.now (map (λ v. v.items) lanes.old) (map (λ v. v.items) lanes.new) done) }
+    ensures ok { OnOk result (Appends bytes.now
+        (map (λ v. v.items) lanes.old) (map (λ v. v.items) lanes.new)) }
+    ensures err { IfErr result (λ done. AppendsSome bytes.now
+        (map (λ v. v.items) lanes.old) (map (λ v. v.items) lanes.new) done) }
 {
     let mut rest = bytes;
     'frames: loop {
@@ -201,7 +206,8 @@ fn cut_end(kept: &mut Vec<u8>, count: usize)
 // Cuts bytes off the end of a lane.
 fn cut_in(lanes: &mut [Vec<u8>; 256], lane: u8, count: usize)
     ensures { let kept = slice_index_or (map (λ v. v.items) lanes.old) lane [] in
-        map (λ v. v.items) lanes.new ≡ slice_set (map (λ v. v.items) lanes.old) lane (take (length kept - count) kept) }
+        map (λ v. v.items) lanes.new
+        ≡ slice_set (map (λ v. v.items) lanes.old) lane (take (length kept - count) kept) }
 {
     cut_end(&mut lanes[lane as usize], count);
 }
@@ -220,7 +226,8 @@ pub(crate) fn retract(lanes: &mut [Vec<u8>; 256], bytes: &[u8])
 // Puts the frames of two pieces into lanes; where memory has run out, none.
 fn append_both(lanes: &mut [Vec<u8>; 256], first: &[u8], second: &[u8]) -> bool
     requires { AreSpelled first.now }
-    ensures ok { IsTrue result → Appends (first.now ++ second.now) (map (λ v. v.items) lanes.old) (map (λ v. v.items) lanes.new) }
+    ensures ok { IsTrue result → Appends (first.now ++ second.now)
+        (map (λ v. v.items) lanes.old) (map (λ v. v.items) lanes.new) }
     ensures err { result ≡ false → map (λ v. v.items) lanes.new ≡ map (λ v. v.items) lanes.old }
 {
     if let Err(done) = append(lanes, first) {
@@ -255,9 +262,13 @@ pub(crate) fn put_both(
 ) -> bool
     requires whole { AreSpelled rest.old.items }
     requires within { used ≤ length piece.now }
-    ensures ok { IsTrue result → Appends (take (length rest.old.items + used) (rest.old.items ++ piece.now)) (map (λ v. v.items) lanes.old) (map (λ v. v.items) lanes.new) }
-    ensures left { IsTrue result → rest.new.items ≡ drop (length rest.old.items + used) (rest.old.items ++ piece.now) }
-    ensures err { result ≡ false → (map (λ v. v.items) lanes.new ≡ map (λ v. v.items) lanes.old) × (rest.new.items ≡ rest.old.items) }
+    ensures ok { IsTrue result →
+        Appends (take (length rest.old.items + used) (rest.old.items ++ piece.now))
+        (map (λ v. v.items) lanes.old) (map (λ v. v.items) lanes.new) }
+    ensures left { IsTrue result →
+        rest.new.items ≡ drop (length rest.old.items + used) (rest.old.items ++ piece.now) }
+    ensures err { result ≡ false → (map (λ v. v.items) lanes.new ≡ map (λ v. v.items) lanes.old)
+        × (rest.new.items ≡ rest.old.items) }
 {
     let first = rest.len();
     let (taken, left) = piece.split_at(used);

@@ -34,8 +34,8 @@ IsOr expected status = (status ≡ expected) ⊎ (status ≡ 9)
 -- a status but 5 and 9, and its text, of a program that reads its source to its end: what it owes to that alone,
 -- from the bytes that the source had left before and has left after, where these are told, and its faults before
 -- and after. A program says which statuses it has for what it read, and which input is too long
-pub record IsOfSource (IsRead : ℕ → Type 0) (IsTooLong : List ℕ → Type 0) (left rest : Option (List ℕ))
-    (before after status : ℕ) (text : List ℕ) : Type 0 where
+pub record IsOfSource (IsRead : ℕ → Type 0) (IsTooLong : List ℕ → Type 0)
+    (left rest : Option (List ℕ)) (before after status : ℕ) (text : List ℕ) : Type 0 where
   pub known : IsRead status ⊎ ((status ≡ 3) ⊎ (status ≡ 4))
   pub too_long : status ≡ 3 → IfSome left IsTooLong × (text ≡ too_long_text)
   pub read_fault : status ≡ 4 → Rose before after × (text ≡ read_fault_text)
@@ -59,7 +59,8 @@ WritesWhole IsText old new status = (text : List ℕ) × IsText status text × A
 
 -- some bytes from the front of a text were written, and not all
 abbrev pub WritesPart : (ℕ → List ℕ → Type 0) → Option (List ℕ) → Option (List ℕ) → Type 0
-WritesPart IsText old new = (status : ℕ) × (text : List ℕ) × IsText status text × TakesPart old new text
+WritesPart IsText old new =
+    (status : ℕ) × (text : List ℕ) × IsText status text × TakesPart old new text
 
 -- with a status but 5 and 9 goes a text that a sink took; with 5 the sink failed, and took a part of one
 pub record Writes (IsText : ℕ → List ℕ → Type 0) (old new : Port) (status : ℕ) : Type 0 where

@@ -2,7 +2,7 @@
 //!
 //! Source: ours.
 
-ghost use Rattle.std.specs.Prelude.{◌≡◌, ◌++◌, ◌+◌, ◌<◌, ◌≤◌, ◌↔◌, [], length, take, drop, min, IsTrue, IsErr, IfOk, OnErr, Contains, Err, vec_len};
+ghost use Rattle.std.specs.Prelude.{◌≡◌, ◌++◌, ◌+◌, ◌<◌, ◌≤◌, ◌↔◌, [], length, take, min, IsTrue, IsErr, IfOk, OnErr, Contains, Err, vec_len};
 ghost use Rattle.std.specs.Io.{ReadsAtMost, WritesAtMost};
 ghost use Rattle.std.specs.Io.KnownBytes.{ReadConsumes, WriteAppends};
 ghost use Rattle.strm_codes.specs.Counters.{Rose, one_more};
@@ -72,7 +72,7 @@ impl BytesSource {
 
 impl Source for BytesSource {
     ghost use Rattle.std.specs.Prelude.{Some};
-    ghost use Rattle.strm_input_output.specs.InMemory.{source_given, source_failed};
+    ghost use Rattle.strm_input_output.specs.InMemory.{ReadsListed};
 
     ghost left = { λ s. Some s.left };
 
@@ -86,12 +86,8 @@ impl Source for BytesSource {
         ensures later { self.old.faults ≤ self.new.faults }
         ensures failed { OnErr result (Rose self.old.faults self.new.faults) }
 
-        ensures listed { IsErr result ↔ Contains self.old.failing (one_more self.old.calls) }
-        ensures count { IfOk result (λ n.
-            n ≡ min (min self.old.piece (length out.old)) (length self.old.left)) }
-        ensures out { IfOk result (λ n. out.new ≡ take n self.old.left ++ drop n out.old) }
-        ensures ok { IfOk result (λ n. self.new ≡ source_given self.old n) }
-        ensures err { OnErr result (self.new ≡ source_failed self.old) }
+        // All that it does.
+        ensures listed { ReadsListed self.old self.new out.old out.new result }
     {
         self.calls = self.calls.saturating_add(1);
         if is_listed(&self.failing, self.calls) {
