@@ -5,6 +5,7 @@ pub mod Lending
 pub mod Lists
 pub mod Turnings
 pub mod Consuming
+pub mod Faults
 pub mod ErasingReaders
 pub mod FutureConsuming
 pub mod SourceLending

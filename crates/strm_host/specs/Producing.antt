@@ -1,11 +1,28 @@
 -- What a poll of a producer leaves, and what the producer may tell of it before.
 -- wasmtime, `StreamProducer`; what is told is ours.
-use Rattle.std.specs.Prelude.{ℕ, Bool, List, ◌++◌, map, length, drop, Option}
+use Rattle.std.specs.Prelude.{◌≡◌, ℕ, Bool, true, List, [], ◌++◌, map, length, drop, Option}
 use Rattle.strm_buffers.specs.declared.answers.Answer.{Answer}
 use Rattle.strm_codes.specs.Layout.{scalars_of}
-use Rattle.strm_memory.specs.Items.{byte_items}
-use Rattle.strm_buffers.specs.Listing.{Item}
+use Rattle.strm_codes.specs.declared.payloads.Payload.{Payload}
+use Rattle.strm_memory.specs.Items.{AreItems, byte_items}
+use Rattle.strm_buffers.specs.Listing.{Item, TypedItems}
+use Rattle.strm_buffers.specs.Said.{in_room, past_room}
 use Rattle.strm_buffers.specs.Windows.{Lent, stored_in}
+
+-- a window for items of this payload as a poll begins: it is prepared, and nothing is marked in it
+pub record IsFreshWindow (item : Payload) (window : Lent) : Type 0 where
+  pub payload : window.payload ≡ item
+  pub prepared : window.prepared ≡ true
+  pub nothing_marked : window.marked ≡ []
+
+-- what was produced in all, of this payload: those that there was room for are marked, and the others
+-- are held
+pub record IsFetched (item : Payload) (room : Option ℕ) (marked : List Item) (items held : TypedItems) : Type 0 where
+  pub of : items.payload ≡ item
+  pub fit : AreItems (scalars_of item) items.items
+  pub marked_is : marked ≡ in_room room items.items
+  pub held_is : held.items ≡ past_room room items.items
+  pub typed : held.payload ≡ item
 
 -- one poll: all items that it produces, and its answer
 pub record ProducerPoll : Type 0 where

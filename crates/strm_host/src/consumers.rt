@@ -3,7 +3,7 @@
 //! Source: wasmtime, `futures_and_streams.rs`, `StreamConsumer`. `faults`, `took`, `plan` and `leaves`
 //! are ours.
 
-ghost use Rattle.std.specs.Prelude.{◌≡◌, ◌≤◌, false, IfSome};
+ghost use Rattle.std.specs.Prelude.{◌≡◌, IfSome};
 
 use crate::sources::Source;
 use strm_buffers::answers::HostTurn;
@@ -13,8 +13,9 @@ use strm_memory::payloaded::Payloaded;
 pub trait StreamConsumer: Drop {
     ghost use Rattle.std.specs.Prelude.{ℕ, Bool, None, ⊤};
     ghost use Rattle.strm_buffers.specs.Said.{IfAnswered, IfNoMemory};
-    ghost use Rattle.strm_buffers.specs.Tells.{SameOffer, RisesOnFailed};
-    ghost use Rattle.strm_host.specs.Consuming.{ItemOffer, ConsumerPlan, Took, offering_of, took_more};
+    ghost use Rattle.strm_buffers.specs.Tells.{SameOffer};
+    ghost use Rattle.strm_host.specs.Faults.{CountsFaults};
+    ghost use Rattle.strm_host.specs.Consuming.{IsFreshOffer, ItemOffer, ConsumerPlan, Took, offering_of, took_more};
 
     /// One item.
     type Item: Payloaded;
@@ -80,14 +81,10 @@ pub trait StreamConsumer: Drop {
     ///
     /// `Failed` traps it by `HostFailed`, and `NoMemory` by running out of memory.
     fn poll_consume(&mut self, source: Source<'_, Self::Item>, finish: bool) -> HostTurn
-        requires payload { source.offer.now.payload ≡ Self.Item.payload }
-        requires nothing_taken { source.offer.now.taken ≡ 0 }
-        requires not_bad { source.offer.now.bad ≡ false }
+        requires fresh { IsFreshOffer Self.Item.payload source.offer.now }
         ensures same { SameOffer source.entry.offer.now source.exit.0.now }
         ensures untaken { IfNoMemory result (source.exit.0.now.taken ≡ 0) }
-        ensures failed { IfAnswered result
-            (λ answer. RisesOnFailed answer (faults self.old) (faults self.new)) }
-        ensures faults { faults self.old ≤ faults self.new }
+        ensures faults { CountsFaults result (faults self.old) (faults self.new) }
         ensures took { IfAnswered result (λ _. took self.new ≡ took_more (took self.old)
             source.exit.0.now.taken (offering_of source.entry.offer.now)) }
         ensures kept { IfNoMemory result (took self.new ≡ took self.old) }

@@ -3,11 +3,11 @@
 //! Source: wasmtime, `futures_and_streams.rs`, `FutureConsumer`. `faults`, `took`, `plan` and `leaves`
 //! are ours.
 
-ghost use Rattle.std.specs.Prelude.{◌≡◌, ◌==◌, ◌≤◌, false, IfSome};
+ghost use Rattle.std.specs.Prelude.{◌≡◌, ◌==◌, ◌≤◌, IfSome};
 ghost use Rattle.strm_codes.specs.Counters.{Rose};
 ghost use Rattle.strm_buffers.specs.Tells.{SameOffer};
 ghost use Rattle.strm_host.specs.Futures.{IfFailed, IfPolled};
-ghost use Rattle.strm_host.specs.Consuming.{offering_of, took_more};
+ghost use Rattle.strm_host.specs.Consuming.{IsFreshOffer, offering_of, took_more};
 ghost use Rattle.strm_host.specs.FutureConsuming.{KeepsTaking, IfTurnOutOfMemory, stream_turn};
 
 use crate::consumers::StreamConsumer;
@@ -59,9 +59,7 @@ pub trait FutureConsumer: Drop {
     /// `Ready(())` without the value, where `finish` is not set, traps the store that polled by
     /// `HostBroke`, for good. `Failed` traps it by `HostFailed`, and `NoMemory` by running out of memory.
     fn poll_consume(&mut self, source: Source<'_, Self::Item>, finish: bool) -> Turn<()>
-        requires payload { source.offer.now.payload ≡ Self.Item.payload }
-        requires nothing_taken { source.offer.now.taken ≡ 0 }
-        requires not_bad { source.offer.now.bad ≡ false }
+        requires fresh { IsFreshOffer Self.Item.payload source.offer.now }
         ensures same { SameOffer source.entry.offer.now source.exit.0.now }
         ensures untaken { IfTurnOutOfMemory result (source.exit.0.now.taken ≡ 0) }
         ensures later { faults self.old ≤ faults self.new }
@@ -94,7 +92,7 @@ impl<F: FutureConsumer> StreamConsumer for Consumer<F> {
     ghost use Rattle.std.specs.Prelude.{◌-◌};
     ghost use Rattle.strm_buffers.specs.Offers.{items_lent};
     ghost use Rattle.strm_buffers.specs.Said.{IfAnswered, IfNoMemory};
-    ghost use Rattle.strm_buffers.specs.Tells.{RisesOnFailed};
+    ghost use Rattle.strm_host.specs.Faults.{CountsFaults};
     ghost use Rattle.strm_host.specs.Consuming.{ConsumerPlan};
     ghost use Rattle.strm_host.specs.FutureConsuming.{consumer_plan, IsSettled};
 
@@ -109,14 +107,10 @@ impl<F: FutureConsumer> StreamConsumer for Consumer<F> {
     ghost leaves = { λ old offering finish new. F.leaves old.future offering finish new.future };
 
     fn poll_consume(&mut self, source: Source<'_, F::Item>, finish: bool) -> HostTurn
-        requires payload { source.offer.now.payload ≡ F.Item.payload }
-        requires nothing_taken { source.offer.now.taken ≡ 0 }
-        requires not_bad { source.offer.now.bad ≡ false }
+        requires fresh { IsFreshOffer F.Item.payload source.offer.now }
         ensures same { SameOffer source.entry.offer.now source.exit.0.now }
         ensures untaken { IfNoMemory result (source.exit.0.now.taken ≡ 0) }
-        ensures failed { IfAnswered result
-            (λ answer. RisesOnFailed answer (F.faults self.old.future) (F.faults self.new.future)) }
-        ensures faults { F.faults self.old.future ≤ F.faults self.new.future }
+        ensures faults { CountsFaults result (F.faults self.old.future) (F.faults self.new.future) }
         ensures took { IfAnswered result (λ _. F.took self.new.future ≡ took_more
             (F.took self.old.future) source.exit.0.now.taken (offering_of source.entry.offer.now)) }
         ensures kept { IfNoMemory result (F.took self.new.future ≡ F.took self.old.future) }

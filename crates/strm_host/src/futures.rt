@@ -73,7 +73,7 @@ impl<F> Producer<F> {
 impl<F: FutureProducer> StreamProducer for Producer<F> {
     ghost use Rattle.strm_buffers.specs.Buffers.{option_items};
     ghost use Rattle.strm_buffers.specs.Said.{IfAnswered};
-    ghost use Rattle.strm_buffers.specs.Tells.{RisesOnFailed};
+    ghost use Rattle.strm_host.specs.Faults.{CountsFaults};
     ghost use Rattle.strm_host.specs.Producing.{polled};
     ghost use Rattle.strm_host.specs.Futures.{stream_plan, future_poll, IsValued};
 
@@ -95,9 +95,7 @@ impl<F: FutureProducer> StreamProducer for Producer<F> {
         requires nothing_buffered { option_items destination.produced.now.buffer ≡ [] }
         ensures window { destination.exit.0.now.window ≡ destination.entry.produced.now.window }
         ensures valued { IsValued result destination.exit.0.now.buffer }
-        ensures failed { IfAnswered result
-            (λ answer. RisesOnFailed answer (F.faults self.old.future) (F.faults self.new.future)) }
-        ensures faults { F.faults self.old.future ≤ F.faults self.new.future }
+        ensures faults { CountsFaults result (F.faults self.old.future) (F.faults self.new.future) }
         ensures plan { IfSome (F.plan self.old.future) (λ next. IfAnswered result
             (λ answer. future_poll F.Item.item (next finish)
             ≡ polled F.Item.item [] (option_items destination.exit.0.now.buffer) answer)) }

@@ -19,6 +19,7 @@ pub mod producers;
 mod producing;
 pub mod read_ends;
 pub mod reader_errors;
+pub mod readers;
 pub mod sources;
 pub mod stream_readers;
 pub mod turning;

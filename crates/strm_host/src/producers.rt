@@ -2,7 +2,7 @@
 //!
 //! Source: wasmtime, `futures_and_streams.rs`, `StreamProducer`. `faults`, `plan` and `leaves` are ours.
 
-ghost use Rattle.std.specs.Prelude.{◌≡◌, ◌+◌, ◌<◌, ◌≤◌, [], true, length, map, IfSome, IfOk};
+ghost use Rattle.std.specs.Prelude.{◌≡◌, ◌+◌, ◌<◌, [], length, map, IfSome, IfOk};
 
 use crate::destinations::Destination;
 use std::alloc::Global;
@@ -17,8 +17,9 @@ pub trait StreamProducer: Drop {
     ghost use Rattle.std.specs.Prelude.{ℕ, Bool, Option, None, ⊤};
     ghost use Rattle.strm_buffers.specs.Said.{IfAnswered};
     ghost use Rattle.strm_buffers.specs.Windows.{room_of};
-    ghost use Rattle.strm_buffers.specs.Tells.{Fills, RisesOnFailed};
-    ghost use Rattle.strm_host.specs.Producing.{Plan, polled};
+    ghost use Rattle.strm_buffers.specs.Tells.{Fills};
+    ghost use Rattle.strm_host.specs.Faults.{CountsFaults};
+    ghost use Rattle.strm_host.specs.Producing.{IsFreshWindow, Plan, polled};
 
     /// One item.
     type Item: Payloaded;
@@ -82,16 +83,12 @@ pub trait StreamProducer: Drop {
         destination: Destination<'_, Self::Item, Self::Buffer>,
         finish: bool,
     ) -> HostTurn
-        requires payload { destination.produced.now.window.payload ≡ Self.Item.payload }
-        requires prepared { destination.produced.now.window.prepared ≡ true }
-        requires nothing_marked { destination.produced.now.window.marked ≡ [] }
+        requires fresh { IsFreshWindow Self.Item.payload destination.produced.now.window }
         requires nothing_buffered { Self.Buffer.items destination.produced.now.buffer ≡ [] }
         ensures fills { Fills destination.entry.produced.now.window destination.exit.0.now.window }
         ensures few { length destination.exit.0.now.window.marked
             + length (Self.Buffer.items destination.exit.0.now.buffer) < 4294967295 }
-        ensures failed { IfAnswered result
-            (λ answer. RisesOnFailed answer (faults self.old) (faults self.new)) }
-        ensures faults { faults self.old ≤ faults self.new }
+        ensures faults { CountsFaults result (faults self.old) (faults self.new) }
         ensures plan { IfSome (plan self.old) (λ next. IfAnswered result (λ answer.
             next (room_of destination.entry.produced.now.window.place) finish
             ≡ polled Self.Item.item destination.exit.0.now.window.marked

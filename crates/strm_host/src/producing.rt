@@ -2,12 +2,10 @@
 //!
 //! Source: ours.
 
-ghost use Rattle.std.specs.Prelude.{◌≡◌, ◌+◌, ◌<◌, ◌≤◌, ◌++◌, [], true, length, take, drop, map, IfOk, IfSome};
-ghost use Rattle.strm_codes.specs.Layout.{scalars_of};
-ghost use Rattle.strm_memory.specs.Items.{AreItems};
+ghost use Rattle.std.specs.Prelude.{◌≡◌, ◌+◌, ◌<◌, ◌≤◌, ◌++◌, length, take, drop, map, IfOk, IfSome};
 ghost use Rattle.strm_buffers.specs.Windows.{room_of};
-ghost use Rattle.strm_buffers.specs.Said.{in_room, past_room};
 ghost use Rattle.strm_buffers.specs.Tells.{Fills, RisesOnFailed};
+ghost use Rattle.strm_host.specs.Producing.{IsFreshWindow, IsFetched};
 
 use crate::destinations::{Destination, Produced};
 use crate::producers::StreamProducer;
@@ -37,16 +35,9 @@ pub(crate) fn fetch<P: StreamProducer>(
     window: &mut Window,
     finish: bool,
 ) -> Result<Fetched, OutOfMemory>
-    requires payload { window.old.payload ≡ P.Item.payload }
-    requires prepared { window.old.prepared ≡ true }
-    requires nothing_marked { window.old.marked ≡ [] }
-    ensures marked { IfOk result
-        (λ f. window.new.marked ≡ in_room (room_of window.old.place) f.items.items) }
-    ensures held { IfOk result
-        (λ f. f.held.items ≡ past_room (room_of window.old.place) f.items.items) }
-    ensures typed { IfOk result (λ f. f.held.payload ≡ P.Item.payload) }
-    ensures of { IfOk result (λ f. f.items.payload ≡ P.Item.payload) }
-    ensures fit { IfOk result (λ f. AreItems (scalars_of P.Item.payload) f.items.items) }
+    requires fresh { IsFreshWindow P.Item.payload window.old }
+    ensures fetched { IfOk result (λ f. IsFetched P.Item.payload (room_of window.old.place)
+        window.new.marked f.items f.held) }
     ensures failed { IfOk result
         (λ f. RisesOnFailed f.answer (P.faults producer.old) (P.faults producer.new)) }
     ensures faults { P.faults producer.old ≤ P.faults producer.new }
@@ -94,9 +85,7 @@ fn produce<P: StreamProducer>(
     window: &mut Window,
     finish: bool,
 ) -> Result<(Answer, Items), OutOfMemory>
-    requires payload { window.old.payload ≡ P.Item.payload }
-    requires prepared { window.old.prepared ≡ true }
-    requires nothing_marked { window.old.marked ≡ [] }
+    requires fresh { IsFreshWindow P.Item.payload window.old }
     ensures payload { IfOk result (λ done. done.1.payload ≡ P.Item.payload) }
     ensures begun { IfOk result
         (λ done. window.new.marked ≡ take (length window.new.marked) done.1.items) }

@@ -1,139 +1,55 @@
-//! The loose read end of a stream as a value of its item's type that is used once; the same under a guard,
-//! and without the type.
+//! The loose read end of a stream, as a reader: its names, and the call that streams alone have.
 //!
-//! Source: wasmtime, `futures_and_streams.rs`, `StreamReader`, `GuardedStreamReader` and `StreamAny`. Ours: the
-//! store's tag is kept, and a reader that was used or is of another store is an error, and no panic.
+//! Source: wasmtime, `futures_and_streams.rs`, `StreamReader`, `GuardedStreamReader` and `StreamAny`.
 
-ghost use Rattle.std.specs.Prelude.{◌≡◌, ◌≢◌, Err, OnOk, OnErr, IfErr};
-ghost use Rattle.strm_codes.specs.declared.codes.TransmitIndex.TheVariants.{Stream};
-ghost use Rattle.strm_host_machine.specs.Does.{Fits};
+ghost use Rattle.std.specs.Prelude.{◌≡◌};
 ghost use Rattle.strm_transmit.specs.Hosted.{StillFits, StillKnows};
-ghost use Rattle.strm_host.specs.ReadEnds.{used_read_end, reader_no_memory, tested, any_tested, converted, refused_only, Makes, Lifts, LowersReadEnd, PipesTo, Closes, Releases, left_by};
+ghost use Rattle.strm_host.specs.ReadEnds.{tested, any_tested, converted, Releases, left_by};
 
-use crate::read_ends::ReadEnd;
 use crate::reader_errors::ReaderError;
-use std::fmt;
-use std::marker::{Model, PhantomData};
+use crate::readers::{AnyReader, GuardedReader, Reader, ReaderKind};
 use strm_codes::codes::TransmitIndex;
 use strm_codes::payloads::Payload;
 use strm_memory::payloaded::Payloaded;
-use strm_transmit::host_ends::HostEnds;
 use strm_transmit::store::Store;
 
-/// The loose read end of a stream of `T`s. A contract sees it as its store's tag and its stream's number.
-pub struct StreamReader<T: Payloaded> {
-    end: ReadEnd,
-    items: PhantomData<T>,
-}
+/// What is of streams.
+#[derive(Clone, Copy, PartialEq)]
+pub struct Streams;
 
-impl<T: Payloaded> Model for StreamReader<T> {
-    ghost use Rattle.strm_host.specs.declared.read_ends.ReadEnd.{ReadEnd};
+impl ReaderKind for Streams {
+    ghost use Rattle.std.specs.Prelude.{codes};
+    ghost use Rattle.strm_codes.specs.declared.codes.TransmitIndex.TheVariants.{Stream};
 
-    ghost Value = { ReadEnd };
+    ghost ty = { Stream };
 
-    ghost view = { λ reader. reader.end };
+    ghost reader_name = { codes "StreamReader" };
 
-    ghost inverse = { λ end. record { end = end; items = record {} } };
-}
+    ghost any_name = { codes "StreamAny" };
 
-impl<T: Payloaded> Drop for StreamReader<T> {
-    fn drop(self) {
-        let StreamReader { end: _, items: _ } = self;
+    fn index(payload: Payload) -> TransmitIndex {
+        TransmitIndex::Stream(payload)
+    }
+
+    fn name() -> &'static str {
+        "StreamReader"
+    }
+
+    fn name_of_any() -> &'static str {
+        "StreamAny"
     }
 }
 
-impl<T: Payloaded> StreamReader<T> {
-    // The reader of this end.
-    fn of(end: ReadEnd) -> StreamReader<T>
-        ensures { result ≡ end }
-    {
-        StreamReader {
-            end,
-            items: PhantomData,
-        }
-    }
+/// The loose read end of a stream of `T`s.
+pub type StreamReader<T> = Reader<Streams, T>;
 
-    // The type of its stream.
-    fn ty() -> TransmitIndex
-        ensures { result ≡ Stream T.payload }
-    {
-        TransmitIndex::Stream(T::payload())
-    }
+/// The same, closed or given back, and never forgotten.
+pub type GuardedStreamReader<T> = GuardedReader<Streams, T>;
 
-    /// A stream that a host writer writes (`Store::host_new`). Refused, in this order, are a number of no
-    /// host writer, one of the other kind, one of another type, one that was used, and a stream past the
-    /// limit on places.
-    pub fn new<H: HostEnds>(
-        store: &mut Store,
-        hosts: &H,
-        writer: u32,
-    ) -> Result<StreamReader<T>, ReaderError>
-        requires fits { Fits store.old (H.tells hosts.now) }
-        ensures calls { Makes store.old store.new (H.tells hosts.now) writer (Stream T.payload)
-            result }
-        ensures fits { Fits store.new (H.tells hosts.now) }
-    {
-        let end = ReadEnd::host(store, hosts, writer, StreamReader::<T>::ty())?;
-        Ok(StreamReader::of(end))
-    }
+/// The loose read end of a stream, of whatever items.
+pub type StreamAny = AnyReader<Streams>;
 
-    /// Takes the read end out of a guest (`Store::lift`).
-    pub fn lift(store: &mut Store, guest: u32, handle: u32) -> Result<StreamReader<T>, ReaderError>
-        ensures calls { Lifts store.old store.new guest (Stream T.payload) handle result }
-        ensures fits { StillFits store.old store.new }
-        ensures takes_no_memory { result ≢ Err reader_no_memory }
-    {
-        let end = ReadEnd::lift(store, guest, StreamReader::<T>::ty(), handle)?;
-        Ok(StreamReader::of(end))
-    }
-
-    /// Gives a guest the read end (`Store::lower`): its handle. The reader is then used; an error leaves
-    /// it.
-    pub fn lower(&mut self, store: &mut Store, guest: u32) -> Result<u32, ReaderError>
-        ensures calls { LowersReadEnd self.old store.old store.new guest (Stream T.payload) result }
-        ensures ok { OnOk result (self.new ≡ used_read_end self.old) }
-        ensures err { OnErr result (self.new ≡ self.old) }
-        ensures fits { StillFits store.old store.new }
-    {
-        self.end.lower(store, guest, StreamReader::<T>::ty())
-    }
-
-    /// Gives the read end to a host reader, by its number (`Store::pipe`). Nothing is polled. The reader is
-    /// then used; an error leaves it.
-    pub fn pipe<H: HostEnds>(
-        &mut self,
-        store: &mut Store,
-        hosts: &mut H,
-        reader: u32,
-    ) -> Result<(), ReaderError>
-        requires fits { Fits store.old (H.tells hosts.old) }
-        ensures calls { PipesTo self.old store.old store.new (H.tells hosts.old) (H.tells hosts.new)
-            reader result }
-        ensures ok { OnOk result (self.new ≡ used_read_end self.old) }
-        ensures err { OnErr result (self.new ≡ self.old) }
-        ensures fits { Fits store.new (H.tells hosts.new) }
-        ensures takes_no_memory { result ≢ Err reader_no_memory }
-    {
-        self.end.pipe(store, hosts, reader)
-    }
-
-    /// Drops the read end (`Store::close`). The reader is then used; an error leaves it.
-    pub fn close<H: HostEnds>(
-        &mut self,
-        store: &mut Store,
-        hosts: &mut H,
-    ) -> Result<(), ReaderError>
-        requires fits { Fits store.old (H.tells hosts.old) }
-        ensures calls { Closes self.old store.old store.new (H.tells hosts.old) (H.tells hosts.new)
-            result }
-        ensures ok { OnOk result (self.new ≡ used_read_end self.old) }
-        ensures err { OnErr result (self.new ≡ self.old) }
-        ensures fits { Fits store.new (H.tells hosts.new) }
-        ensures takes_no_memory { result ≢ Err reader_no_memory }
-    {
-        self.end.close(store, hosts)
-    }
-
+impl<T: Payloaded> Reader<Streams, T> {
     /// Takes the host writer back from its stream, which is removed, and closes nothing
     /// (`Store::try_release`): its number, and the reader is then used. None, and the reader stays, where
     /// no host writer writes the stream, or it has no more to come or holds items.
@@ -146,117 +62,42 @@ impl<T: Payloaded> StreamReader<T> {
         self.end.try_release(store)
     }
 
-    /// Under a guard, which has to be spent.
-    pub fn guard(self) -> GuardedStreamReader<T>
-        ensures { result.reader ≡ self }
-    {
-        GuardedStreamReader { reader: self }
-    }
-
     /// Without its type. It comes back where it was used, or is of another store.
     pub fn try_into_stream_any(
         self,
         store: &Store,
     ) -> Result<StreamAny, (StreamReader<T>, ReaderError)>
         ensures { result ≡ converted (tested self store.now.tag)
-            (record { end = self; payload = T.payload }) self }
+            (record { end = self; payload = T.payload; kind = record {} }) self }
     {
-        match self.end.test(store) {
-            Some(error) => Err((self, error)),
-            None => Ok(StreamAny {
-                end: self.end,
-                payload: T::payload(),
-            }),
-        }
+        self.without_type(store)
     }
 
     /// With its type again. What was given comes back where it was used, or has items of another type.
     pub fn try_from_stream_any(any: StreamAny) -> Result<StreamReader<T>, (StreamAny, ReaderError)>
         ensures { result ≡ converted (any_tested any.end any.payload T.payload) any.end any }
     {
-        match any.end.test_any(any.payload, T::payload()) {
-            Some(error) => Err((any, error)),
-            None => Ok(StreamReader::of(any.end)),
-        }
+        Reader::with_type(any)
     }
 }
 
-impl<T: Payloaded> fmt::Debug for StreamReader<T> {
-    ghost use Rattle.std.specs.Prelude.{Some, codes};
-    ghost use Rattle.strm_host.specs.ReadEnds.{reader_text};
-
-    ghost debug_output = { λ reader. Some (reader_text (codes "StreamReader") reader) };
-
-    fn fmt<W: fmt::Write>(&self, f: &mut fmt::Formatter<W>) -> fmt::Result {
-        let id = self.end.id();
-        write!(f, "StreamReader {{ id: {id:?} }}")
-    }
-}
-
-/// A reader that is closed or given back, and never forgotten.
-pub struct GuardedStreamReader<T: Payloaded> {
-    reader: StreamReader<T>,
-}
-
-impl<T: Payloaded> GuardedStreamReader<T> {
-    /// Guards a reader.
-    pub fn new(reader: StreamReader<T>) -> GuardedStreamReader<T>
-        ensures { result.reader ≡ reader }
-    {
-        GuardedStreamReader { reader }
-    }
-
+impl<T: Payloaded> GuardedReader<Streams, T> {
     /// The reader, without the guard.
     pub fn into_stream(self) -> StreamReader<T>
         ensures { result ≡ self.reader }
     {
-        let GuardedStreamReader { reader } = self;
-        reader
-    }
-
-    /// `StreamReader::close`. The guard comes back with an error.
-    pub fn close<H: HostEnds>(
-        self,
-        store: &mut Store,
-        hosts: &mut H,
-    ) -> Result<(), (GuardedStreamReader<T>, ReaderError)>
-        requires fits { Fits store.old (H.tells hosts.old) }
-        ensures calls { Closes self.reader store.old store.new (H.tells hosts.old)
-            (H.tells hosts.new) (refused_only result) }
-        ensures back { IfErr result (λ back. back.0.reader ≡ self.reader) }
-        ensures fits { Fits store.new (H.tells hosts.new) }
-        ensures takes_no_memory { refused_only result ≢ Err reader_no_memory }
-    {
-        let GuardedStreamReader { mut reader } = self;
-        match reader.close(store, hosts) {
-            Ok(()) => Ok(()),
-            Err(error) => Err((GuardedStreamReader { reader }, error)),
-        }
+        self.into_reader()
     }
 }
 
-/// The loose read end of a stream, of whatever items.
-#[derive(Clone, Copy, PartialEq)]
-pub struct StreamAny {
-    end: ReadEnd,
-    payload: Payload,
-}
-
-impl StreamAny {
-    /// What one item is.
-    pub fn payload(&self) -> Payload
-        ensures { result ≡ self.now.payload }
-    {
-        self.payload
-    }
-
+impl AnyReader<Streams> {
     /// `StreamReader::try_from_stream_any`.
     pub fn try_into_stream_reader<T: Payloaded>(
         self,
     ) -> Result<StreamReader<T>, (StreamAny, ReaderError)>
         ensures { result ≡ converted (any_tested self.end self.payload T.payload) self.end self }
     {
-        StreamReader::try_from_stream_any(self)
+        Reader::with_type(self)
     }
 
     /// `StreamReader::try_into_stream_any`.
@@ -265,37 +106,8 @@ impl StreamAny {
         reader: StreamReader<T>,
     ) -> Result<StreamAny, (StreamReader<T>, ReaderError)>
         ensures { result ≡ converted (tested reader store.now.tag)
-            (record { end = reader; payload = T.payload }) reader }
+            (record { end = reader; payload = T.payload; kind = record {} }) reader }
     {
-        reader.try_into_stream_any(store)
-    }
-
-    /// `StreamReader::close`.
-    pub fn close<H: HostEnds>(
-        &mut self,
-        store: &mut Store,
-        hosts: &mut H,
-    ) -> Result<(), ReaderError>
-        requires fits { Fits store.old (H.tells hosts.old) }
-        ensures calls { Closes self.old.end store.old store.new (H.tells hosts.old)
-            (H.tells hosts.new) result }
-        ensures ok { OnOk result (self.new ≡ record self.old { end = used_read_end self.old.end }) }
-        ensures err { OnErr result (self.new ≡ self.old) }
-        ensures fits { Fits store.new (H.tells hosts.new) }
-        ensures takes_no_memory { result ≢ Err reader_no_memory }
-    {
-        self.end.close(store, hosts)
-    }
-}
-
-impl fmt::Debug for StreamAny {
-    ghost use Rattle.std.specs.Prelude.{Some, codes};
-    ghost use Rattle.strm_host.specs.ReadEnds.{reader_text};
-
-    ghost debug_output = { λ any. Some (reader_text (codes "StreamAny") any.end) };
-
-    fn fmt<W: fmt::Write>(&self, f: &mut fmt::Formatter<W>) -> fmt::Result {
-        let id = self.end.id();
-        write!(f, "StreamAny {{ id: {id:?} }}")
+        reader.without_type(store)
     }
 }

@@ -1,8 +1,9 @@
 //! A producer that writes bytes straight to where they are read, and leaves more in a buffer.
 
-ghost use Rattle.std.specs.Prelude.{◌≡◌, ◌<◌, [], true, length, drop};
+ghost use Rattle.std.specs.Prelude.{◌≡◌, ◌<◌, [], length, drop};
 ghost use Rattle.strm_codes.specs.declared.payloads.Payload.TheVariants.{One};
 ghost use Rattle.strm_codes.specs.declared.scalars.Scalar.TheVariants.{U8};
+ghost use Rattle.strm_host.specs.Producing.{IsFreshWindow};
 ghost use Rattle.strm_host_tests.specs.Greetings.{Greets, NeverFails};
 
 use std::alloc::Global;
@@ -29,9 +30,7 @@ impl StreamProducer for Greeting {
         destination: Destination<'_, u8, VecBuffer<u8>>,
         _finish: bool,
     ) -> HostTurn
-        requires payload { destination.produced.now.window.payload ≡ One U8 }
-        requires prepared { destination.produced.now.window.prepared ≡ true }
-        requires nothing_marked { destination.produced.now.window.marked ≡ [] }
+        requires fresh { IsFreshWindow (One U8) destination.produced.now.window }
         requires nothing_buffered { drop destination.produced.now.buffer.first
             destination.produced.now.buffer.buffer.items ≡ [] }
         ensures greets { Greets destination.entry.produced.now.window

@@ -7,9 +7,8 @@ pub poll_produce-tells : goal.poll_produce-tells
 poll_produce-tells g x x' c =
     record {
       fills = rw c.ensures.nothing (Fills-same c.args.destination.produced.now.window);
-      few = rw (c.ensures.nothing, c.requires.nothing_marked, c.requires.nothing_buffered) (omega arith);
-      failed = rw c.ensures.turn (omega arith);
-      faults = omega arith;
-      plan = rw (c.ensures.turn, c.ensures.nothing, c.requires.nothing_marked, c.requires.nothing_buffered) refl;
+      few = rw (c.ensures.nothing, c.requires.fresh.nothing_marked, c.requires.nothing_buffered) (omega arith);
+      faults = record { failed = rw c.ensures.turn (omega arith); least = omega arith };
+      plan = rw (c.ensures.turn, c.ensures.nothing, c.requires.fresh.nothing_marked, c.requires.nothing_buffered) refl;
       leaves = whatever_answered c.result c.ensures.same;
     }

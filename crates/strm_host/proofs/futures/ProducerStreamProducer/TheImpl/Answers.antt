@@ -8,10 +8,9 @@ poll_produce-tells g x x' c =
     let buffer = c.new.destination.0.now.buffer in
     record {
       fills = rw c.ensures.window (Fills-same c.args.destination.produced.now.window);
-      few = rw (c.ensures.window, c.requires.nothing_marked) (omega (arith, one_at_most buffer));
-      failed = c.ensures.failed;
+      few = rw (c.ensures.window, c.requires.fresh.nothing_marked) (omega (arith, one_at_most buffer));
       faults = c.ensures.faults;
-      plan = rw (c.ensures.window, c.requires.nothing_marked)
+      plan = rw (c.ensures.window, c.requires.fresh.nothing_marked)
           (stream_planned g.F.Item.Payloaded.item c.result buffer (g.F.FutureProducer.plan c.args.self.now.future) _ c.args.finish c.ensures.plan);
       leaves = c.ensures.leaves;
     }

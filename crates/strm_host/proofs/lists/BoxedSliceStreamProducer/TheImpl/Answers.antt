@@ -10,9 +10,8 @@ poll_produce-tells g x x' c =
     let items = boxed_slice_items c.args.self.now in
     record {
       fills = rw c.ensures.window (Fills-same c.args.destination.produced.now.window);
-      few = rw (c.ensures.window, c.requires.nothing_marked, c.ensures.given) (omega (arith, few_given items));
-      failed = rw (c.ensures.turn, c.ensures.kept) (failed_aloud items);
-      faults = rw c.ensures.kept (more_faults items);
-      plan = rw (c.ensures.turn, c.ensures.window, c.requires.nothing_marked, c.ensures.given) (as_planned items g.T.Payloaded.item);
+      few = rw (c.ensures.window, c.requires.fresh.nothing_marked, c.ensures.given) (omega (arith, few_given items));
+      faults = record { failed = rw (c.ensures.turn, c.ensures.kept) (failed_aloud items); least = rw c.ensures.kept (more_faults items) };
+      plan = rw (c.ensures.turn, c.ensures.window, c.requires.fresh.nothing_marked, c.ensures.given) (as_planned items g.T.Payloaded.item);
       leaves = whatever_answered c.result c.ensures.kept;
     }

@@ -8,9 +8,8 @@ pub poll_produce-tells : goal.poll_produce-tells
 poll_produce-tells x x' c =
     record {
       fills = rw c.ensures.window (Fills-same c.args.destination.produced.now.window);
-      few = rw (c.ensures.window, c.requires.nothing_marked, c.ensures.buffer) (omega (arith, few_given c.args.self.now.left));
-      failed = rw c.ensures.turn (never_failed c.args.self.now.left);
-      faults = omega arith;
-      plan = rw (c.ensures.turn, c.ensures.window, c.requires.nothing_marked, c.ensures.buffer) (as_planned c.args.self.now.left);
+      few = rw (c.ensures.window, c.requires.fresh.nothing_marked, c.ensures.buffer) (omega (arith, few_given c.args.self.now.left));
+      faults = record { failed = rw c.ensures.turn (never_failed c.args.self.now.left); least = omega arith };
+      plan = rw (c.ensures.turn, c.ensures.window, c.requires.fresh.nothing_marked, c.ensures.buffer) (as_planned c.args.self.now.left);
       leaves = whatever_answered c.result c.ensures.left;
     }

@@ -9,9 +9,8 @@ poll_produce-tells x x' c =
     let new = c.new.destination.0.now.window in
     record {
       fills = greets_fills old new c.ensures.greets;
-      few = omega (arith, few_greeted old new c.ensures.greets c.requires.nothing_marked, c.ensures.few);
-      failed = never_failed c.result c.ensures.turn;
-      faults = omega arith;
+      few = omega (arith, few_greeted old new c.ensures.greets c.requires.fresh.nothing_marked, c.ensures.few);
+      faults = record { failed = never_failed c.result c.ensures.turn; least = omega arith };
       plan = tt;
       leaves = whatever_answered c.result tt;
     }

@@ -8,10 +8,9 @@ poll_consume-tells x c =
     record {
       same = rw c.ensures.takes (record { payload = refl; source = refl; since = refl });
       untaken = rw c.ensures.turn tt;
-      failed = rw c.ensures.turn (omega arith);
-      faults = omega arith;
+      faults = record { failed = rw c.ensures.turn (omega arith); least = omega arith };
       took = rw c.ensures.turn refl;
       kept = rw c.ensures.turn tt;
-      plan = rw (c.ensures.turn, c.ensures.takes, taken_first old 1 c.requires.nothing_taken) refl;
+      plan = rw (c.ensures.turn, c.ensures.takes, taken_first old 1 c.requires.fresh.nothing_taken) refl;
       leaves = rw c.ensures.turn tt;
     }

@@ -5,12 +5,11 @@ use Rattle.strm_host_tests.proofs.summing.SummingStreamConsumer.TheImpl.Goals as
 
 pub poll_consume-tells : goal.poll_consume-tells
 poll_consume-tells x c =
-    let owes = owes_all c.args.source.offer.now c.new.source.0.now c.result c.requires.nothing_taken c.ensures.takes in
+    let owes = owes_all c.args.source.offer.now c.new.source.0.now c.result c.requires.fresh.nothing_taken c.ensures.takes in
     record {
       same = owes.same;
       untaken = owes.untaken;
-      failed = owes.failed;
-      faults = omega arith;
+      faults = record { failed = owes.failed; least = omega arith };
       took = whatever_answered c.result refl;
       kept = whatever_wanted c.result refl;
       plan = owes.plan;
