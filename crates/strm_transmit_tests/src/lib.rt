@@ -1,8 +1,9 @@
 //! The store by example, in public calls alone: each call once, limits, what stops a store, and host
 //! ends that follow a script. What lines can show stands in `examples/`.
 //!
-//! What is called is compared by the functions of `answers`, since a comparison in a test's own body
-//! takes ten times as long to prove.
+//! A test is made of calls of `Play` alone, which promise nothing: so it is proved at once. What the
+//! store's calls promise is looked at once for each of them, in `play`, and answers are compared in
+//! `answers`, since a comparison in a test's own body takes ten times as long to prove.
 #![tactic(auto)]
 
 #[cfg(test)]

@@ -1,20 +1,15 @@
 //! Ends that move, by calls: transfers, lifts, lowers and closes.
 
-use crate::answers::{BYTE_STREAM, WORDS};
+use crate::answers::{BLOCKED, BYTE_STREAM, WORD_FUTURE};
 use crate::play::Play;
-use strm_codes::codes::TransmitIndex;
 use strm_codes::refusals::Refusal;
-
-const WORD_FUTURE: TransmitIndex = TransmitIndex::Future(WORDS);
-
-const BLOCKED: u32 = 0xffff_ffff;
 
 /// A write that was read in part goes on with what it has left, once the read end was lifted and
 /// lowered; and it learns that the end was closed.
 #[test]
 fn a_write_goes_on_after_a_move(rt: HostRuntime) {
     let mut play = Play::two_guests(&rt, rt.alloc());
-    play.makes(&rt, 0, 1, BYTE_STREAM, (1, 1, 0));
+    play.joins(&rt, 0, 1, BYTE_STREAM, Ok((1, 1, 0)));
     play.pokes(&rt, 0, 0, &[10, 11, 12]);
     play.writes(&rt, (0, 1), 0, 3, BLOCKED);
     play.reads(&rt, (1, 1), 0, 1, 0x10);
@@ -23,7 +18,7 @@ fn a_write_goes_on_after_a_move(rt: HostRuntime) {
     play.reads(&rt, (1, 1), 4, 2, 0x20);
     play.tells(&rt, (0, 1), Some(0x30));
     play.lifts(&rt, (1, 1), BYTE_STREAM, Ok(0));
-    play.closes(&rt, 0);
+    play.closes(&rt, 0, Ok(()));
     play.lowers(&rt, 0, 1, BYTE_STREAM, Err(Refusal::UnknownReader));
     play.tells(&rt, (0, 1), Some(0x01));
     play.drops_writer(&rt, (0, 1));
@@ -35,7 +30,7 @@ fn a_write_goes_on_after_a_move(rt: HostRuntime) {
 #[test]
 fn an_end_that_was_told_stays(rt: HostRuntime) {
     let mut play = Play::two_guests(&rt, rt.alloc());
-    play.makes(&rt, 0, 1, BYTE_STREAM, (1, 1, 0));
+    play.joins(&rt, 0, 1, BYTE_STREAM, Ok((1, 1, 0)));
     play.drops_writer(&rt, (0, 1));
     play.moves(&rt, (1, 1), 0, Ok(1));
     play.reads(&rt, (0, 1), 0, 1, 0x01);
@@ -63,7 +58,7 @@ fn a_future_that_passed_stays(rt: HostRuntime) {
 #[test]
 fn a_second_guest_writes_on(rt: HostRuntime) {
     let mut play = Play::two_guests(&rt, rt.alloc());
-    play.makes(&rt, 0, 1, BYTE_STREAM, (1, 1, 0));
+    play.joins(&rt, 0, 1, BYTE_STREAM, Ok((1, 1, 0)));
     play.pokes(&rt, 0, 0, &[1, 2]);
     play.pokes(&rt, 1, 8, &[3, 4]);
     play.writes(&rt, (0, 1), 0, 2, BLOCKED);
@@ -78,7 +73,7 @@ fn a_second_guest_writes_on(rt: HostRuntime) {
     play.tells(&rt, (1, 2), Some(0x20));
     play.lifts(&rt, (1, 2), BYTE_STREAM, Err(Refusal::WrongEnd));
     play.lifts(&rt, (1, 1), BYTE_STREAM, Ok(0));
-    play.closes(&rt, 0);
+    play.closes(&rt, 0, Ok(()));
     play.moves(&rt, (1, 2), 0, Ok(1));
     play.tells(&rt, (0, 1), Some(0x01));
     play.moves(&rt, (0, 1), 1, Err(Refusal::LiftDropped));
@@ -90,9 +85,9 @@ fn a_future_is_written_by_a_second_guest(rt: HostRuntime) {
     let mut play = Play::two_guests(&rt, rt.alloc());
     play.makes_future(&rt, 0, Ok((1, 2, 0)));
     play.makes_set(&rt, 0, Ok(3));
-    play.joins(&rt, (0, 2), 3);
+    play.joins_set(&rt, (0, 2), 3);
     play.moves_value(&rt, (0, 2), 1, Err(Refusal::LiftInSet));
-    play.joins(&rt, (0, 2), 0);
+    play.joins_set(&rt, (0, 2), 0);
     play.moves_value(&rt, (0, 2), 1, Ok(1));
     play.reads_value(&rt, (0, 1), 0, BLOCKED);
     play.writes_value(&rt, (1, 1), 0, 0x00);

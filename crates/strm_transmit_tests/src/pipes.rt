@@ -1,61 +1,47 @@
 //! Pipes from a host writer to a host reader, both of which follow a script: how often each is polled,
 //! when a pipe ends, and what stops it.
 
-use crate::answers::{
-    BYTE_STREAM, BYTES, drive, has_moved, has_type, is_done, is_error, is_number, must_fit,
-    no_hosts, one_guest, reads,
-};
-use crate::hosts::{Turn as Gives, add_writer_of, host};
-use crate::readers::{Turn as Takes, add_reader, pipe};
+use crate::answers::{BYTE_STREAM, BYTES};
+use crate::hosts::{Turn as Gives, add_writer_of};
+use crate::play::Play;
+use crate::readers::{Turn as Takes, add_reader};
 use std::alloc::Global;
 use std::process::Abort;
 use std::test::Fail;
 use strm_buffers::answers::Answer;
-use strm_buffers::hosts::Hosts;
 use strm_codes::codes::TransmitKind;
 use strm_machine::streams::HostEnd;
 use strm_transmit::errors::StoreError;
-use strm_transmit::store::Store;
 
 // A writer and a reader of these turns.
-fn two_ends(
+fn add_ends(
     alloc: Global,
+    play: &mut Play,
     kind: TransmitKind,
     gives: &[Gives],
     takes: &[Takes],
-) -> Result<Hosts, Fail> {
-    let mut hosts = no_hosts(alloc);
-    add_writer_of(alloc, &mut hosts, kind, gives)?;
-    add_reader(alloc, &mut hosts, kind, BYTES, takes)?;
-    Ok(hosts)
+) -> Result<(), Fail> {
+    add_writer_of(alloc, &mut play.hosts, kind, gives)?;
+    add_reader(alloc, &mut play.hosts, kind, BYTES, takes)
 }
 
-// A store in which the one writes to the other, on stream 0.
-fn piped(rt: &impl Abort, alloc: Global, hosts: &mut Hosts) -> Store {
-    let mut store = one_guest(rt, alloc);
-    is_number(rt, host(rt, &mut store, hosts, 0), 0);
-    is_done(rt, pipe(rt, &mut store, hosts, 0, 0));
-    store
+// The one writes to the other, on stream 0.
+fn pipes(rt: &impl Abort, play: &mut Play) {
+    play.hosts_writer(rt, 0, Ok(0));
+    play.pipes(rt, 0, 0, Ok(()));
 }
 
 // How often the writer and the reader were polled.
-fn were_polled(rt: &impl Abort, hosts: &Hosts, writer: usize, reader: usize) {
-    assert!(rt; hosts.writers.len() > 0 && hosts.readers.len() > 0);
-    assert_eq!(rt; hosts.writers[0].records(), writer);
-    assert_eq!(rt; hosts.readers[0].records(), reader);
+fn were_polled(rt: &impl Abort, play: &Play, polls: (usize, usize)) {
+    play.was_polled(rt, 0, polls.0);
+    play.reader_was_polled(rt, 0, polls.1);
 }
 
 // A round: how often both were polled by then, and how many items were received.
-fn round(
-    rt: &impl Abort,
-    store: &mut Store,
-    hosts: &mut Hosts,
-    polls: (usize, usize),
-    moved: u128,
-) {
-    is_done(rt, drive(rt, store, hosts));
-    were_polled(rt, hosts, polls.0, polls.1);
-    has_moved(rt, store, 0, Some(moved));
+fn round(rt: &impl Abort, play: &mut Play, polls: (usize, usize), moved: u128) {
+    play.drives(rt, Ok(()));
+    were_polled(rt, play, polls);
+    play.has_moved(rt, 0, Some(moved));
 }
 
 /// Each is polled once at most in a round; what is not taken is offered again, and the pipe ends once all
@@ -68,15 +54,16 @@ fn items_wait_for_their_reader(rt: HostRuntime) -> Result<(), Fail> {
         (0, Answer::Pending),
         (9, Answer::Completed),
     ];
-    let mut hosts = two_ends(rt.alloc(), TransmitKind::Stream, &gives, &takes)?;
-    let mut store = piped(&rt, rt.alloc(), &mut hosts);
-    were_polled(&rt, &hosts, 0, 0);
-    round(&rt, &mut store, &mut hosts, (1, 1), 3);
-    round(&rt, &mut store, &mut hosts, (1, 2), 3);
-    has_type(&rt, &store, 0, Some(BYTE_STREAM));
-    round(&rt, &mut store, &mut hosts, (1, 3), 5);
-    has_type(&rt, &store, 0, None);
-    round(&rt, &mut store, &mut hosts, (1, 3), 5);
+    let mut play = Play::one_guest(&rt, rt.alloc());
+    add_ends(rt.alloc(), &mut play, TransmitKind::Stream, &gives, &takes)?;
+    pipes(&rt, &mut play);
+    were_polled(&rt, &play, (0, 0));
+    round(&rt, &mut play, (1, 1), 3);
+    round(&rt, &mut play, (1, 2), 3);
+    play.has_type(&rt, 0, Some(BYTE_STREAM));
+    round(&rt, &mut play, (1, 3), 5);
+    play.has_type(&rt, 0, None);
+    round(&rt, &mut play, (1, 3), 5);
     Ok(())
 }
 
@@ -94,13 +81,14 @@ fn a_writer_is_polled_again(rt: HostRuntime) -> Result<(), Fail> {
         (1, Answer::Completed),
         (1, Answer::Dropped),
     ];
-    let mut hosts = two_ends(rt.alloc(), TransmitKind::Stream, &gives, &takes)?;
-    let mut store = piped(&rt, rt.alloc(), &mut hosts);
-    round(&rt, &mut store, &mut hosts, (1, 0), 0);
-    round(&rt, &mut store, &mut hosts, (2, 1), 1);
-    round(&rt, &mut store, &mut hosts, (2, 2), 2);
-    round(&rt, &mut store, &mut hosts, (3, 3), 3);
-    has_type(&rt, &store, 0, None);
+    let mut play = Play::one_guest(&rt, rt.alloc());
+    add_ends(rt.alloc(), &mut play, TransmitKind::Stream, &gives, &takes)?;
+    pipes(&rt, &mut play);
+    round(&rt, &mut play, (1, 0), 0);
+    round(&rt, &mut play, (2, 1), 1);
+    round(&rt, &mut play, (2, 2), 2);
+    round(&rt, &mut play, (3, 3), 3);
+    play.has_type(&rt, 0, None);
     Ok(())
 }
 
@@ -109,14 +97,15 @@ fn a_writer_is_polled_again(rt: HostRuntime) -> Result<(), Fail> {
 fn a_reader_that_waits_keeps_a_pipe(rt: HostRuntime) -> Result<(), Fail> {
     let gives: [Gives; 1] = [(&[7], Answer::Dropped)];
     let takes = [(1, Answer::Pending), (0, Answer::Failed)];
-    let mut hosts = two_ends(rt.alloc(), TransmitKind::Stream, &gives, &takes)?;
-    let mut store = piped(&rt, rt.alloc(), &mut hosts);
-    round(&rt, &mut store, &mut hosts, (1, 1), 1);
-    has_type(&rt, &store, 0, Some(BYTE_STREAM));
+    let mut play = Play::one_guest(&rt, rt.alloc());
+    add_ends(rt.alloc(), &mut play, TransmitKind::Stream, &gives, &takes)?;
+    pipes(&rt, &mut play);
+    round(&rt, &mut play, (1, 1), 1);
+    play.has_type(&rt, 0, Some(BYTE_STREAM));
     let end = HostEnd::Reader(0);
-    let failed = drive(&rt, &mut store, &mut hosts).err();
-    is_error(&rt, failed, StoreError::HostFailed { end });
-    were_polled(&rt, &hosts, 1, 2);
+    let failed = StoreError::HostFailed { end };
+    play.drives(&rt, Err(failed));
+    were_polled(&rt, &play, (1, 2));
     Ok(())
 }
 
@@ -125,11 +114,12 @@ fn a_reader_that_waits_keeps_a_pipe(rt: HostRuntime) -> Result<(), Fail> {
 fn a_pipe_of_a_future_ends(rt: HostRuntime) -> Result<(), Fail> {
     let gives: [Gives; 1] = [(&[9], Answer::Completed)];
     let takes = [(1, Answer::Completed)];
-    let mut hosts = two_ends(rt.alloc(), TransmitKind::Future, &gives, &takes)?;
-    let mut store = piped(&rt, rt.alloc(), &mut hosts);
-    round(&rt, &mut store, &mut hosts, (1, 1), 1);
-    has_type(&rt, &store, 0, None);
-    round(&rt, &mut store, &mut hosts, (1, 1), 1);
+    let mut play = Play::one_guest(&rt, rt.alloc());
+    add_ends(rt.alloc(), &mut play, TransmitKind::Future, &gives, &takes)?;
+    pipes(&rt, &mut play);
+    round(&rt, &mut play, (1, 1), 1);
+    play.has_type(&rt, 0, None);
+    round(&rt, &mut play, (1, 1), 1);
     Ok(())
 }
 
@@ -138,39 +128,45 @@ fn a_pipe_of_a_future_ends(rt: HostRuntime) -> Result<(), Fail> {
 fn a_dry_writer_is_gone(rt: HostRuntime) -> Result<(), Fail> {
     let gives: [Gives; 1] = [(&[1, 2, 3], Answer::Dropped)];
     let takes = [(1, Answer::Completed)];
-    let mut hosts = two_ends(rt.alloc(), TransmitKind::Stream, &gives, &takes)?;
-    let mut store = one_guest(&rt, rt.alloc());
-    is_number(&rt, host(&rt, &mut store, &hosts, 0), 0);
-    is_number(&rt, store.lower(0, 0, BYTE_STREAM), 1);
-    reads(&rt, &mut store, &mut hosts, (0, 1), 0, 2, 0x20);
-    reads(&rt, &mut store, &mut hosts, (0, 1), 2, 2, 0x10);
-    is_number(&rt, store.lift(0, BYTE_STREAM, 1), 0);
-    is_done(&rt, pipe(&rt, &mut store, &mut hosts, 0, 0));
-    has_type(&rt, &store, 0, None);
-    round(&rt, &mut store, &mut hosts, (1, 0), 3);
+    let mut play = Play::one_guest(&rt, rt.alloc());
+    add_ends(rt.alloc(), &mut play, TransmitKind::Stream, &gives, &takes)?;
+    play.hosts_writer(&rt, 0, Ok(0));
+    play.lowers(&rt, 0, 0, BYTE_STREAM, Ok(1));
+    play.reads(&rt, (0, 1), 0, 2, 0x20);
+    play.reads(&rt, (0, 1), 2, 2, 0x10);
+    play.lifts(&rt, (0, 1), BYTE_STREAM, Ok(0));
+    play.pipes(&rt, 0, 0, Ok(()));
+    play.has_type(&rt, 0, None);
+    round(&rt, &mut play, (1, 0), 3);
     Ok(())
 }
 
-// The stop of the first round.
-fn stops(rt: &impl Abort, store: &mut Store, hosts: &mut Hosts, end: HostEnd) {
-    must_fit(rt, store, hosts);
-    let broke = drive(rt, store, hosts).err();
-    is_error(rt, broke, StoreError::HostBroke { end });
+/// A writer that breaks the rules stops the round before the reader is polled.
+#[test]
+fn a_writers_broken_rule_stops_a_pipe(rt: HostRuntime) -> Result<(), Fail> {
+    let gives: [Gives; 1] = [(&[1], Answer::Pending)];
+    let takes = [(0, Answer::Completed)];
+    let mut play = Play::one_guest(&rt, rt.alloc());
+    add_ends(rt.alloc(), &mut play, TransmitKind::Stream, &gives, &takes)?;
+    pipes(&rt, &mut play);
+    let end = HostEnd::Writer(0);
+    let broke = StoreError::HostBroke { end };
+    play.drives(&rt, Err(broke));
+    were_polled(&rt, &play, (1, 0));
+    Ok(())
 }
 
-/// A writer that breaks the rules stops the round before the reader is polled; so does a reader.
+/// So does a reader.
 #[test]
-fn a_broken_rule_stops_a_pipe(rt: HostRuntime) -> Result<(), Fail> {
-    let takes = [(0, Answer::Completed)];
-    let broken: [Gives; 1] = [(&[1], Answer::Pending)];
-    let mut hosts = two_ends(rt.alloc(), TransmitKind::Stream, &broken, &takes)?;
-    let mut store = piped(&rt, rt.alloc(), &mut hosts);
-    stops(&rt, &mut store, &mut hosts, HostEnd::Writer(0));
-    were_polled(&rt, &hosts, 1, 0);
+fn a_readers_broken_rule_stops_a_pipe(rt: HostRuntime) -> Result<(), Fail> {
     let gives: [Gives; 1] = [(&[1], Answer::Completed)];
-    let mut hosts = two_ends(rt.alloc(), TransmitKind::Stream, &gives, &takes)?;
-    let mut store = piped(&rt, rt.alloc(), &mut hosts);
-    stops(&rt, &mut store, &mut hosts, HostEnd::Reader(0));
-    were_polled(&rt, &hosts, 1, 1);
+    let takes = [(0, Answer::Completed)];
+    let mut play = Play::one_guest(&rt, rt.alloc());
+    add_ends(rt.alloc(), &mut play, TransmitKind::Stream, &gives, &takes)?;
+    pipes(&rt, &mut play);
+    let end = HostEnd::Reader(0);
+    let broke = StoreError::HostBroke { end };
+    play.drives(&rt, Err(broke));
+    were_polled(&rt, &play, (1, 1));
     Ok(())
 }

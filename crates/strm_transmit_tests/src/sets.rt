@@ -1,29 +1,25 @@
 //! Waitable sets: each call once.
 
-use crate::answers::{
-    AMPLE, BYTES, drops_reader, drops_writer, is_done, is_member, is_number, is_pair, is_refused,
-    no_hosts,
-};
+use crate::play::Play;
 use strm_codes::refusals::Refusal;
-use strm_transmit::store::Store;
+use strm_transmit::errors::StoreError;
 
 /// What is gone is told once, a dropped end leaves its set, and a join leaves the other one.
 #[test]
 fn calls_of_sets(rt: HostRuntime) {
-    let mut store = Store::new(rt.alloc(), 0, AMPLE);
-    let mut hosts = no_hosts(rt.alloc());
-    is_number(&rt, store.add_guest(16), 0);
-    is_pair(&rt, store.stream_new(0, BYTES), 1, 2, 0);
-    is_number(&rt, store.set_new(0), 3);
-    is_number(&rt, store.set_new(0), 4);
-    is_done(&rt, store.set_join(0, 3, 2));
-    is_done(&rt, store.set_join(0, 4, 2));
-    is_done(&rt, store.set_drop(0, 3));
-    is_member(&rt, store.set_poll(0, 4), None);
-    drops_reader(&rt, &mut store, &mut hosts, (0, 1));
-    is_member(&rt, store.set_poll(0, 4), Some((2, 0x01)));
-    is_member(&rt, store.set_poll(0, 4), None);
-    is_refused(&rt, store.set_drop(0, 4).err(), Refusal::SetNotEmpty);
-    drops_writer(&rt, &mut store, &mut hosts, (0, 2));
-    is_done(&rt, store.set_drop(0, 4));
+    let mut play = Play::one_guest(&rt, rt.alloc());
+    play.makes_stream(&rt, 0, Ok((1, 2, 0)));
+    play.makes_set(&rt, 0, Ok(3));
+    play.makes_set(&rt, 0, Ok(4));
+    play.joins_set(&rt, (0, 2), 3);
+    play.joins_set(&rt, (0, 2), 4);
+    play.drops_set(&rt, 0, 3, Ok(()));
+    play.polls_set(&rt, 0, 4, None);
+    play.drops_reader(&rt, (0, 1));
+    play.polls_set(&rt, 0, 4, Some((2, 0x01)));
+    play.polls_set(&rt, 0, 4, None);
+    let refused = StoreError::Refused(Refusal::SetNotEmpty);
+    play.drops_set(&rt, 0, 4, Err(refused));
+    play.drops_writer(&rt, (0, 2));
+    play.drops_set(&rt, 0, 4, Ok(()));
 }
