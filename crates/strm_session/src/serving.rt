@@ -2,10 +2,9 @@
 //!
 //! Source: ours.
 
-ghost use Rattle.std.specs.Prelude.{◌≡◌, ◌≢◌, ◌≤◌, ◌+◌, ◌⊎◌, ◌↔◌, ℕ, List, [], length, map, IfOk, IfErr, IsErr, IsTrue, Some, string_bytes};
+ghost use Rattle.std.specs.Prelude.{◌≡◌, ◌≤◌, ◌+◌, ◌⊎◌, ◌↔◌, ℕ, List, [], length, map, IfOk, IfErr, IsErr, IsTrue, Some, string_bytes};
 ghost use Rattle.strm_session.specs.Records.{HostsGoOn};
-ghost use Rattle.strm_codes.specs.Counters.{Rose};
-ghost use Rattle.strm_input_output.specs.Serving.{ReadsWithin, WritesWhole, WritesPart};
+ghost use Rattle.strm_input_output.specs.Serving.{ReadsWithin, Writes, port};
 ghost use Rattle.strm_session.specs.Runs.{HaveRoom};
 ghost use Rattle.strm_lines.specs.Lines.{lines_of, Spells, IsTooLong};
 ghost use Rattle.strm_lines.specs.Generator.{generated};
@@ -52,22 +51,17 @@ pub fn serve<S: Source, K: Sink, H: HostEnds>(
 ) -> u8
     requires room { HaveRoom (H.tells hosts.old) }
     ensures known { IsRunStatus result }
-    ensures told { result ≢ WRITE_FAULT → result ≢ OUT_OF_MEMORY → WritesWhole
+    ensures writes { Writes
         (IsRunOutput (map string_bytes words.now.items) (S.left source.old) (S.left source.new)
         (H.tells hosts.old) (H.tells hosts.new) (S.faults source.old) (S.faults source.new))
-        (K.taken sink.old) (K.taken sink.new) result }
-    ensures part { result ≡ WRITE_FAULT → WritesPart
-        (IsRunOutput (map string_bytes words.now.items) (S.left source.old) (S.left source.new)
-        (H.tells hosts.old) (H.tells hosts.new) (S.faults source.old) (S.faults source.new))
-        (K.taken sink.old) (K.taken sink.new) }
-    ensures write_fault { result ≡ WRITE_FAULT → Rose (K.faults sink.old) (K.faults sink.new) }
+        (port (K.taken sink.old) (K.faults sink.old)) (port (K.taken sink.new) (K.faults sink.new))
+        result }
     ensures nothing { result ≡ OUT_OF_MEMORY → sink.new ≡ sink.old }
     ensures out_of_memory { result ≡ OUT_OF_MEMORY →
         LeavesUnwritten (S.left source.old) (H.tells hosts.old) (H.tells hosts.new) }
     ensures read { ReadsWithin MAX_BYTES (S.left source.old) (S.left source.new) }
-    ensures unread { ¬ TellsToRun (map string_bytes words.now.items) → source.new ≡ source.old }
     ensures unrun { ¬ TellsToRun (map string_bytes words.now.items) →
-        H.tells hosts.new ≡ H.tells hosts.old }
+        (source.new ≡ source.old) × (H.tells hosts.new ≡ H.tells hosts.old) }
     ensures goes_on { HostsGoOn (H.tells hosts.old) (H.tells hosts.new) }
 
     // Which status comes, but for faults and running out of memory, by causes that a caller sees.

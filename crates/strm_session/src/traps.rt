@@ -17,10 +17,12 @@ ghost use Rattle.strm_host_machine.specs.Does.{Does};
 /// StoreTrapped found it trapped. By the clause `does` of each call's `MeetsHosted`.
 pub fn answers_leave_no_trap()
     ensures before { (old new : State) (tells told : Tells) (reply : Reply) (step : Step) →
-        Does old new tells told (Ok reply) (λ world. outcome_of_step world step) → old.trapped ≡ false }
+        Does old new tells told (Ok reply) (λ world. outcome_of_step world step) →
+        old.trapped ≡ false }
     ensures after { (old new : State) (tells told : Tells) (reply : Reply) (step : Step) →
-        Does old new tells told (Ok reply) (λ world. outcome_of_step world step) → new.trapped ≡ false }
+        Does old new tells told (Ok reply) (λ world. outcome_of_step world step) →
+        new.trapped ≡ false }
     ensures trapped { (old new : State) (tells told : Tells) (step : Step) →
-        Does old new tells told (Err (Some stops.StoreTrapped)) (λ world. outcome_of_step world step) →
-        old.trapped ≡ true }
+        Does old new tells told (Err (Some stops.StoreTrapped))
+        (λ world. outcome_of_step world step) → old.trapped ≡ true }
 {}
