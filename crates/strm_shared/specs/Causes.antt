@@ -1,5 +1,5 @@
 -- What each call says of its seat: by its answer, and by each error. Ours.
-use Rattle.std.specs.Prelude.{◌≡◌, ◌≢◌, ◌⊎◌, ◌↔◌, ◌<◌, ◌≤◌, [], ◌∷◌, ◌++◌, max, Bool, true, false, Option, Some, None, Result, Err}
+use Rattle.std.specs.Prelude.{◌≡◌, ◌≢◌, ◌⊎◌, ◌↔◌, ◌<◌, ◌≤◌, ℕ, [], ◌∷◌, ◌++◌, max, Bool, true, false, Option, Some, None, Result, Err}
 use mathlib.Core.List.{IsPrefix}
 use Rattle.atomic_table.specs.Seated.{TableId}
 use Rattle.strm_codes.specs.declared.codes.ReturnCode.TheVariants as codes
@@ -17,9 +17,9 @@ use Rattle.strm_shared.specs.declared.view.View.{View}
 use Rattle.strm_shared.specs.Histories.{entry, IsLegal, state_after, calls_by, AreCallsIn}
 use Rattle.strm_shared.specs.Places.{place_named, operated, is_host_step, is_move, is_refused_busy}
 use Rattle.strm_machine.specs.Moments.{is_blocked}
-use Rattle.strm_shared.specs.Plays.{longer}
+use Rattle.strm_shared.specs.Plays.{Seated, longer}
 use Rattle.strm_shared.specs.Waits.{wait, Has, IsClear, AnswersWait}
-use Rattle.strm_shared.specs.Tokens.{Token, last_number, IsOneHistory, TicketRises, HistoryStays, Idles, Later, Called, Begun, Delivered}
+use Rattle.strm_shared.specs.Tokens.{Token, last_number, Sits, IsOneHistory, TicketRises, HistoryStays, Idles, Later, Called, Begun, Delivered}
 
 -- the seat is one of this store's
 abbrev pub IsOf : SharedStore → Token → Type 0
@@ -28,6 +28,11 @@ IsOf store seat = (seat.table ≡ store.table.shared.table_id) × (seat.limits �
 -- the same, of a seat by its table and its view
 abbrev pub IsInside : SharedStore → TableId → View → Type 0
 IsInside store table view = (table ≡ store.table.shared.table_id) × (view.limits ≡ store.table.shared.key)
+
+-- a seat of this store between its calls may read or write by this step, which names this handle
+abbrev pub MayOperate : SharedStore → TableId → ℕ → Seated → Step → Place → Type 0
+MayOperate store table number me step there =
+    (operated step ≡ Some there) × IsInside store table me.0 × Sits number me
 
 -- ERRORS OF EVERY CALL
 

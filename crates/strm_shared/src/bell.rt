@@ -34,7 +34,7 @@ impl Bell {
         }
     }
 
-    // What a thread remembers before it looks. It ends with `wait_past` or with `forget`. A ring between
+    // What a thread remembers before it looks. It ends with `wait_past`, `forget` or `wait_if`. A ring between
     // this and the wait is heard: whoever rings asks for listeners after what it did.
     pub(crate) fn now(&self) -> u64 {
         self.listeners.fetch_add(1, Ordering::SeqCst);
@@ -44,6 +44,15 @@ impl Bell {
     // The thread need not wait.
     pub(crate) fn forget(&self) {
         self.listeners.fetch_sub(1, Ordering::SeqCst);
+    }
+
+    // Waits until it has rung since `heard`, if the thread is to look again then.
+    pub(crate) fn wait_if<R: Wait>(&self, rt: &R, heard: u64, again: bool) {
+        if again {
+            self.wait_past(rt, heard);
+        } else {
+            self.forget();
+        }
     }
 
     // Wakes all that wait.

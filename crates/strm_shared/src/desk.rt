@@ -1,25 +1,17 @@
-//! What lies in the table's slot: a ledger in a box, so that a turn moves one word in and out of it.
+//! What lies in the table's slot: a ledger in a box, so that a turn moves one word in and out of
+//! it.
 //!
 //! Meaning: `Accounts.antt`. Each call is the ledger's. Ours.
 
-ghost use Rattle.std.specs.Prelude.{◌≡◌, ◌-◌, ◌^◌, ◌<◌, [], ◌∷◌, true, false, IfOk, OnErr, Some, MatchOption};
-ghost use Rattle.strm_machine.specs.WaitableSets.{is_in_set};
-ghost use Rattle.strm_machine.specs.declared.steps.Step.TheVariants as steps;
-ghost use Rattle.strm_shared.specs.Places.{place_named, operated, is_host_step, is_move, is_refused_busy};
-ghost use Rattle.strm_shared.specs.Histories.{entry, state_after, IsLegal};
-ghost use Rattle.strm_shared.specs.Waits.{wait, waits_by, without, waits_begun, IsClear, AreWaits, Has, DeliversReport};
-ghost use Rattle.strm_shared.specs.Accounts.{account, opened, entered, entered_with, idled};
+ghost use Rattle.std.specs.Prelude.{◌≡◌, IfOk};
+ghost use Rattle.strm_shared.specs.Accounts.{opened};
 
-use crate::entry::Place;
-use crate::history::History;
 use crate::ledger::Ledger;
 use std::alloc::Global;
 use std::marker::Model;
+use std::ops::{Deref, DerefMut};
 use strm_codes::counts::OutOfMemory;
 use strm_machine::limits::Limits;
-use strm_machine::replies::Reply;
-use strm_machine::steps::Step;
-use strm_transmit::store::Store;
 
 /// The store beside its history. Who has the turn has it, and nobody else.
 #[derive(Drop)]
@@ -44,113 +36,37 @@ impl Desk {
         Ok(Desk { ledger })
     }
 
-    // What is kept of the waits: it does nothing.
-    pub(crate) fn sound(&self)
-        ensures { AreWaits self.now.limits self.now.log self.now.waits }
+    // The ledger itself.
+    pub(crate) fn into_ledger(self) -> Ledger
+        ensures { result ≡ self }
     {
-        self.ledger.sound();
+        Box::into_inner(self.ledger)
     }
+}
 
-    // The seat that waits for the handle that the step names.
-    pub(crate) fn waiter(&self, step: &Step) -> Option<u64>
-        ensures { MatchOption result (IsClear step.now self.now.waits) (λ seat.
-            (there : _) × (place_named step.now ≡ Some there) × Has (wait seat there) self.now.waits) }
+impl Deref for Desk {
+    type Target = Ledger;
+
+    ghost deref_gives = { λ d l. l ≡ d };
+
+    fn deref(&self) -> &Ledger
+        ensures { result.now ≡ self.now }
     {
-        self.ledger.waiter(step)
+        self.ledger.as_ref()
     }
+}
 
-    // Whether a handle is in a set.
-    pub(crate) fn is_member(&self, place: Place) -> bool
-        ensures { result
-            ≡ is_in_set (state_after self.now.limits self.now.log) place.guest place.handle }
-    {
-        self.ledger.is_member(place)
-    }
+impl DerefMut for Desk {
+    ghost use Rattle.std.specs.Borrow.{Lends, sem};
+    ghost use Rattle.strm_shared.specs.contracts.desk.Desk.{the_row};
+    ghost use Rattle.strm_shared.specs.contracts.ledger.Ledger.{the_row as ledger_row};
 
-    // Does a step, and enters it. For each wait room for one entry more is kept.
-    pub(crate) fn enter(
-        &mut self,
-        alloc: Global,
-        seat: u64,
-        step: &Step,
-    ) -> Result<Reply, OutOfMemory>
-        requires clear { IsClear step.now self.old.waits }
-        requires guests { is_host_step step.now ≡ false }
-        ensures ok { IfOk result
-            (λ reply. self.new ≡ entered self.old (entry seat step.now reply)) }
-        ensures legal { IsLegal self.new.limits self.new.log }
-        ensures err { OnErr result (self.new ≡ self.old) }
-    {
-        self.ledger.enter(alloc, seat, step)
-    }
+    ghost deref_mut_gives = { λ d l. l ≡ d };
 
-    // Begins a read or write, and a wait where it is answered Blocked: with room for the entry of its
-    // report, so that this takes no memory.
-    pub(crate) fn begin(
-        &mut self,
-        alloc: Global,
-        seat: u64,
-        step: &Step,
-        place: Place,
-    ) -> Result<Reply, OutOfMemory>
-        requires operates { operated step.now ≡ Some place }
-        requires free { is_in_set (state_after self.old.limits self.old.log) place.guest place.handle
-            ≡ false }
-        ensures ok { IfOk result (λ reply. self.new ≡ entered_with self.old
-            (entry seat step.now reply) (waits_begun reply self.old.waits (wait seat place))) }
-        ensures legal { IsLegal self.new.limits self.new.log }
-        ensures err { OnErr result (self.new ≡ self.old) }
+    fn deref_mut(&mut self) -> &mut Ledger
+        ensures* writes_back { sem 𝓛 (Lends the_row ledger_row self.entry result (λ w. w)) }
+        ensures value { result.now ≡ self.old }
     {
-        self.ledger.begin(alloc, seat, step, place)
-    }
-
-    // Takes the report for which the seat waits, if it is there, or counts an idle turn. It takes no
-    // memory.
-    pub(crate) fn deliver(&mut self, seat: u64, place: Place) -> Option<Reply>
-        requires waits { waits_by seat self.old.waits ≡ place ∷ [] }
-        requires room { self.old.idle < 2 ^ 64 - 1 }
-        ensures turn { MatchOption result (self.new ≡ idled self.old) (λ reply. DeliversReport reply
-            × (self.new ≡ entered_with self.old
-            (entry seat (steps.Event place.guest place.handle) reply)
-            (without seat self.old.waits))) }
-        ensures legal { IsLegal self.new.limits self.new.log }
-    {
-        self.ledger.deliver(seat, place)
-    }
-
-    // Moves an end, and enters that. Where it is refused since the end has an operation, it counts an
-    // idle turn.
-    pub(crate) fn shift(
-        &mut self,
-        alloc: Global,
-        seat: u64,
-        step: &Step,
-    ) -> Result<Option<Reply>, OutOfMemory>
-        requires moves { is_move step.now ≡ true }
-        requires room { self.old.idle < 2 ^ 64 - 1 }
-        ensures ok { IfOk result (λ found. MatchOption found (self.new ≡ idled self.old) (λ reply.
-            (is_refused_busy reply ≡ false)
-            × (self.new ≡ entered self.old (entry seat step.now reply)))) }
-        ensures legal { IsLegal self.new.limits self.new.log }
-        ensures err { OnErr result (self.new ≡ self.old) }
-    {
-        self.ledger.shift(alloc, seat, step)
-    }
-
-    // Counts a turn that makes no entry.
-    pub(crate) fn pass_idle(&mut self)
-        requires { self.old.idle < 2 ^ 64 - 1 }
-        ensures idle { self.new ≡ idled self.old }
-        ensures legal { IsLegal self.new.limits self.new.log }
-    {
-        self.ledger.pass_idle();
-    }
-
-    // The store and the history.
-    pub(crate) fn into_parts(self) -> (Store, History)
-        ensures legal { IsLegal self.limits self.log }
-        ensures parts { (result.0 ≡ state_after self.limits self.log) × (result.1.items ≡ self.log) }
-    {
-        Box::into_inner(self.ledger).into_parts()
+        self.ledger.as_mut()
     }
 }

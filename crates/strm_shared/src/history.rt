@@ -41,7 +41,9 @@ fn keep_step(chunks: &mut Blocks<Chunk>, step: &Step) -> ShortStep
 {
     same_step!(*step, Step => ShortStep,
         Step::Feed { host, bytes } => ShortStep::Feed { host, bytes: keep_chunk(chunks, &bytes) },
-        Step::Poke { guest, address, bytes } => ShortStep::Poke { guest, address, bytes: keep_chunk(chunks, &bytes) },
+        Step::Poke { guest, address, bytes } => {
+            ShortStep::Poke { guest, address, bytes: keep_chunk(chunks, &bytes) }
+        }
     )
 }
 
@@ -71,7 +73,10 @@ impl Model for History {
 
     ghost Value = { Log };
 
-    ghost view = { λ h. record { items = entries h.chunks.items h.rows.items; room = room_in_rows h.rows h.chunks } };
+    ghost view = { λ h. record {
+      items = entries h.chunks.items h.rows.items;
+      room = room_in_rows h.rows h.chunks;
+    } };
 
     ghost invariant = { λ h. AllPlaced h.chunks.items h.rows.items };
 }
@@ -115,10 +120,9 @@ impl History {
         if more > usize::MAX / 2 {
             return Err(OutOfMemory);
         }
-        match (self.rows.reserve(more), self.chunks.reserve(2 * more)) {
-            (Ok(()), Ok(())) => Ok(()),
-            _ => Err(OutOfMemory),
-        }
+        self.rows.reserve(more)?;
+        self.chunks.reserve(2 * more)?;
+        Ok(())
     }
 
     // A call more, for which there is room.
@@ -149,7 +153,9 @@ fn step_of(chunks: &Blocks<Chunk>, step: &ShortStep) -> Step
 {
     same_step!(*step, ShortStep => Step,
         ShortStep::Feed { host, bytes } => Step::Feed { host, bytes: find_chunk(chunks, bytes) },
-        ShortStep::Poke { guest, address, bytes } => Step::Poke { guest, address, bytes: find_chunk(chunks, bytes) },
+        ShortStep::Poke { guest, address, bytes } => {
+            Step::Poke { guest, address, bytes: find_chunk(chunks, bytes) }
+        }
     )
 }
 

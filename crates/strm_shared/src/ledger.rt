@@ -43,7 +43,8 @@ impl Model for Ledger {
 
     ghost view = { λ l. account l.limits l.history.items l.idle l.waits.items };
 
-    ghost invariant = { λ l. IsSlotKept l.limits l.store l.history.items l.waits.items l.history.room };
+    ghost invariant = { λ l.
+        IsSlotKept l.limits l.store l.history.items l.waits.items l.history.room };
 }
 
 impl Ledger {
@@ -69,8 +70,8 @@ impl Ledger {
 
     // The seat that waits for the handle that the step names.
     pub(crate) fn waiter(&self, step: &Step) -> Option<u64>
-        ensures { MatchOption result (IsClear step.now self.now.waits) (λ seat.
-            (there : _) × (place_named step.now ≡ Some there) × Has (wait seat there) self.now.waits) }
+        ensures { MatchOption result (IsClear step.now self.now.waits) (λ seat. (there : _)
+            × (place_named step.now ≡ Some there) × Has (wait seat there) self.now.waits) }
     {
         let place = named(step)?;
         seat_at(&self.waits, place)
@@ -99,9 +100,7 @@ impl Ledger {
         ensures err { OnErr result (self.new ≡ self.old) }
     {
         let spare = self.waits.len() + 1;
-        if self.history.reserve(spare).is_err() {
-            return Err(OutOfMemory);
-        }
+        self.history.reserve(spare)?;
         let reply = self.store.apply_alone(alloc, step)?;
         self.history.push(seat, step, &reply);
         Ok(reply)
@@ -117,20 +116,16 @@ impl Ledger {
         place: Place,
     ) -> Result<Reply, OutOfMemory>
         requires operates { operated step.now ≡ Some place }
-        requires free { is_in_set (state_after self.old.limits self.old.log) place.guest place.handle
-            ≡ false }
+        requires free { is_in_set (state_after self.old.limits self.old.log)
+            place.guest place.handle ≡ false }
         ensures ok { IfOk result (λ reply. self.new ≡ entered_with self.old
             (entry seat step.now reply) (waits_begun reply self.old.waits (wait seat place))) }
         ensures legal { IsLegal self.new.limits self.new.log }
         ensures err { OnErr result (self.new ≡ self.old) }
     {
         let spare = self.waits.len() + 2;
-        if self.history.reserve(spare).is_err() {
-            return Err(OutOfMemory);
-        }
-        if self.waits.reserve(1).is_err() {
-            return Err(OutOfMemory);
-        }
+        self.history.reserve(spare)?;
+        self.waits.reserve(1)?;
         let reply = self.store.apply_alone(alloc, step)?;
         self.history.push(seat, step, &reply);
         keep_wait(&mut self.waits, &reply, Wait { seat, place });
@@ -178,9 +173,7 @@ impl Ledger {
         ensures err { OnErr result (self.new ≡ self.old) }
     {
         let spare = self.waits.len() + 1;
-        if self.history.reserve(spare).is_err() {
-            return Err(OutOfMemory);
-        }
+        self.history.reserve(spare)?;
         let reply = self.store.apply_alone(alloc, step)?;
         if is_refused_busy(&reply) {
             self.idle += 1;
@@ -202,7 +195,8 @@ impl Ledger {
     // The store and the history.
     pub(crate) fn into_parts(self) -> (Store, History)
         ensures legal { IsLegal self.limits self.log }
-        ensures parts { (result.0 ≡ state_after self.limits self.log) × (result.1.items ≡ self.log) }
+        ensures parts { (result.0 ≡ state_after self.limits self.log)
+            × (result.1.items ≡ self.log) }
     {
         let Ledger {
             limits: _,

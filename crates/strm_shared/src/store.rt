@@ -99,7 +99,7 @@ impl SharedStore {
                 ticket: u64::MAX,
             });
         };
-        let (store, history) = desk.into_parts();
+        let (store, history) = desk.into_ledger().into_parts();
         Ok(Closed { store, history })
     }
 }

@@ -1,4 +1,4 @@
-//! Up to eight threads, each with a seat of its own and one job.
+//! Up to nine threads, each with a seat of its own and one job.
 
 ghost use Rattle.std.specs.Thread.{IsSync};
 ghost use Rattle.strm_shared.specs.Causes.{IsOf};
@@ -23,6 +23,8 @@ pub(crate) enum Job {
     Work,
     /// One read, which waits, of the stream whose read end has the handle of its number and one.
     Read,
+    /// One write, which waits, on the stream whose write end has that handle.
+    Write,
 }
 
 /// One reply more, in a number that tells what was replied in which order. Replies of the steps below
@@ -82,10 +84,10 @@ fn works<R: Wait>(rt: &R, alloc: Global, store: &SharedStore, mut seat: Seat, nu
     sum
 }
 
-fn reads<R: Wait>(rt: &R, alloc: Global, store: &SharedStore, mut seat: Seat, number: u32) -> u64
+// Whether one item was moved by a step that waits: 1 or 0.
+fn moves<R: Wait>(rt: &R, alloc: Global, store: &SharedStore, mut seat: Seat, step: Step) -> u64
     requires { IsOf store.now seat }
 {
-    let step = read(1, number.wrapping_add(1), 1);
     if has_moved(&store.sync(rt, alloc, &mut seat, &step), 1) {
         1
     } else {
@@ -105,7 +107,8 @@ fn one<R: Wait>(
 {
     match job {
         Job::Work => works(rt, alloc, store, seat, number),
-        Job::Read => reads(rt, alloc, store, seat, number),
+        Job::Read => moves(rt, alloc, store, seat, read(1, number.wrapping_add(1), 1)),
+        Job::Write => moves(rt, alloc, store, seat, write(0, number.wrapping_add(1), 1)),
     }
 }
 
@@ -179,6 +182,29 @@ pub(crate) fn eight<R: Threads + Wait + Sync>(
         ||
             requires { IsSync R.row × IsOf store.now other }
         { four(rt, alloc, store, other, job, 4) },
+    );
+    left.wrapping_add(right)
+}
+
+/// What nine threads come to together.
+pub(crate) fn nine<R: Threads + Wait + Sync>(
+    rt: &R,
+    alloc: Global,
+    store: &SharedStore,
+    mut seat: Seat,
+    job: Job,
+) -> u64
+    requires { IsOf store.now seat }
+{
+    let Ok(other) = store.seat_split(rt, &mut seat) else {
+        return 0;
+    };
+    let (left, right) = join(
+        rt,
+        ||
+            requires { IsSync R.row × IsOf store.now seat }
+        { eight(rt, alloc, store, seat, job) },
+        || one(rt, alloc, store, other, job, 8),
     );
     left.wrapping_add(right)
 }

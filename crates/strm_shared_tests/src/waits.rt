@@ -6,7 +6,7 @@ ghost use Rattle.strm_shared.specs.Tokens.{Same};
 
 use crate::histories::ends_right;
 use crate::stores::{has_moved, is_awaited, is_right, meets, read, with_streams, write};
-use crate::teams::{Job, eight};
+use crate::teams::{Job, eight, nine};
 use std::alloc::Global;
 use std::sync::Wait;
 use std::sync::atomic::AtomicBool;
@@ -113,14 +113,21 @@ fn each_ends_the_other(rt: HostRuntime) {
     is_right(&rt, is_held_until(&rt, rt.alloc(), &put, 0, &taken));
 }
 
-// Whether a seat waits for each of the eight handles.
-fn are_awaited<R: Wait>(rt: &R, alloc: Global, store: &SharedStore, seat: &mut Seat) -> bool
+// Whether a seat waits for each of a guest's first so many handles.
+fn are_awaited<R: Wait>(
+    rt: &R,
+    alloc: Global,
+    store: &SharedStore,
+    seat: &mut Seat,
+    guest: u32,
+    count: u32,
+) -> bool
     requires { IsOf store.now seat.old }
     ensures { Same seat.old seat.new }
 {
     let mut all = true;
-    for k in 1..9u32 {
-        let held = is_awaited(rt, alloc, store, seat, 1, k);
+    for k in 0..count {
+        let held = is_awaited(rt, alloc, store, seat, guest, k.wrapping_add(1));
         all = all && held;
     }
     all
@@ -131,7 +138,7 @@ fn are_awaited<R: Wait>(rt: &R, alloc: Global, store: &SharedStore, seat: &mut S
 fn wakes<R: Wait>(rt: &R, alloc: Global, store: &SharedStore, mut seat: Seat) -> u64
     requires { IsOf store.now seat }
 {
-    if !are_awaited(rt, alloc, store, &mut seat) {
+    if !are_awaited(rt, alloc, store, &mut seat, 1, 8) {
         return 0;
     }
     let mut done = 0u64;
@@ -180,4 +187,59 @@ fn are_woken<R: Threads + Wait + Sync>(rt: &R, alloc: Global) -> bool {
 #[test]
 fn eight_waits(rt: HostRuntime) {
     is_right(&rt, are_woken(&rt, rt.alloc()));
+}
+
+// Once a seat waits for each of nine writes, a read ends each wait; how many were answered at once.
+fn takes<R: Wait>(rt: &R, alloc: Global, store: &SharedStore, mut seat: Seat) -> u64
+    requires { IsOf store.now seat }
+{
+    if !are_awaited(rt, alloc, store, &mut seat, 0, 9) {
+        return 0;
+    }
+    let mut done = 0u64;
+    for k in 1..10u32 {
+        if has_moved(&store.call(rt, alloc, &mut seat, &read(1, k, 1)), 1) {
+            done = done.wrapping_add(1);
+        }
+    }
+    done
+}
+
+// How many of the nine writes moved an item, and how many of the reads that wake them.
+fn taken<R: Threads + Wait + Sync>(
+    rt: &R,
+    alloc: Global,
+    store: &SharedStore,
+    seat: &mut Seat,
+) -> (u64, u64)
+    requires { IsOf store.now seat.old }
+    ensures { Same seat.old seat.new }
+{
+    let Ok(team) = store.seat_split(rt, seat) else {
+        return (0, 0);
+    };
+    let Ok(reader) = store.seat_split(rt, seat) else {
+        return (0, 0);
+    };
+    join(
+        rt,
+        ||
+            requires { IsSync R.row × IsOf store.now team }
+        { nine(rt, alloc, store, team, Job::Write) },
+        || takes(rt, alloc, store, reader),
+    )
+}
+
+fn are_taken<R: Threads + Wait + Sync>(rt: &R, alloc: Global) -> bool {
+    let Some((store, mut seat)) = with_streams(rt, alloc, 9) else {
+        return false;
+    };
+    let counts = taken(rt, alloc, &store, &mut seat);
+    ends_right(rt, alloc, store, seat) && counts == (9, 9)
+}
+
+/// Nine threads write, each on a stream of its own, and one reader takes what each wrote.
+#[test]
+fn nine_writers(rt: HostRuntime) {
+    is_right(&rt, are_taken(&rt, rt.alloc()));
 }

@@ -48,18 +48,14 @@ impl SharedStore {
             self.leave(rt, seat, desk);
             return Err(SharedError::Waiting { seat: other });
         }
-        match desk.enter(alloc, number, step) {
-            Ok(reply) => {
-                self.leave(rt, seat, desk);
-                self.tell(rt, step);
-                Ok(reply)
-            }
-            Err(_) => {
-                desk.pass_idle();
-                self.leave(rt, seat, desk);
-                Err(SharedError::OutOfMemory)
-            }
-        }
+        let Ok(reply) = desk.enter(alloc, number, step) else {
+            desk.pass_idle();
+            self.leave(rt, seat, desk);
+            return Err(SharedError::OutOfMemory);
+        };
+        self.leave(rt, seat, desk);
+        self.tell(rt, step);
+        Ok(reply)
     }
 
     /// Does a step: one entry in the history, whose reply is the answer, also where the step is refused,

@@ -86,16 +86,10 @@ impl SharedStore {
     {
         for _ in rt.forever() {
             let heard = self.reports.now();
-            match self.shift(rt, alloc, seat, number, step) {
-                Ok(None) => self.reports.wait_past(rt, heard),
-                Ok(Some(reply)) => {
-                    self.reports.forget();
-                    return Ok(reply);
-                }
-                Err(error) => {
-                    self.reports.forget();
-                    return Err(error);
-                }
+            let found = self.shift(rt, alloc, seat, number, step);
+            self.reports.wait_if(rt, heard, matches!(found, Ok(None)));
+            if let Some(reply) = found? {
+                return Ok(reply);
             }
         }
         unreachable!()

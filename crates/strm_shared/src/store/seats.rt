@@ -54,7 +54,8 @@ impl SharedStore {
         ensures same { Same seat.old seat.new }
         ensures kept { Keeps seat.old seat.new }
         ensures ok { IfOk result (λ new. IsSplit seat.old seat.new new) }
-        ensures err { IfErr result (λ error. (error ≡ NoSeat last_number) × (seat.new.top_seats ≡ last_number)) }
+        ensures err { IfErr result (λ error. (error ≡ NoSeat last_number)
+            × (seat.new.top_seats ≡ last_number)) }
     {
         let Some(number) = self.draw_number(rt, &mut seat.inside) else {
             return Err(SharedError::NoSeat { seats: u64::MAX });

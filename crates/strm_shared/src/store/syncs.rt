@@ -3,13 +3,12 @@
 //! Meaning: `Tokens.antt` (`Begun`, `Delivered`) and `Causes.antt`. Source: Component Model, the option
 //! `sync` of reads and writes; the store of `strm_transmit` never waits.
 
-ghost use Rattle.std.specs.Prelude.{◌≡◌, [], ◌∷◌, Some, IfOk, IfErr, MatchOption};
+ghost use Rattle.std.specs.Prelude.{◌≡◌, [], ◌∷◌, IfOk, IfErr, MatchOption};
 ghost use Rattle.strm_machine.specs.declared.steps.Step.TheVariants as steps;
 ghost use Rattle.strm_shared.specs.Histories.{entry};
-ghost use Rattle.strm_shared.specs.Places.{operated};
 ghost use Rattle.strm_shared.specs.Waits.{waits_for, DeliversReport, AnswersWait};
 ghost use Rattle.strm_shared.specs.Tokens.{token, Pauses, Sits, Unbound, Same, Continues, Idles, Begun, Delivered};
-ghost use Rattle.strm_shared.specs.Causes.{IsOf, IsInside, IsHostStep, IsWorn, NotBegun, GivesUp, Synced, NotSynced, CallsStep, FailsStep};
+ghost use Rattle.strm_shared.specs.Causes.{IsOf, IsInside, MayOperate, IsHostStep, IsWorn, NotBegun, GivesUp, Synced, NotSynced, CallsStep, FailsStep};
 
 use crate::entry::Place;
 use crate::errors::SharedError;
@@ -32,12 +31,10 @@ impl SharedStore {
         step: &Step,
         place: Place,
     ) -> Result<Reply, SharedError>
-        requires operates { operated step.now ≡ Some place }
-        requires of { IsInside self.now seat.old.table_id seat.old.me.0 }
-        requires rests { Sits number seat.old.me }
+        requires may { MayOperate self.now seat.old.table_id number seat.old.me step.now place }
+        ensures rests { Pauses number seat.new.me }
         ensures of { (seat.new.table_id ≡ seat.old.table_id)
             × (seat.new.me.0.limits ≡ seat.old.me.0.limits) }
-        ensures rests { Pauses number seat.new.me }
         ensures ok { IfOk result (λ reply. (seat.new.me.0.waiting ≡ waits_for reply place) × Begun
             (token seat.old.table_id number seat.old.me.0) place (entry number step.now reply)
             (token seat.new.table_id number seat.new.me.0)) }
@@ -53,18 +50,14 @@ impl SharedStore {
             self.leave(rt, seat, desk);
             return Err(SharedError::InSet);
         }
-        match desk.begin(alloc, number, step, place) {
-            Ok(reply) => {
-                self.leave(rt, seat, desk);
-                self.tell(rt, step);
-                Ok(reply)
-            }
-            Err(_) => {
-                desk.pass_idle();
-                self.leave(rt, seat, desk);
-                Err(SharedError::OutOfMemory)
-            }
-        }
+        let Ok(reply) = desk.begin(alloc, number, step, place) else {
+            desk.pass_idle();
+            self.leave(rt, seat, desk);
+            return Err(SharedError::OutOfMemory);
+        };
+        self.leave(rt, seat, desk);
+        self.tell(rt, step);
+        Ok(reply)
     }
 
     // Looks for the report in a turn of its own, and takes it where it is there.
@@ -130,16 +123,10 @@ impl SharedStore {
     {
         for _ in rt.forever() {
             let heard = self.reports.now();
-            match self.look(rt, seat, number, place) {
-                Ok(None) => self.reports.wait_past(rt, heard),
-                Ok(Some(reply)) => {
-                    self.reports.forget();
-                    return Ok(reply);
-                }
-                Err(error) => {
-                    self.reports.forget();
-                    return Err(error);
-                }
+            let found = self.look(rt, seat, number, place);
+            self.reports.wait_if(rt, heard, matches!(found, Ok(None)));
+            if let Some(reply) = found? {
+                return Ok(reply);
             }
         }
         unreachable!()
@@ -155,12 +142,10 @@ impl SharedStore {
         step: &Step,
         place: Place,
     ) -> Result<Reply, SharedError>
-        requires operates { operated step.now ≡ Some place }
-        requires of { IsInside self.now seat.old.table_id seat.old.me.0 }
-        requires rests { Sits number seat.old.me }
+        requires may { MayOperate self.now seat.old.table_id number seat.old.me step.now place }
+        ensures rests { Sits number seat.new.me }
         ensures of { (seat.new.table_id ≡ seat.old.table_id)
             × (seat.new.me.0.limits ≡ seat.old.me.0.limits) }
-        ensures rests { Sits number seat.new.me }
         ensures ok { IfOk result (λ reply. Synced (token seat.old.table_id number seat.old.me.0)
             step.now place reply (token seat.new.table_id number seat.new.me.0)) }
         ensures err { IfErr result (λ error. NotSynced

@@ -1,4 +1,6 @@
 use Rattle.std.proofs.Common.{◌≤◌, ◌∷◌, [], None, ap, subst, ◌∙◌}
+use Rattle.strm_shared.specs.Accounts.{Account}
+use Rattle.strm_shared.specs.Waits.{AreWaits}
 use Rattle.strm_shared.specs.Plays.{Seated, holding, Enters}
 use Rattle.strm_shared.specs.declared.view.View.{View}
 use Rattle.strm_shared.proofs.CallLemmas.{enters_queued}
@@ -17,5 +19,5 @@ returns-clause-turn g c =
       enters_queued v t a (subst (λ x. Enters x a) queue c.take-desk.ensures.enters),
       drawn.1,
       top,
-      c.sound.ensures,
+      subst (λ (x : Account). AreWaits x.limits x.log x.waits) c.deref.ensures c.sound.ensures,
     )

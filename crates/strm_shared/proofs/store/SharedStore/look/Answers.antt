@@ -1,5 +1,6 @@
 use Rattle.std.proofs.Common.{◌≡◌, ◌+◌, Some, None, ap, ◌∙◌, ◌∷◌, subst, sym, refl, arith, [], true, inl}
 use Rattle.strm_machine.specs.declared.steps.Step.TheVariants as steps
+use Rattle.strm_shared.specs.Accounts.{entered_with}
 use Rattle.strm_shared.specs.Histories.{entry}
 use Rattle.strm_shared.specs.Waits.{waits_by, without}
 use Rattle.strm_shared.specs.Plays.{Seated, turn_passed, own_waits, IsTurn}
@@ -14,8 +15,9 @@ leave-requires-in-Some-deliver-clause-turn g c =
     let taken = c.in-Some.ensures.turn in
     let numbered = c.requires.rests.0.numbered in
     let b = c.deliver.new.self in
-    let made = c.in-Some-deliver.ensures.turn.1 in
     let n = c.args.number in
+    let event = entry n (steps.Event c.args.place.guest c.args.place.handle) c.in-Some-deliver.reply in
+    let made = c.in-Some-deliver.ensures.turn.1 ∙ ap (λ x. entered_with x event (without n x.waits)) c.deref_mut.ensures.value in
     let P : Seated → Type 0 = λ m. (m.0.holds ≡ true) × (m.1 ≡ (0, None) ∷ []) × IsTurn m.0 b in
     subst P (sym taken.1) (
       refl,
@@ -37,7 +39,8 @@ returns-in-Some-deliver-clause-ok g c =
     let r = c.in-Some-deliver.reply in
     let w = c.leave-in-Some-deliver.new.seat.me.0 in
     let rests = c.requires.rests in
-    let made = c.in-Some-deliver.ensures.turn.1 in
+    let event = entry n (steps.Event c.args.place.guest c.args.place.handle) r in
+    let made = c.in-Some-deliver.ensures.turn.1 ∙ ap (λ x. entered_with x event (without n x.waits)) c.deref_mut.ensures.value in
     let after = ap (λ (m : Seated). m.0) c.leave-in-Some-deliver.ensures.passed ∙ ap (λ (m : Seated). turn_passed m.0 b) taken.1 in
     let found = ap (λ (x : View). x.found) after in
     let turns : w.turns ≡ v.turns + 1 = ap (λ (x : View). x.turns) after in

@@ -1,5 +1,5 @@
 use Rattle.std.proofs.Common.{ap, ◌∙◌, subst, sym, refl}
-use Rattle.strm_shared.specs.Accounts.{idled}
+use Rattle.strm_shared.specs.Accounts.{entered, idled}
 use Rattle.strm_shared.specs.Histories.{entry}
 use Rattle.strm_shared.specs.Waits.{IsClear}
 use Rattle.strm_shared.specs.Plays.{Seated, turn_passed}
@@ -18,7 +18,7 @@ returns-in-Ok-Some-clause-ok g c =
     let n = c.args.number in
     let w = c.leave-in-Ok-Some.new.seat.me.0 in
     let both = match_some _ _ _ _ c.in-Ok-Some.field-0-is c.in-Ok-Some.ensures.ok in
-    let more = both.1 in
+    let more = both.1 ∙ ap (λ x. entered x (entry n c.args.step.now c.in-Ok-Some.reply)) c.deref_mut.ensures.value in
     let after = ap (λ (m : Seated). m.0) c.leave-in-Ok-Some.ensures.passed ∙ ap (λ (m : Seated). turn_passed m.0 b) taken.1 in
     let found = ap (λ (x : View). x.found) after in
     let turn : OneTurn n taken.0 v w a b =
@@ -41,7 +41,7 @@ returns-in-Err-clause-err g c =
     let b = c.pass_idle.new.self in
     let n = c.args.number in
     let w = c.leave-in-Err.new.seat.me.0 in
-    let idle = c.pass_idle.ensures.idle ∙ ap idled c.in-Err.ensures.err in
+    let idle = c.pass_idle.ensures.idle ∙ ap idled (c.deref_mut-in-Err.ensures.value ∙ (c.in-Err.ensures.err ∙ c.deref_mut.ensures.value)) in
     let after = ap (λ (m : Seated). m.0) c.leave-in-Err.ensures.passed ∙ ap (λ (m : Seated). turn_passed m.0 b) taken.1 in
     let turn : OneTurn n taken.0 v w a b =
     record { rests = c.requires.rests.0; enters = taken.2; limits = ap (λ x. x.limits) idle; legal = c.pass_idle.ensures.legal; took = record { top = taken.4; few = taken.3; waits = taken.5 }; after = after } in
