@@ -20,11 +20,11 @@ use Rattle.strm_chain.specs.Stages.{composed}
 use Rattle.strm_chain.specs.Playing.{chain_start, ChainPlay, IsChainPlayed}
 use Rattle.strm_chain.specs.Flowing.{got_on, Flows}
 use Rattle.strm_chain.specs.Reporting.{is_told}
-use Rattle.strm_chain.specs.Turning.{Turns}
 use Rattle.strm_chain.specs.Running.{guests_made, streams_made, AreTurns, AreSomeTurns, IsChainRun}
 use Rattle.strm_chain.specs.Turned.{Turned}
 use Rattle.strm_chain.specs.Making.{IsReady}
-use Rattle.strm_chain.specs.Measuring.{IsStuck, LowersMeasure}
+use Rattle.strm_chain.specs.Measuring.{IsStuck}
+use Rattle.strm_chain.specs.Chains.{chain_of, TakesTurn, ComesTo}
 use Rattle.strm_chain.specs.Keeping.{ChainState, new_worker, worker_at, sink_of, stages_of, input_of, IsJoined, IsGoing, IsGoingUnless, IsChain, BeginsChain, ChainGoesOn}
 use Rattle.strm_chain.proofs.MomentLemmas.{played_run}
 use Rattle.strm_chain.proofs.JoinedLemmas.{OneChanged, either}
@@ -35,6 +35,7 @@ use Rattle.strm_chain.proofs.StandingLemmas.{stands}
 use Rattle.strm_chain.proofs.OutcomeLemmas.{turned_turns, turned_stage, turned_source}
 use Rattle.strm_chain.proofs.RoundLemmas.{AreAlike, turn_lowers, somebody_goes}
 use Rattle.strm_chain.proofs.TurningLemmas.{run_of}
+use Rattle.strm_chain.proofs.RoomLemmas.{turned_short}
 use Rattle.strm_chain.proofs.EndLemmas.{plain_of, counts_are, output_is, flows, all_composed}
 
 -- ## A turn
@@ -69,52 +70,44 @@ module _ {E : Type 0} (p q : ChainPlay) (ws ws' : List Worker) (g chunk : ℕ) (
             ∙ sym (ap (λ (w : Worker). w.closed) (one.others k (λ e. ne (sym e))))
       ])
 
-  pub going_ok : IsChainPlayed p → IsChainPlayed q → IsGoing p ws → IsTurned → OnOk r (IsGoing q ws')
-  going_ok a b go t = by r t
-    where
-      by : (x : Result ChainTurn E) → IfOk x (λ turn. Turned g chunk (worker_at ws g) p turn (worker_at ws' g) q) → OnOk x (IsGoing q ws')
-      by (Ok turn) y = record {
-        joined = turn_joined p ws g chunk go.joined there (played_run p a) within.1 q ws' turn (played_run q b).are one y;
-        told = told_on turn a go y;
-      }
-      by (Err e) y = tt
-
-  pub stages_ok : IsTurned → OnOk r (stages_of ws' ≡ stages_of ws)
-  stages_ok t = by r t
-    where
-      by : (x : Result ChainTurn E) → IfOk x (λ turn. Turned g chunk (worker_at ws g) p turn (worker_at ws' g) q) → OnOk x (stages_of ws' ≡ stages_of ws)
-      by (Ok turn) y = same_stages ws ws' g one (turned_stage g chunk (worker_at ws g) (worker_at ws' g) p q turn y)
-      by (Err e) y = tt
-
   same_input : IsJoined p ws → (turn : ChainTurn) → Turned g chunk (worker_at ws g) p turn (worker_at ws' g) q → input_of ws' ≡ input_of ws
   same_input j turn y =
       either (λ w w'. w.read ≡ None → w'.made ≡ w.made) g ws ws' 0 one (λ w none. refl)
       (λ none. turned_source g chunk (worker_at ws g) (worker_at ws' g) p q turn none y) j.source.0
 
-  pub input_ok : IsJoined p ws → IsTurned → OnOk r (input_of ws' ≡ input_of ws)
-  input_ok j t = by r t
-    where
-      by : (x : Result ChainTurn E) → IfOk x (λ turn. Turned g chunk (worker_at ws g) p turn (worker_at ws' g) q) → OnOk x (input_of ws' ≡ input_of ws)
-      by (Ok turn) y = same_input j turn y
-      by (Err e) y = tt
+  module _ (a : IsChainPlayed p) (b : IsChainPlayed q) (go : IsGoing p ws) where
+    joined_on : (turn : ChainTurn) → Turned g chunk (worker_at ws g) p turn (worker_at ws' g) q → IsJoined q ws'
+    joined_on turn y = turn_joined p ws g chunk go.joined there (played_run p a) within.1 q ws' turn (played_run q b).are one y
 
-  pub turns_ok : IsGoing p ws → IsTurned → IfOk r (λ turn. Turns (length ws - 1) chunk g turn p q)
-  turns_ok go t = by r t
-    where
-      by : (x : Result ChainTurn E) → IfOk x (λ turn. Turned g chunk (worker_at ws g) p turn (worker_at ws' g) q) → IfOk x (λ turn. Turns (length ws - 1) chunk g turn p q)
-      by (Ok turn) y = turned_turns (length ws - 1) g chunk (worker_at ws g) (worker_at ws' g) p q turn (omega (arith, within.0)) (stands p ws go g there) y
-      by (Err e) y = tt
+    -- the chain is kept
+    pub kept_ok : (2 ≤ length ws) × (length ws ≤ 10) → IsTurned → OnOk r (IsChain (chain_of q ws' chunk))
+    kept_ok some t = by r t
+      where
+        by : (x : Result ChainTurn E) → IfOk x (λ turn. Turned g chunk (worker_at ws g) p turn (worker_at ws' g) q) → OnOk x (IsChain (chain_of q ws' chunk))
+        by (Ok turn) y = record {
+          chunk = within;
+          some = subst (λ n. (2 ≤ n) × (n ≤ 10)) (sym one.many) some;
+          going = record { joined = joined_on turn y; told = told_on turn a go y };
+        }
+        by (Err e) y = tt
 
-  pub lowers_ok : IsChainPlayed p → IsChainPlayed q → IsGoing p ws → 2 ≤ length ws → IsTurned → IfOk r (λ turn. LowersMeasure g turn p.state ws q.state ws')
-  lowers_ok a b go some t = by r t
-    where
-      by : (x : Result ChainTurn E) → IfOk x (λ turn. Turned g chunk (worker_at ws g) p turn (worker_at ws' g) q) → IfOk x (λ turn. LowersMeasure g turn p.state ws q.state ws')
-      by (Ok turn) y =
-          turn_lowers p q ws ws' g chunk turn some there within.1 one
-          (record { many = one.many; stages = same_stages ws ws' g one (turned_stage g chunk (worker_at ws g) (worker_at ws' g) p q turn y); input = same_input go.joined turn y })
-          go.joined (turn_joined p ws g chunk go.joined there (played_run p a) within.1 q ws' turn (played_run q b).are one y)
-          (played_run p a) (played_run q b) y
-      by (Err e) y = tt
+    -- and the turn is one of it
+    pub takes_ok : 2 ≤ length ws → IsTurned → IfOk r (λ turn. TakesTurn g turn (chain_of p ws chunk) (chain_of q ws' chunk))
+    takes_ok some t = by r t
+      where
+        by : (x : Result ChainTurn E) → IfOk x (λ turn. Turned g chunk (worker_at ws g) p turn (worker_at ws' g) q) → IfOk x (λ turn. TakesTurn g turn (chain_of p ws chunk) (chain_of q ws' chunk))
+        by (Ok turn) y =
+            let stages = same_stages ws ws' g one (turned_stage g chunk (worker_at ws g) (worker_at ws' g) p q turn y) in
+            let input = same_input go.joined turn y in
+            record {
+              turns = turned_turns (length ws - 1) g chunk (worker_at ws g) (worker_at ws' g) p q turn (omega (arith, within.0)) (stands p ws go g there) y;
+              short = turned_short g chunk (worker_at ws g) (worker_at ws' g) p q turn y;
+              goes_on = record { many = one.many; stages = stages; input = input; chunk = refl };
+              runs = refl;
+              lowers = turn_lowers p q ws ws' g chunk turn some there within.1 one (record { many = one.many; stages = stages; input = input })
+                  go.joined (joined_on turn y) (played_run p a) (played_run q b) y;
+            }
+        by (Err e) y = tt
 
 -- ## A chain
 
@@ -126,6 +119,24 @@ written_back n new old many e =
 pub going_of : (failed : Bool) (p : ChainPlay) (ws : List Worker) → IsGoingUnless failed p ws → failed ≡ false → IsGoing p ws
 going_of true p ws go e = cc
 going_of false p ws go e = go
+
+-- a chain that goes on, as the call that lent its guests has it, and behind it
+abbrev flagged : Bool → ChainState → ChainState
+flagged failed chain = record chain { failed = failed }
+
+pub chain_lent : (chain : ChainState) → IsChain chain → chain.failed ≡ false → IsChain (chain_of chain.play chain.workers chain.chunk)
+chain_lent chain x runs = record { chunk = x.chunk; some = x.some; going = going_of chain.failed chain.play chain.workers x.going runs }
+
+module _ {q : ChainPlay} {ws' back : List Worker} {chunk : ℕ} {failed : Bool} (runs : failed ≡ false) (same : back ≡ ws') where
+  pub kept_back : IsChain (chain_of q ws' chunk) → IsChain (flagged failed (chain_of q back chunk))
+  kept_back x =
+      subst (λ f. IsChain (flagged f (chain_of q back chunk))) (sym runs) (subst (λ ws. IsChain (chain_of q ws chunk)) (sym same) x)
+
+  pub turn_back : {who : ℕ} {turn : ChainTurn} {old : ChainState} {p : ChainPlay} {ws : List Worker} → flagged failed (chain_of p ws chunk) ≡ old → TakesTurn who turn (chain_of p ws chunk) (chain_of q ws' chunk) → TakesTurn who turn old (flagged failed (chain_of q back chunk))
+  turn_back {who} {turn} {old} {p} {ws} view t =
+      subst (λ (o : ChainState). TakesTurn who turn o (flagged failed (chain_of q back chunk))) view
+      (subst (λ f. TakesTurn who turn (flagged f (chain_of p ws chunk)) (flagged f (chain_of q back chunk))) (sym runs)
+      (subst (λ b. TakesTurn who turn (chain_of p ws chunk) (chain_of q b chunk)) (sym same) t))
 
 -- not all of its guests are stuck where it goes on
 pub goes_of : (chain : ChainState) → IsChain chain → IsChainPlayed chain.play → chain.failed ≡ false → is_told (length chain.workers - 1) chain.play.steps chain.play.replies ≡ false → ((g : ℕ) → g < length chain.workers → IsStuck g (worker_at chain.workers g) chain.play.state) → ⊥
@@ -193,76 +204,77 @@ module _ (p : ChainPlay) (ws : List Worker) (some : (2 ≤ length ws) × (length
 
 module _ {T E : Type 0} (steps : T → List Step) (replies : T → List Reply) (out : T → List ℕ) (ended : T → Bool)
     (stages : List Stage) (input : List ℕ) (chunk : ℕ) (a b : ChainState) (r : Result T E) (begins : BeginsChain stages input chunk a) where
-  -- what it has come to is its play
-  abbrev pub IsPlayOf : Result T E → Type 0
-  IsPlayOf x = IfOk x (λ e. steps e ≡ b.play.steps) × IfOk x (λ e. replies e ≡ b.play.replies) × IfOk x (λ e. play [] chain_start (steps e) ≡ Ends (replies e) b.play.state)
+  -- what it has come to
+  abbrev pub HasCome : Result T E → Type 0
+  HasCome x = IfOk x (λ e. ComesTo b.play b.workers (out e) (ended e) (steps e) (replies e))
 
-  run_by : (whos : List ℕ) → AreTurns (length a.workers - 1) a.chunk whos a.play b.play → (x : Result T E) → IsPlayOf x → IfOk x (λ e. IsChainRun (length stages) chunk whos (steps e) (replies e))
+  run_by : (whos : List ℕ) → AreTurns (length a.workers - 1) a.chunk whos a.play b.play → (x : Result T E) → HasCome x → IfOk x (λ e. IsChainRun (length stages) chunk whos (steps e) (replies e))
   run_by whos t (Ok e) p =
       run_of (length stages) chunk whos a.play b.play (steps e) (replies e) begins.steps_are begins.plays
       (subst (λ n. AreTurns n chunk whos a.play b.play) (omega (arith, begins.many)) (subst (λ n. AreTurns (length a.workers - 1) n whos a.play b.play) begins.chunk_is t))
-      p.0 p.1 p.2
+      p.steps_are p.replies_are p.plays
   run_by whos t (Err e) p = tt
 
   module _ (schedule : List ℕ) where
-    pub run_ok : AreTurns (length a.workers - 1) a.chunk (map (λ s. s % length a.workers) schedule) a.play b.play → IsPlayOf r → IfOk r (λ e. IsChainRun (length stages) chunk (map (λ s. s % (length stages + 2)) schedule) (steps e) (replies e))
+    pub run_ok : AreTurns (length a.workers - 1) a.chunk (map (λ s. s % length a.workers) schedule) a.play b.play → HasCome r → IfOk r (λ e. IsChainRun (length stages) chunk (map (λ s. s % (length stages + 2)) schedule) (steps e) (replies e))
     run_ok turns p =
         run_by (map (λ s. s % (length stages + 2)) schedule)
         (subst (λ n. AreTurns (length a.workers - 1) a.chunk (map (λ s. s % n) schedule) a.play b.play) begins.many turns) r p
 
   -- by some schedule
-  pub some_run_ok : AreSomeTurns (length a.workers - 1) a.chunk a.play b.play → IsPlayOf r → IfOk r (λ e. (whos : List ℕ) × IsChainRun (length stages) chunk whos (steps e) (replies e))
+  pub some_run_ok : AreSomeTurns (length a.workers - 1) a.chunk a.play b.play → HasCome r → IfOk r (λ e. (whos : List ℕ) × IsChainRun (length stages) chunk whos (steps e) (replies e))
   some_run_ok turns p = by r (run_by turns.0 turns.1 r p)
     where
       by : (x : Result T E) → IfOk x (λ e. IsChainRun (length stages) chunk turns.0 (steps e) (replies e)) → IfOk x (λ e. (whos : List ℕ) × IsChainRun (length stages) chunk whos (steps e) (replies e))
       by (Ok e) y = (turns.0, y)
       by (Err e) y = tt
 
-  -- it tells whether the sink was told
-  pub ended_ok : ChainGoesOn a b → IfOk r (λ e. ended e ≡ is_told (length b.workers - 1) (steps e) (replies e)) → IfOk r (λ e. ended e ≡ is_told (length stages + 1) (steps e) (replies e))
-  ended_ok goes = by r
-    where
-      by : (x : Result T E) → IfOk x (λ e. ended e ≡ is_told (length b.workers - 1) (steps e) (replies e)) → IfOk x (λ e. ended e ≡ is_told (length stages + 1) (steps e) (replies e))
-      by (Ok e) f = f ∙ ap (λ n. is_told n (steps e) (replies e)) (sink_number stages input chunk a b begins goes)
-      by (Err e) f = tt
-
-  pub flows_ok : ChainGoesOn a b → IfOk r (λ e. Flows (stages_of b.workers) (input_of b.workers) (out e) (steps e)) → IfOk r (λ e. Flows stages input (out e) (steps e))
-  flows_ok goes = by r
-    where
-      by : (x : Result T E) → IfOk x (λ e. Flows (stages_of b.workers) (input_of b.workers) (out e) (steps e)) → IfOk x (λ e. Flows stages input (out e) (steps e))
-      by (Ok e) f = flows_begun stages input chunk a b (out e) (steps e) begins goes f
-      by (Err e) f = tt
-
-  pub composed_ok : ChainGoesOn a b → IfOk r (λ e. ended e ≡ true → out e ≡ composed (stages_of b.workers) (input_of b.workers)) → IfOk r (λ e. ended e ≡ true → out e ≡ composed stages input)
-  composed_ok goes = by r
-    where
-      by : (x : Result T E) → IfOk x (λ e. ended e ≡ true → out e ≡ composed (stages_of b.workers) (input_of b.workers)) → IfOk x (λ e. ended e ≡ true → out e ≡ composed stages input)
-      by (Ok e) f = λ d. composed_begun stages input chunk a b (out e) begins goes (f d)
-      by (Err e) f = tt
-
-  -- and where the sink was told
-  module _ (goes : ChainGoesOn a b) (told : is_told (length b.workers - 1) b.play.steps b.play.replies ≡ true) (plays : IsPlayOf r) where
-    told_by : (x : Result T E) → IsPlayOf x → IfOk x (λ e. is_told (length b.workers - 1) (steps e) (replies e) ≡ true)
-    told_by (Ok e) p = ap (λ xs. is_told (length b.workers - 1) xs (replies e)) p.0 ∙ ap (is_told (length b.workers - 1) b.play.steps) p.1 ∙ told
-    told_by (Err e) p = tt
-
-    pub told_ok : IfOk r (λ e. is_told (length stages + 1) (steps e) (replies e) ≡ true)
-    told_ok = by r (told_by r plays)
+  -- of the stages and the input that it began with
+  module _ (goes : ChainGoesOn a b) (came : HasCome r) where
+    -- it tells whether the sink was told
+    pub ended_ok : IfOk r (λ e. ended e ≡ is_told (length stages + 1) (steps e) (replies e))
+    ended_ok = by r came
       where
-        by : (x : Result T E) → IfOk x (λ e. is_told (length b.workers - 1) (steps e) (replies e) ≡ true) → IfOk x (λ e. is_told (length stages + 1) (steps e) (replies e) ≡ true)
-        by (Ok e) f = ap (λ n. is_told n (steps e) (replies e)) (sym (sink_number stages input chunk a b begins goes)) ∙ f
-        by (Err e) f = tt
+        by : (x : Result T E) → HasCome x → IfOk x (λ e. ended e ≡ is_told (length stages + 1) (steps e) (replies e))
+        by (Ok e) p = p.ended ∙ ap (λ n. is_told n (steps e) (replies e)) (sink_number stages input chunk a b begins goes)
+        by (Err e) p = tt
 
-    pub all_ended_ok : IfOk r (λ e. ended e ≡ is_told (length b.workers - 1) (steps e) (replies e)) → IfOk r (λ e. ended e ≡ true)
-    all_ended_ok = by r (told_by r plays)
+    pub flows_ok : IfOk r (λ e. Flows stages input (out e) (steps e))
+    flows_ok = by r came
       where
-        by : (x : Result T E) → IfOk x (λ e. is_told (length b.workers - 1) (steps e) (replies e) ≡ true) → IfOk x (λ e. ended e ≡ is_told (length b.workers - 1) (steps e) (replies e)) → IfOk x (λ e. ended e ≡ true)
-        by (Ok e) f g = g ∙ f
-        by (Err e) f g = tt
+        by : (x : Result T E) → HasCome x → IfOk x (λ e. Flows stages input (out e) (steps e))
+        by (Ok e) p = flows_begun stages input chunk a b (out e) (steps e) begins goes p.flows
+        by (Err e) p = tt
 
-    pub all_ok : IfOk r (λ e. ended e ≡ is_told (length b.workers - 1) (steps e) (replies e)) → IfOk r (λ e. ended e ≡ true → out e ≡ composed (stages_of b.workers) (input_of b.workers)) → IfOk r (λ e. out e ≡ composed stages input)
-    all_ok d f = by r (all_ended_ok d) f
+    pub composed_ok : IfOk r (λ e. ended e ≡ true → out e ≡ composed stages input)
+    composed_ok = by r came
       where
-        by : (x : Result T E) → IfOk x (λ e. ended e ≡ true) → IfOk x (λ e. ended e ≡ true → out e ≡ composed (stages_of b.workers) (input_of b.workers)) → IfOk x (λ e. out e ≡ composed stages input)
-        by (Ok e) d f = composed_begun stages input chunk a b (out e) begins goes (f d)
-        by (Err e) d f = tt
+        by : (x : Result T E) → HasCome x → IfOk x (λ e. ended e ≡ true → out e ≡ composed stages input)
+        by (Ok e) p = λ d. composed_begun stages input chunk a b (out e) begins goes (p.whole d)
+        by (Err e) p = tt
+
+    -- and where the sink was told
+    module _ (told : is_told (length b.workers - 1) b.play.steps b.play.replies ≡ true) where
+      told_at : (e : T) → ComesTo b.play b.workers (out e) (ended e) (steps e) (replies e) → is_told (length b.workers - 1) (steps e) (replies e) ≡ true
+      told_at e p = ap (λ xs. is_told (length b.workers - 1) xs (replies e)) p.steps_are ∙ ap (is_told (length b.workers - 1) b.play.steps) p.replies_are ∙ told
+
+      pub told_ok : IfOk r (λ e. is_told (length stages + 1) (steps e) (replies e) ≡ true)
+      told_ok = by r came
+        where
+          by : (x : Result T E) → HasCome x → IfOk x (λ e. is_told (length stages + 1) (steps e) (replies e) ≡ true)
+          by (Ok e) p = ap (λ n. is_told n (steps e) (replies e)) (sym (sink_number stages input chunk a b begins goes)) ∙ told_at e p
+          by (Err e) p = tt
+
+      pub all_ended_ok : IfOk r (λ e. ended e ≡ true)
+      all_ended_ok = by r came
+        where
+          by : (x : Result T E) → HasCome x → IfOk x (λ e. ended e ≡ true)
+          by (Ok e) p = p.ended ∙ told_at e p
+          by (Err e) p = tt
+
+      pub all_ok : IfOk r (λ e. out e ≡ composed stages input)
+      all_ok = by r came
+        where
+          by : (x : Result T E) → HasCome x → IfOk x (λ e. out e ≡ composed stages input)
+          by (Ok e) p = composed_begun stages input chunk a b (out e) begins goes (p.whole (p.ended ∙ told_at e p))
+          by (Err e) p = tt

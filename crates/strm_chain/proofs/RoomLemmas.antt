@@ -1,6 +1,6 @@
 -- How many steps a chain makes, at most.
 use Rattle.std.proofs.Common.{◌≡◌, ℕ, zero, suc, ◌+◌, ◌*◌, ◌<◌, ◌≤◌, Bool, true, false, cond, List, [], ◌∷◌, ◌++◌, length, refl, ap, ◌∙◌, ltb-false, arith}
-use Rattle.std.specs.Prelude.{Result, Ok, Err, IfOk, OnOk, Some, None, count_by, nat_lt, if◌then◌else◌}
+use Rattle.std.specs.Prelude.{Result, Ok, Err, IfOk, Some, None, count_by, nat_lt, if◌then◌else◌}
 use Rattle.std.proofs.Math.Nat.{mul-le-mul_right}
 use Rattle.std.proofs.lemmas.List.{length_push, length-append, length-replicate}
 use Rattle.std.proofs.lemmas.List.Sums.{sum_by-cons}
@@ -13,8 +13,8 @@ use Rattle.strm_chain.specs.declared.workers.Worker.{Worker}
 use Rattle.strm_chain.specs.declared.workers.Doing.{Doing}
 use Rattle.strm_chain.specs.declared.workers.Doing.TheVariants.{Nothing, Reading, Writing, Ended}
 use Rattle.strm_chain.specs.declared.workers.ChainTurn.{ChainTurn}
-use Rattle.strm_chain.specs.declared.chains.ChainError.{ChainError}
-use Rattle.strm_chain.specs.declared.chains.ChainError.TheVariants.{TooManyStages, TooManyTwice, TooLong}
+use Rattle.strm_chain.specs.declared.faults.ChainError.{ChainError}
+use Rattle.strm_chain.specs.declared.faults.ChainError.TheVariants.{TooManyStages, TooManyTwice, TooLong}
 use Rattle.strm_chain.specs.Faults.{is_twice, fault_of}
 use Rattle.strm_chain.specs.Playing.{ChainPlay, Adds, HasRoomForSteps, bytes_type}
 use Rattle.strm_chain.specs.Turned.{Turned, Rests, Waits, ReadOpens, ReadServes, ReadSettles, WriteOpens, WriteServes, WriteSettles, Ends}
@@ -38,7 +38,7 @@ by_one p q step reply a = omega (arith, one_longer p q step reply a)
 by_two : (p mid q : ChainPlay) (step other : Step) (reply answer : Reply) → Adds p mid step reply → Adds mid q other answer → length q.steps ≤ length p.steps + 2
 by_two p mid q step other reply answer a b = omega (arith, one_longer p mid step reply a, one_longer mid q other answer b)
 
-turned_short : (g chunk : ℕ) (w w' : Worker) (p q : ChainPlay) (turn : ChainTurn) → Turned g chunk w p turn w' q → length q.steps ≤ length p.steps + 2
+pub turned_short : (g chunk : ℕ) (w w' : Worker) (p q : ChainPlay) (turn : ChainTurn) → Turned g chunk w p turn w' q → length q.steps ≤ length p.steps + 2
 turned_short g chunk w w' p q turn (Rests t e is same) = omega (arith, ap (λ (x : ChainPlay). length x.steps) same)
 turned_short g chunk w w' p q turn (Waits t is x) = by_one p q _ _ x.hears
 turned_short g chunk w w' p q turn (ReadOpens t x is) = by_one p q _ _ x.adds
@@ -48,11 +48,6 @@ turned_short g chunk w w' p q turn (WriteOpens t x is) = by_two p x.mid q _ _ _ 
 turned_short g chunk w w' p q turn (WriteServes code t x h) = by_two p x.mid q _ _ _ _ x.pokes.adds x.adds
 turned_short g chunk w w' p q turn (WriteSettles code t x h) = by_one p q _ _ x.adds
 turned_short g chunk w w' p q turn (Ends t x) = by_one p q _ _ x.adds
-
-module _ {E : Type 0} (p q : ChainPlay) (w w' : Worker) (g chunk : ℕ) where
-  pub short_ok : (r : Result ChainTurn E) → IfOk r (λ turn. Turned g chunk w p turn w' q) → OnOk r (length q.steps ≤ length p.steps + 2)
-  short_ok (Ok turn) t = turned_short g chunk w w' p q turn t
-  short_ok (Err e) t = tt
 
 -- ## The making
 

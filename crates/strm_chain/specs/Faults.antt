@@ -2,8 +2,8 @@
 use Rattle.std.specs.Prelude.{◌≡◌, ℕ, Bool, true, false, if◌then◌else◌, List, length, count_by, nat_lt, Option, Some, None, ◌⊎◌}
 use Rattle.strm_chain.specs.declared.stages.Stage.{Stage}
 use Rattle.strm_chain.specs.declared.stages.Stage.TheVariants.{Twice}
-use Rattle.strm_chain.specs.declared.chains.ChainError.{ChainError}
-use Rattle.strm_chain.specs.declared.chains.ChainError.TheVariants.{TooManyStages, TooManyTwice, TooLong, OutOfMemory}
+use Rattle.strm_chain.specs.declared.faults.ChainError.{ChainError}
+use Rattle.strm_chain.specs.declared.faults.ChainError.TheVariants.{TooManyStages, TooManyTwice, TooLong, OutOfMemory}
 
 -- whether a stage is Twice
 abbrev pub is_twice : Stage → Bool

@@ -29,5 +29,6 @@ pub record Flows (stages : List Stage) (input written : List ℕ) (steps : List 
   pub bytes : ℕ → List ℕ
   pub received : (i : ℕ) → i ≤ length stages → got_on steps i ≡ as_items (bytes i)
   pub first : IsFront (bytes 0) input
-  pub behind : (i : ℕ) → i < length stages → IsFront (bytes (i + 1)) (of (stage_at stages i) (bytes i))
+  pub behind : (i : ℕ) → i < length stages →
+      IsFront (bytes (i + 1)) (of (stage_at stages i) (bytes i))
   pub output : written ≡ bytes (length stages)

@@ -64,7 +64,8 @@ pub record WritesOn (g : ℕ) (w : Worker) (state : State) (received : Items) : 
   pub handle : ℕ
   pub has : w.write ≡ Some handle
   pub owner : w.doing ≢ Ended → (stream_at state g).writer.owner ≡ Held g handle
-  pub sends : Sends g 64 w.sent w.made (memory_in state.guests g) (stream_at state g).writer.operation received
+  pub sends : Sends g 64 w.sent w.made (memory_in state.guests g)
+      (stream_at state g).writer.operation received
   pub idle : w.doing ≢ Writing → (stream_at state g).writer.operation ≡ None
   pub busy : w.doing ≡ Writing → IsSome (stream_at state g).writer.operation
   pub gone : w.doing ≡ Ended → is_gone (stream_at state g).writer.owner ≡ true
@@ -95,8 +96,8 @@ pub record ReadsFrom (s : ℕ) (w : Worker) (state : State) (received : Items) :
   pub handle : ℕ
   pub has : w.read ≡ Some handle
   pub owner : (stream_at state s).reader.owner ≡ Held (s + 1) handle
-  pub takes : Takes (s + 1) 0 (work_begun w.work.stage) w.work w.made (memory_in state.guests (s + 1))
-      (stream_at state s).reader.operation received
+  pub takes : Takes (s + 1) 0 (work_begun w.work.stage) w.work w.made
+      (memory_in state.guests (s + 1)) (stream_at state s).reader.operation received
   pub idle : w.doing ≢ Reading → (stream_at state s).reader.operation ≡ None
   pub busy : w.doing ≡ Reading → IsSome (stream_at state s).reader.operation
   pub unclosed : w.doing ≡ Reading → w.closed ≡ false
@@ -156,7 +157,8 @@ pub record IsChain (chain : ChainState) : Type 0 where
   pub going : IsGoingUnless chain.failed chain.play chain.workers
 
 -- a chain of these stages, this input and this chunk, in which no guest has had a turn
-pub record BeginsChain (stages : List Stage) (input : List ℕ) (chunk : ℕ) (chain : ChainState) : Type 0 where
+pub record BeginsChain (stages : List Stage) (input : List ℕ)
+    (chunk : ℕ) (chain : ChainState) : Type 0 where
   pub many : length chain.workers ≡ length stages + 2
   pub stages_are : stages_of chain.workers ≡ stages
   pub input_is : input_of chain.workers ≡ input

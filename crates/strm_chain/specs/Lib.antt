@@ -8,6 +8,7 @@ pub mod Flowing
 pub mod Linking
 pub mod Keeping
 pub mod Measuring
+pub mod Chains
 pub mod Turned
 pub mod Making
 pub mod Asking

@@ -29,14 +29,16 @@ OffersIf g at sent made memory (Some o) = OffersWrite g at sent made memory o
 
 -- what was received on a stream is the front of what its guest has put out: what was handed over, and what
 -- the write that waits has moved
-pub record Sends (g at sent : ℕ) (made memory : List ℕ) (o : Option Operation) (received : List (Option (List ℤ))) : Type 0 where
+pub record Sends (g at sent : ℕ) (made memory : List ℕ)
+    (o : Option Operation) (received : List (Option (List ℤ))) : Type 0 where
   pub front : received ≡ as_items (take (sent + moved_of o) made)
   pub within : sent + moved_of o ≤ length made
   pub offers : OffersIf g at sent made memory o
 
 -- guest g has taken these bytes, and its stage has put out what it makes of them. Behind them a read that
 -- waits has moved some, and they lie where it reads to
-pub record HoldsRead (g at : ℕ) (memory : List ℕ) (o : Operation) (rest : List (Option (List ℤ))) : Type 0 where
+pub record HoldsRead (g at : ℕ) (memory : List ℕ)
+    (o : Operation) (rest : List (Option (List ℤ))) : Type 0 where
   pub count : ℕ
   pub begun : IsOperationBegun g at count o
   pub inside : at + count ≤ length memory
@@ -50,7 +52,8 @@ HoldsIf g at memory (Some o) rest = HoldsRead g at memory o rest
 
 -- a guest that reads to this place has taken bytes of what it received, and its stage has put out what it makes
 -- of them; the rest lies where the read that waits reads to
-pub record Takes (g at : ℕ) (first work : Work) (made memory : List ℕ) (o : Option Operation) (received : List (Option (List ℤ))) : Type 0 where
+pub record Takes (g at : ℕ) (first work : Work) (made memory : List ℕ)
+    (o : Option Operation) (received : List (Option (List ℤ))) : Type 0 where
   pub taken : List ℕ
   pub rest : List (Option (List ℤ))
   pub split : received ≡ as_items taken ++ rest
@@ -60,7 +63,8 @@ pub record Takes (g at : ℕ) (first work : Work) (made memory : List ℕ) (o : 
 
 -- a read of guest g is over, and k items that it moved lie where it reads to; its stage has taken the ones
 -- before them
-pub record Arrived (at k : ℕ) (first work : Work) (made memory : List ℕ) (received : List (Option (List ℤ))) : Type 0 where
+pub record Arrived (at k : ℕ) (first work : Work) (made memory : List ℕ)
+    (received : List (Option (List ℤ))) : Type 0 where
   pub taken : List ℕ
   pub split : received ≡ as_items taken ++ as_items (bytes_at memory at k)
   pub makes : made ≡ work_done first taken

@@ -48,7 +48,8 @@ IsNew play s write read = stream_at play.state s ≡ made_stream bytes_type s wr
 pub record MakesPair (s : ℕ) (play : ChainPlay) (pair : Pair) (play' : ChainPlay) : Type 0 where
   pub made : (guests : ℕ) → AreMade guests s play → AreMade guests (s + 1) play'
   pub new : length play.state.streams ≡ s → IsNew play' s pair.write pair.read
-  pub others : (k : ℕ) → k < length play.state.streams → stream_at play'.state k ≡ stream_at play.state k
+  pub others : (k : ℕ) → k < length play.state.streams →
+      stream_at play'.state k ≡ stream_at play.state k
 
 -- guest s was given the write end of stream s, and nothing of that stream has moved
 pub record HasWrite (s : ℕ) (w : Worker) (play : ChainPlay) : Type 0 where
@@ -71,7 +72,8 @@ abbrev pub source_of : List ℕ → ℕ → Worker
 source_of input write = record (new_worker Copy) { write = Some write; made = input; closed = true }
 
 -- the first i + 1 guests of a chain, joined, and the read end that waits for the next one
-pub record AreJoined (input : List ℕ) (i read : ℕ) (stages : List Stage) (play : ChainPlay) (workers : List Worker) : Type 0 where
+pub record AreJoined (input : List ℕ) (i read : ℕ) (stages : List Stage)
+    (play : ChainPlay) (workers : List Worker) : Type 0 where
   pub many : length workers ≡ i + 1
   pub stages_are : map (λ w. w.work.stage) (drop 1 workers) ≡ take i stages
   pub source : (write : ℕ) × (worker_at workers 0 ≡ source_of input write)
@@ -80,11 +82,13 @@ pub record AreJoined (input : List ℕ) (i read : ℕ) (stages : List Stage) (pl
   pub next : (write : ℕ) × IsNew play i write read
 
 -- a chain whose guests and streams were made, in which no guest has had a turn
-pub record IsReady (stages : List Stage) (input : List ℕ) (play : ChainPlay) (workers : List Worker) : Type 0 where
+pub record IsReady (stages : List Stage) (input : List ℕ)
+    (play : ChainPlay) (workers : List Worker) : Type 0 where
   pub many : length workers ≡ length stages + 2
   pub stages_are : map (λ w. w.work.stage) (take (length workers - 2) (drop 1 workers)) ≡ stages
   pub made : AreMade (length workers) (length stages + 1) play
   pub source : (write : ℕ) × (worker_at workers 0 ≡ source_of input write)
   pub writes : (s : ℕ) → s < length stages + 1 → HasWrite s (worker_at workers s) play
   pub reads : (s : ℕ) → s < length stages + 1 → HasRead s (worker_at workers (s + 1)) play
-  pub sink : (read : ℕ) × (worker_at workers (length workers - 1) ≡ record (new_worker Copy) { read = Some read })
+  pub sink : (read : ℕ)
+      × (worker_at workers (length workers - 1) ≡ record (new_worker Copy) { read = Some read })

@@ -37,7 +37,8 @@ unclosed false = 2
 -- what guest g has still to do, where no stream carries more bytes than `most`
 abbrev pub to_do_of : ℕ → State → ℕ → Worker → ℕ
 to_do_of most state g w =
-    2 * (most - taken_in_bytes state (g - 1)) + 2 * (most - w.sent) + unclosed w.closed + rank w.doing
+    2 * (most - taken_in_bytes state (g - 1)) + 2 * (most - w.sent)
+    + unclosed w.closed + rank w.doing
 
 -- what the first so many guests have
 unfoldable pub to_do_to : ℕ → State → List Worker → ℕ → ℕ
@@ -62,8 +63,9 @@ pub data IsStuck (g : ℕ) (w : Worker) (state : State) : Type 0 where
       report_on AWrite (stream_at state g) ≡ None → IsStuck g w state
 
 -- a turn of guest g left less to do, or all as it was, and then the guest was stuck
-pub data LowersMeasure (g : ℕ) (turn : ChainTurn) (old : State) (workers : List Worker) (new : State)
-    (workers' : List Worker) : Type 0 where
-  Less : turn ≡ Moved → to_do new workers' < to_do old workers → LowersMeasure g turn old workers new workers'
+pub data LowersMeasure (g : ℕ) (turn : ChainTurn) (old : State) (workers : List Worker)
+    (new : State) (workers' : List Worker) : Type 0 where
+  Less : turn ≡ Moved → to_do new workers' < to_do old workers →
+      LowersMeasure g turn old workers new workers'
   Same : turn ≡ Idle → new ≡ old → ((k : ℕ) → worker_at workers' k ≡ worker_at workers k) →
       IsStuck g (worker_at workers g) old → LowersMeasure g turn old workers new workers'

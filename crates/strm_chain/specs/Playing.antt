@@ -35,7 +35,8 @@ pub record Follows (steps : List Step) (replies : List Reply) (state : State) : 
   pub bytes : All StepHasBytes steps
 
 -- a step behind these was done, and had this reply
-pub record IsAnswered (steps : List Step) (replies : List Reply) (step : Step) (reply : Reply) (next : State) : Type 0 where
+pub record IsAnswered (steps : List Step) (replies : List Reply) (step : Step) (reply : Reply)
+    (next : State) : Type 0 where
   pub before : State
   pub follows : Follows steps replies before
   pub room : length steps + 1 ≤ 4294967295

@@ -34,7 +34,8 @@ AreSomeTurns sink chunk before after = (whos : List ℕ) × AreTurns sink chunk 
 
 -- a run of a chain of n stages: the steps that make it, and the turns of a schedule behind them, with the
 -- replies of the machine's play
-pub record IsChainRun (n chunk : ℕ) (whos : List ℕ) (steps : List Step) (told : List Reply) : Type 0 where
+pub record IsChainRun (n chunk : ℕ) (whos : List ℕ)
+    (steps : List Step) (told : List Reply) : Type 0 where
   -- the chain before the first turn, and behind the last one
   pub first : ChainPlay
   pub last : ChainPlay

@@ -1,11 +1,10 @@
 -- What the program writes, and why. Ours.
-use Rattle.std.specs.Prelude.{◌≡◌, ◌≢◌, ◌≤◌, ◌<◌, ◌+◌, ◌⊎◌, ℕ, true, List, length, codes, Option, Some, IfSome}
-use Rattle.std.specs.Io.KnownBytes.{IsAtEnd}
+use Rattle.std.specs.Prelude.{◌≡◌, ◌≤◌, ◌<◌, ◌+◌, ◌⊎◌, ℕ, true, List, length, codes, Option, IfSome}
+use Rattle.strm_codes.specs.Counters.{Rose}
 use Rattle.strm_machine.specs.declared.steps.Step.{Step}
 use Rattle.strm_machine.specs.declared.replies.Reply.{Reply}
-use Rattle.strm_codes.specs.Counters.{Rose}
+use Rattle.strm_input_output.specs.Serving.{IsFaultless, IsOr, IsOfSource, IsOfWords}
 use Rattle.strm_lines.specs.Grammar.{IsBetween}
-use Rattle.strm_lines.specs.Text.{too_long_text, read_fault_text}
 use Rattle.strm_chain.specs.declared.stages.Stage.{Stage}
 use Rattle.strm_chain.specs.Stages.{composed}
 use Rattle.strm_chain.specs.Flowing.{Flows}
@@ -35,31 +34,34 @@ pub record IsPipedBy (chunk : ℕ) (stages : List Stage) (input output : List �
 -- the same, of the stages and in the pieces that the words ask for
 abbrev pub IsPiped : List (List ℕ) → List ℕ → List ℕ → Type 0
 IsPiped words input output =
-    (chunk : ℕ) (stages : List Stage) → Asks words chunk stages → IsPipedBy chunk stages input output
+    (chunk : ℕ) (stages : List Stage) → Asks words chunk stages →
+    IsPipedBy chunk stages input output
+
+-- the status of an input that was read and is within the limit
+abbrev pub IsOfStages : ℕ → Type 0
+IsOfStages status = status ≡ 0
 
 -- a status but 5 and 9, and what is written with it, by why they come: from the program's words, the bytes
 -- that the source had left before and has left after, where these are told, and the source's faults before
 -- and after
 pub record IsChainOutput (words : List (List ℕ)) (left rest : Option (List ℕ))
     (before after status : ℕ) (text : List ℕ) : Type 0 where
-  pub known : (status ≤ 1) ⊎ ((status ≡ 3) ⊎ (status ≡ 4))
-  pub asked : status ≢ 1 → IsChainAsked words
+  pub by_words : IsOfWords (IsChainAsked words) chain_usage_text
+      (IsOfSource IsOfStages IsChainTooLong left rest before after) status text
   pub done : status ≡ 0 → IfSome left (λ input. IsPiped words input text)
-  pub usage : status ≡ 1 → (¬ IsChainAsked words) × (text ≡ chain_usage_text)
-  pub too_long : status ≡ 3 → IfSome left IsChainTooLong × (text ≡ too_long_text)
-  pub read_fault : status ≡ 4 → Rose before after × (text ≡ read_fault_text)
-  pub within : status ≡ 0 → IfSome left (λ input. ¬ IsChainTooLong input)
-  -- the source was read to its end
-  pub whole : status ≡ 0 → IsAtEnd rest
 
 -- the statuses of the program
 abbrev pub IsChainStatus : ℕ → Type 0
 IsChainStatus status = (status ≤ 1) ⊎ ((IsBetween 3 5 status) ⊎ (status ≡ 9))
 
--- the words ask for a chain, the source has this input left, and neither source nor sink fails
-pub record IsChainFaultless (words : List (List ℕ)) (left : Option (List ℕ)) (input : List ℕ)
-    (source_before source_after sink_before sink_after : ℕ) : Type 0 where
-  pub asked : IsChainAsked words
-  pub input_is : left ≡ Some input
-  pub source : ¬ Rose source_before source_after
-  pub sink : ¬ Rose sink_before sink_after
+-- which status comes, but for a fault of source or sink and for running out of memory, by causes that a caller
+-- sees: an input within the limit is passed through; one over it is told, and so is how to call the program
+pub record IsChainComplete (words : List (List ℕ)) (left : Option (List ℕ))
+    (source_before source_after sink_before sink_after status : ℕ) : Type 0 where
+  pub complete : (input : List ℕ) → IsChainAsked words →
+      IsFaultless left input source_before source_after sink_before sink_after →
+      ¬ IsChainTooLong input → IsOr 0 status
+  pub too_long : (input : List ℕ) → IsChainAsked words →
+      IsFaultless left input source_before source_after sink_before sink_after →
+      IsChainTooLong input → IsOr 3 status
+  pub usage : ¬ IsChainAsked words → ¬ Rose sink_before sink_after → IsOr 1 status

@@ -62,6 +62,11 @@ work_after work b = record {
   left = work.left - 1;
 }
 
+-- the sum of a number and bytes, modulo 256
+unfoldable pub added : ℕ → List ℕ → ℕ
+added total [] = total
+added total (b ∷ bs) = added ((total + b) % 256) bs
+
 -- what a stage under way puts out for a list of bytes
 unfoldable pub work_done : Work → List ℕ → List ℕ
 work_done work [] = []

@@ -28,7 +28,8 @@ pub record HearsNone (g : ℕ) (w : Worker) (play play' : ChainPlay) : Type 0 wh
   pub hears : Adds play play' (steps.Event g handle) (replies.Event None)
 
 -- guest g reads, to byte 0 of its memory, and is answered this code
-pub record Reads (g chunk : ℕ) (w : Worker) (play play' : ChainPlay) (code : ReturnCode) : Type 0 where
+pub record Reads (g chunk : ℕ) (w : Worker) (play play' : ChainPlay)
+    (code : ReturnCode) : Type 0 where
   pub handle : ℕ
   pub rests : w.doing ≡ Nothing
   pub unclosed : w.closed ≡ false
@@ -37,7 +38,8 @@ pub record Reads (g chunk : ℕ) (w : Worker) (play play' : ChainPlay) (code : R
   pub adds : Adds play play' (steps.Read g bytes_type handle 0 chunk) (replies.Code code)
 
 -- guest g hears of its read
-pub record HearsRead (g : ℕ) (w : Worker) (play play' : ChainPlay) (code : ReturnCode) : Type 0 where
+pub record HearsRead (g : ℕ) (w : Worker) (play play' : ChainPlay)
+    (code : ReturnCode) : Type 0 where
   pub handle : ℕ
   pub waits : w.doing ≡ Reading
   pub has : w.read ≡ Some handle
@@ -54,7 +56,8 @@ pub data EndsRead (code : ReturnCode) : Type 0 where
   WithLast : code ≡ Dropped (count_of code) → EndsRead code
 
 -- a read of guest g is over with this code: the bytes that it moved are dumped, and its stage takes them
-pub record TakesIn (g : ℕ) (w : Worker) (code : ReturnCode) (play : ChainPlay) (w' : Worker) (play' : ChainPlay) : Type 0 where
+pub record TakesIn (g : ℕ) (w : Worker) (code : ReturnCode) (play : ChainPlay)
+    (w' : Worker) (play' : ChainPlay) : Type 0 where
   pub bytes : List ℕ
   pub ends : EndsRead code
   pub dumps : Adds play play' (steps.Dump g 0 (count_of code)) (replies.Bytes bytes)
@@ -73,7 +76,8 @@ pub record Pokes (g chunk : ℕ) (w : Worker) (bytes : List ℕ) (play play' : C
   pub adds : Adds play play' (steps.Poke g 64 bytes) replies.Done
 
 -- it writes them, and is answered this code
-pub record WritesPiece (g chunk : ℕ) (w : Worker) (play play' : ChainPlay) (code : ReturnCode) : Type 0 where
+pub record WritesPiece (g chunk : ℕ) (w : Worker) (play play' : ChainPlay)
+    (code : ReturnCode) : Type 0 where
   pub handle : ℕ
   pub has : w.write ≡ Some handle
   pub bytes : List ℕ
@@ -82,7 +86,8 @@ pub record WritesPiece (g chunk : ℕ) (w : Worker) (play play' : ChainPlay) (co
   pub adds : Adds mid play' (steps.Write g bytes_type handle 64 (length bytes)) (replies.Code code)
 
 -- guest g hears of its write
-pub record HearsWrite (g : ℕ) (w : Worker) (play play' : ChainPlay) (code : ReturnCode) : Type 0 where
+pub record HearsWrite (g : ℕ) (w : Worker) (play play' : ChainPlay)
+    (code : ReturnCode) : Type 0 where
   pub handle : ℕ
   pub waits : w.doing ≡ Writing
   pub has : w.write ≡ Some handle
@@ -95,7 +100,8 @@ pub record HandsOver (w : Worker) (code : ReturnCode) (w' : Worker) : Type 0 whe
   pub is : w' ≡ record w { sent = w.sent + count; doing = Nothing }
 
 -- guest g has nothing more to read, and has handed over all: it drops its write end
-pub record Drops (g : ℕ) (w : Worker) (play : ChainPlay) (w' : Worker) (play' : ChainPlay) : Type 0 where
+pub record Drops (g : ℕ) (w : Worker) (play : ChainPlay)
+    (w' : Worker) (play' : ChainPlay) : Type 0 where
   pub handle : ℕ
   pub rests : w.doing ≡ Nothing
   pub closed : w.closed ≡ true
@@ -105,13 +111,23 @@ pub record Drops (g : ℕ) (w : Worker) (play : ChainPlay) (w' : Worker) (play' 
   pub is : w' ≡ record w { doing = Ended }
 
 -- one turn of guest g, and what it was
-pub data Turned (g chunk : ℕ) (w : Worker) (play : ChainPlay) (turn : ChainTurn) (w' : Worker) (play' : ChainPlay) : Type 0 where
-  Rests : turn ≡ Idle → w.doing ≡ Ended → w' ≡ w → play' ≡ play → Turned g chunk w play turn w' play'
+pub data Turned (g chunk : ℕ) (w : Worker) (play : ChainPlay) (turn : ChainTurn)
+    (w' : Worker) (play' : ChainPlay) : Type 0 where
+  Rests : turn ≡ Idle → w.doing ≡ Ended → w' ≡ w → play' ≡ play →
+      Turned g chunk w play turn w' play'
   Waits : turn ≡ Idle → w' ≡ w → HearsNone g w play play' → Turned g chunk w play turn w' play'
-  ReadOpens : turn ≡ Moved → Reads g chunk w play play' Blocked → w' ≡ record w { doing = Reading } → Turned g chunk w play turn w' play'
-  ReadServes : (mid : ChainPlay) (code : ReturnCode) → turn ≡ Moved → Reads g chunk w play mid code → TakesIn g w code mid w' play' → Turned g chunk w play turn w' play'
-  ReadSettles : (mid : ChainPlay) (code : ReturnCode) → turn ≡ Moved → HearsRead g w play mid code → TakesIn g w code mid w' play' → Turned g chunk w play turn w' play'
-  WriteOpens : turn ≡ Moved → WritesPiece g chunk w play play' Blocked → w' ≡ record w { doing = Writing } → Turned g chunk w play turn w' play'
-  WriteServes : (code : ReturnCode) → turn ≡ Moved → WritesPiece g chunk w play play' code → HandsOver w code w' → Turned g chunk w play turn w' play'
-  WriteSettles : (code : ReturnCode) → turn ≡ Moved → HearsWrite g w play play' code → HandsOver w code w' → Turned g chunk w play turn w' play'
+  ReadOpens : turn ≡ Moved → Reads g chunk w play play' Blocked →
+      w' ≡ record w { doing = Reading } → Turned g chunk w play turn w' play'
+  ReadServes : (mid : ChainPlay) (code : ReturnCode) → turn ≡ Moved →
+      Reads g chunk w play mid code → TakesIn g w code mid w' play' →
+      Turned g chunk w play turn w' play'
+  ReadSettles : (mid : ChainPlay) (code : ReturnCode) → turn ≡ Moved →
+      HearsRead g w play mid code → TakesIn g w code mid w' play' →
+      Turned g chunk w play turn w' play'
+  WriteOpens : turn ≡ Moved → WritesPiece g chunk w play play' Blocked →
+      w' ≡ record w { doing = Writing } → Turned g chunk w play turn w' play'
+  WriteServes : (code : ReturnCode) → turn ≡ Moved → WritesPiece g chunk w play play' code →
+      HandsOver w code w' → Turned g chunk w play turn w' play'
+  WriteSettles : (code : ReturnCode) → turn ≡ Moved → HearsWrite g w play play' code →
+      HandsOver w code w' → Turned g chunk w play turn w' play'
   Ends : turn ≡ Moved → Drops g w play w' play' → Turned g chunk w play turn w' play'

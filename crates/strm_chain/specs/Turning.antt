@@ -26,7 +26,8 @@ pub record IsChunkCount (chunk count : ℕ) : Type 0 where
 -- a step that guest g may make in its turn: a read, a write, a drop, a poke, a dump or an event, of this
 -- guest alone
 abbrev pub IsStepOf : ℕ → ℕ → Step → Type 0
-IsStepOf g chunk (steps.Write guest ty handle address count) = (guest ≡ g) × IsChunkCount chunk count
+IsStepOf g chunk (steps.Write guest ty handle address count) =
+    (guest ≡ g) × IsChunkCount chunk count
 IsStepOf g chunk (steps.Read guest ty handle address count) = (guest ≡ g) × IsChunkCount chunk count
 IsStepOf g chunk (steps.DropWrite guest ty handle) = guest ≡ g
 IsStepOf g chunk (steps.DropRead guest ty handle) = guest ≡ g
@@ -80,18 +81,22 @@ guest_has_ended sink g before =
 -- TURNS
 
 -- what guest g does in a turn, from where it stood, and what the turn answers
-pub data Answers (sink g : ℕ) (before : ChainPlay) (made : List Step) (told : List Reply) (turn : ChainTurn) : Type 0 where
+pub data Answers (sink g : ℕ) (before : ChainPlay) (made : List Step) (told : List Reply)
+    (turn : ChainTurn) : Type 0 where
   -- it has ended, and makes no step
-  NoStep : turn ≡ Idle → guest_has_ended sink g before ≡ true → made ≡ [] → Answers sink g before made told turn
+  NoStep : turn ≡ Idle → guest_has_ended sink g before ≡ true → made ≡ [] →
+      Answers sink g before made told turn
   -- it has an operation, and the one step is the event of that, which answers none
   NoReport : (handle : ℕ) → turn ≡ Idle → HasOperation g handle before.state →
-      made ≡ steps.Event g handle ∷ [] → told ≡ replies.Event None ∷ [] → Answers sink g before made told turn
+      made ≡ steps.Event g handle ∷ [] → told ≡ replies.Event None ∷ [] →
+      Answers sink g before made told turn
   -- it has one, and the event of that, the first step, answers a code
   Report : (handle : ℕ) (code : ReturnCode) (later : List Step) (rest : List Reply) → turn ≡ Moved →
       HasOperation g handle before.state → made ≡ steps.Event g handle ∷ later →
       told ≡ replies.Event (Some code) ∷ rest → Answers sink g before made told turn
   -- it has not ended and has no operation: it reads, writes or drops
-  Call : turn ≡ Moved → guest_has_ended sink g before ≡ false → ((handle : ℕ) → ¬ HasOperation g handle before.state) →
+  Call : turn ≡ Moved → guest_has_ended sink g before ≡ false →
+      ((handle : ℕ) → ¬ HasOperation g handle before.state) →
       HasCall made told → Answers sink g before made told turn
 
 -- a turn of guest g: its steps are reads, writes, drops, pokes, dumps and at most one event, of this guest

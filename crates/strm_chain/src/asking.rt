@@ -9,7 +9,7 @@ ghost use Rattle.strm_chain.specs.Faults.{is_twice};
 ghost use Rattle.strm_chain.specs.Asking.{Asks, IsChainAsked};
 ghost use Rattle.strm_chain.specs.WordReading.{numbered_read, stage_read, SpellsStages};
 
-use crate::chains::{MAX_STAGES, MAX_TWICE, count_twice};
+use crate::faults::{MAX_STAGES, MAX_TWICE, count_twice};
 use crate::stages::Stage;
 use std::alloc::Global;
 use strm_codes::counts::OutOfMemory;

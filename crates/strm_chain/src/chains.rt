@@ -2,76 +2,29 @@
 //!
 //! Meaning: `Turning.antt`, `Flowing.antt`, `Faults.antt`. Ours.
 
-ghost use Rattle.std.specs.Prelude.{◌≡◌, ◌≢◌, ◌≤◌, ◌<◌, ◌+◌, ◌-◌, ◌*◌, ◌%◌, ◌↔◌, ◌++◌, ◌∷◌, ℕ, List, [], length, map, true, false, Err, IfOk, IfSome, IfErr, IsErr, OnOk, count_by, None};
-ghost use Rattle.strm_machine.specs.Plays.{play, Ends};
-ghost use Rattle.strm_chain.specs.Playing.{chain_start, IsChainPlayed, HasRoomForSteps};
+ghost use Rattle.std.specs.Prelude.{◌≡◌, ◌≢◌, ◌≤◌, ◌<◌, ◌+◌, ◌-◌, ◌*◌, ◌%◌, ◌↔◌, ℕ, List, length, map, true, false, Err, IfOk, IfErr, IsErr, OnOk, None};
+ghost use Rattle.strm_chain.specs.Playing.{IsChainPlayed, HasRoomForSteps};
 ghost use Rattle.strm_chain.specs.Stages.{composed};
 ghost use Rattle.strm_chain.specs.Flowing.{Flows};
-ghost use Rattle.strm_chain.specs.Faults.{is_twice, fault_of, IsChainFault};
+ghost use Rattle.strm_chain.specs.Faults.{fault_of, IsChainFault};
 ghost use Rattle.strm_chain.specs.Reporting.{is_told};
-ghost use Rattle.strm_chain.specs.Turning.{Turns};
 ghost use Rattle.strm_chain.specs.Running.{AreTurns, AreSomeTurns, IsChainRun};
-ghost use Rattle.strm_chain.specs.Keeping.{worker_at, sink_of, stages_of, input_of, IsJoined, IsGoing, ChainGoesOn};
-ghost use Rattle.strm_chain.specs.Measuring.{most_of, to_do, IsStuck, LowersMeasure};
+ghost use Rattle.strm_chain.specs.Keeping.{worker_at, sink_of, IsJoined, IsGoing, IsChain, ChainGoesOn};
+ghost use Rattle.strm_chain.specs.Measuring.{most_of, to_do, IsStuck};
 ghost use Rattle.strm_chain.specs.Turned.{Turned};
+ghost use Rattle.strm_chain.specs.Chains.{chain_of, TakesTurn, ComesTo};
 
+use crate::faults::{ChainError, fault};
 use crate::lists::Bytes8;
 use crate::making::make_chain;
 use crate::playing::Player;
 use crate::stages::Stage;
 use crate::workers::{ChainTurn, Worker, take_turn};
-use std::alloc::{AllocError, Global};
+use std::alloc::Global;
 use std::marker::Model;
 use strm_codes::counts::OutOfMemory;
 use strm_laws::laws::conservation;
 use strm_lines::lists::{Replies, Steps};
-use thiserror::Error;
-
-/// The most stages of a chain.
-pub const MAX_STAGES: usize = 8;
-
-/// The most of them that are `Twice`.
-pub const MAX_TWICE: usize = 2;
-
-/// The most bytes of an input.
-pub const MAX_INPUT: usize = 65_536;
-
-/// Why there is no chain, or no end of one.
-#[derive(Clone, Copy, Debug, PartialEq, Eq, Error)]
-pub enum ChainError {
-    /// There are more than 8 stages.
-    #[error("there are more than {max} stages", max = MAX_STAGES)]
-    TooManyStages,
-    /// More than 2 of them are `Twice`.
-    #[error("more than {max} stages give each byte twice", max = MAX_TWICE)]
-    TooManyTwice,
-    /// The input has more than 65,536 bytes.
-    #[error("the input has more than {max} bytes", max = MAX_INPUT)]
-    TooLong,
-    /// An allocation was refused, or the play has no room for a turn of a caller or a schedule.
-    #[error("out of memory")]
-    OutOfMemory,
-}
-
-impl From<OutOfMemory> for ChainError {
-    ghost use Rattle.strm_chain.specs.declared.chains.ChainError.TheVariants.{OutOfMemory as NoMemory};
-
-    ghost from_gives = { λ _ e. e ≡ NoMemory };
-
-    fn from(_error: OutOfMemory) -> ChainError {
-        ChainError::OutOfMemory
-    }
-}
-
-impl From<AllocError> for ChainError {
-    ghost use Rattle.strm_chain.specs.declared.chains.ChainError.TheVariants.{OutOfMemory as NoMemory};
-
-    ghost from_gives = { λ _ e. e ≡ NoMemory };
-
-    fn from(_error: AllocError) -> ChainError {
-        ChainError::OutOfMemory
-    }
-}
 
 /// Guests 0 to n + 1 for n stages, joined by streams.
 #[derive(Drop)]
@@ -93,9 +46,19 @@ impl Model for Chain {
 
     ghost coded = { Prim.hlevel (codes, sets_code, contexts_code) };
 
-    ghost view = { λ c. record { play = c.player; workers = c.workers.items; chunk = c.chunk; failed = c.failed } };
+    ghost view = { λ c. record {
+      play = c.player;
+      workers = c.workers.items;
+      chunk = c.chunk;
+      failed = c.failed;
+    } };
 
-    ghost invariant = { λ c. IsChain (record { play = c.player; workers = c.workers.items; chunk = c.chunk; failed = c.failed }) };
+    ghost invariant = { λ c. IsChain (record {
+      play = c.player;
+      workers = c.workers.items;
+      chunk = c.chunk;
+      failed = c.failed;
+    }) };
 }
 
 /// What a chain has come to.
@@ -107,44 +70,6 @@ pub struct ChainEnd {
     pub ended: bool,
     pub steps: Steps,
     pub replies: Replies,
-}
-
-// Whether a stage is `Twice`.
-fn is_twice(stage: &Stage) -> bool
-    ensures { result ≡ is_twice stage.now }
-{
-    match stage {
-        Stage::Twice => true,
-        _ => false,
-    }
-}
-
-/// How many of the stages are `Twice`.
-pub fn count_twice(stages: &[Stage]) -> usize
-    ensures { result ≡ count_by is_twice stages.now }
-{
-    let mut count = 0usize;
-    for stage in stages {
-        if is_twice(stage) {
-            count += 1;
-        }
-    }
-    count
-}
-
-// Why these stages and this input make no chain.
-fn fault(stages: &[Stage], input: usize) -> Option<ChainError>
-    ensures { result ≡ fault_of stages.now input }
-{
-    if stages.len() > MAX_STAGES {
-        Some(ChainError::TooManyStages)
-    } else if count_twice(stages) > MAX_TWICE {
-        Some(ChainError::TooManyTwice)
-    } else if input > MAX_INPUT {
-        Some(ChainError::TooLong)
-    } else {
-        None
-    }
 }
 
 impl Chain {
@@ -179,27 +104,17 @@ impl Chain {
         requires { who < length self.old.workers }
 
         // It is one of this guest alone, and the machine answers its steps: the guest has ended and makes none,
-        // or it has an operation and is told of that, or not, or it reads, writes or drops.
-        ensures turns { IfOk result (λ turn.
-            Turns (length self.old.workers - 1) self.old.chunk who turn
-            self.old.play self.new.play) }
-
-        // The chain goes on with the same stages and input, and no other guest is changed.
-        ensures goes_on { OnOk result (ChainGoesOn self.old self.new) }
+        // or it has an operation and is told of that, or not, or it reads, writes or drops. The chain goes on with
+        // the same stages and input, and no other guest is changed.
+        ensures ok { IfOk result (λ turn. TakesTurn who turn self.old self.new) }
         ensures others { (g : ℕ) → g ≢ who →
             worker_at self.new.workers g ≡ worker_at self.old.workers g }
         ensures many { length self.new.workers ≡ length self.old.workers }
         ensures error { IfErr result (λ error. error ≡ ChainError.OutOfMemory) }
 
-        // It is at most two steps. A play without room for these is answered as running out of memory: since a turn that
-        // is idle may be a step too, a caller who gives turns without end comes to that.
-        ensures short { OnOk result (length self.new.play.steps ≤ length self.old.play.steps + 2) }
+        // A play without room for its two steps is answered as running out of memory: since a turn that is idle
+        // may be a step too, a caller who gives turns without end comes to that.
         ensures full { ¬ HasRoomForSteps 2 self.old.play → result ≡ Err ChainError.OutOfMemory }
-
-        // A turn that moved leaves less to do. One that was idle leaves all as it was, and its guest stuck.
-        ensures lowers { IfOk result (λ turn. LowersMeasure who turn self.old.play.state self.old.workers
-            self.new.play.state self.new.workers) }
-        ensures runs { OnOk result (self.new.failed ≡ false) }
         ensures failed { IsErr result ↔ (self.new.failed ≡ true) }
         ensures again { self.old.failed ≡ true → result ≡ Err ChainError.OutOfMemory }
     {
@@ -211,23 +126,15 @@ impl Chain {
     }
 
     // One turn of a guest, for which there is room.
-    #[tactic(auto, using(crate::proofs::ChainLemmas::going_of))]
     fn turn_with_room(&mut self, who: u32) -> Result<ChainTurn, ChainError>
         requires there { who < length self.old.workers }
         requires runs { self.old.failed ≡ false }
         requires room { HasRoomForSteps 2 self.old.play }
-        ensures turns { IfOk result (λ turn.
-            Turns (length self.old.workers - 1) self.old.chunk who turn
-            self.old.play self.new.play) }
-        ensures goes_on { OnOk result (ChainGoesOn self.old self.new) }
+        ensures ok { IfOk result (λ turn. TakesTurn who turn self.old self.new) }
         ensures others { (g : ℕ) → g ≢ who →
             worker_at self.new.workers g ≡ worker_at self.old.workers g }
         ensures many { length self.new.workers ≡ length self.old.workers }
         ensures error { IfErr result (λ error. error ≡ ChainError.OutOfMemory) }
-        ensures lowers { IfOk result (λ turn. LowersMeasure who turn self.old.play.state self.old.workers
-            self.new.play.state self.new.workers) }
-        ensures short { OnOk result (length self.new.play.steps ≤ length self.old.play.steps + 2) }
-        ensures runs { OnOk result (self.new.failed ≡ false) }
         ensures failed { IsErr result ↔ (self.new.failed ≡ true) }
     {
         match turn_in(&mut self.player, &mut self.workers, who, self.chunk) {
@@ -274,22 +181,11 @@ impl Chain {
     /// What the chain has come to, ended or not. After running out of memory it answers that.
     #[tactic(auto, using(crate::proofs::ChainLemmas::going_of))]
     pub fn finish(self) -> Result<ChainEnd, ChainError>
-        // All that was played, with the machine's replies.
-        ensures steps { IfOk result (λ end. end.steps ≡ self.play.steps) }
-        ensures replies { IfOk result (λ end. end.replies ≡ self.play.replies) }
-        ensures plays { IfOk result (λ end.
-            play [] chain_start end.steps ≡ Ends end.replies self.play.state) }
-
-        // It has ended exactly where the last report of the sink says that there is no more.
-        ensures ended { IfOk result (λ end.
-            end.ended ≡ is_told (length self.workers - 1) end.steps end.replies) }
-        ensures flows { IfOk result (λ end.
-            Flows (stages_of self.workers) (input_of self.workers) end.output end.steps) }
-        ensures composed { IfOk result (λ end. end.ended ≡ true →
-            end.output ≡ composed (stages_of self.workers) (input_of self.workers)) }
-
-        // It is a run of which the laws speak.
-        ensures within { IfOk result (λ end. length end.steps ≤ 4294967295) }
+        // All that was played, with the machine's replies, and what flowed, as a run of which the laws speak. It
+        // has ended exactly where the last report of the sink says that there is no more; then the output is what
+        // the stages make of the input.
+        ensures ok { IfOk result (λ end.
+            ComesTo self.play self.workers end.output end.ended end.steps end.replies) }
         ensures error { IfErr result (λ error. error ≡ ChainError.OutOfMemory) }
         ensures again { self.failed ≡ true → result ≡ Err ChainError.OutOfMemory }
     {
@@ -321,16 +217,8 @@ fn take_sink(workers: Vec<Worker>) -> Worker
 fn end_of(player: Player, workers: Vec<Worker>) -> Result<ChainEnd, ChainError>
     requires some { (2 ≤ length workers.items) × (length workers.items ≤ 10) }
     requires going { IsGoing player workers.items }
-    ensures steps { IfOk result (λ end. end.steps ≡ player.steps) }
-    ensures replies { IfOk result (λ end. end.replies ≡ player.replies) }
-    ensures plays { IfOk result (λ end. play [] chain_start end.steps ≡ Ends end.replies player.state) }
-    ensures ended { IfOk result (λ end.
-        end.ended ≡ is_told (length workers.items - 1) end.steps end.replies) }
-    ensures flows { IfOk result (λ end.
-        Flows (stages_of workers.items) (input_of workers.items) end.output end.steps) }
-    ensures composed { IfOk result (λ end. end.ended ≡ true →
-        end.output ≡ composed (stages_of workers.items) (input_of workers.items)) }
-    ensures within { IfOk result (λ end. length end.steps ≤ 4294967295) }
+    ensures ok { IfOk result (λ end.
+        ComesTo player workers.items end.output end.ended end.steps end.replies) }
     ensures error { IfErr result (λ error. error ≡ ChainError.OutOfMemory) }
 {
     conservation();
@@ -380,19 +268,12 @@ fn turn_in(
     who: u32,
     chunk: u32,
 ) -> Result<ChainTurn, OutOfMemory>
-    requires chunk { (16 ≤ chunk) × (chunk ≤ 64) }
+    requires chain { IsChain (chain_of player.old workers.old chunk) }
     requires there { who < length workers.old }
-    requires some { 2 ≤ length workers.old }
-    requires going { IsGoing player.old workers.old }
     requires room { HasRoomForSteps 2 player.old }
-    ensures going { OnOk result (IsGoing player.new workers.new) }
-    ensures stages { OnOk result (stages_of workers.new ≡ stages_of workers.old) }
-    ensures input { OnOk result (input_of workers.new ≡ input_of workers.old) }
-    ensures turns { IfOk result (λ turn.
-        Turns (length workers.old - 1) chunk who turn player.old player.new) }
-    ensures lowers { IfOk result (λ turn.
-        LowersMeasure who turn player.old.state workers.old player.new.state workers.new) }
-    ensures short { OnOk result (length player.new.steps ≤ length player.old.steps + 2) }
+    ensures kept { OnOk result (IsChain (chain_of player.new workers.new chunk)) }
+    ensures ok { IfOk result (λ turn. TakesTurn who turn
+        (chain_of player.old workers.old chunk) (chain_of player.new workers.new chunk)) }
     ensures others { (g : ℕ) → g ≢ who → worker_at workers.new g ≡ worker_at workers.old g }
     ensures many { length workers.new ≡ length workers.old }
 {

@@ -5,7 +5,9 @@
 #![tactic(auto)]
 
 mod asking;
+mod calls;
 pub mod chains;
+pub mod faults;
 pub mod lists;
 mod making;
 mod playing;

@@ -2,8 +2,8 @@
 //!
 //! Meaning: `Stages.antt`. Ours.
 
-ghost use Rattle.std.specs.Prelude.{◌≡◌, ◌++◌, ◌∷◌, [], OnOk, OnErr, IfOk};
-ghost use Rattle.strm_chain.specs.Stages.{stage_room, work_begun, put_out, work_after, work_done, work_left};
+ghost use Rattle.std.specs.Prelude.{◌≡◌, ◌+◌, ◌%◌, ◌++◌, ◌∷◌, [], OnOk, OnErr, IfOk};
+ghost use Rattle.strm_chain.specs.Stages.{stage_room, work_begun, put_out, work_after, added, work_done, work_left};
 
 use crate::lists::Bytes8;
 use strm_codes::counts::OutOfMemory;
@@ -89,9 +89,10 @@ impl Work {
     fn take_all(&mut self, bytes: &[u8])
         ensures { self.new ≡ work_left self.old bytes.now }
     {
-        for byte in bytes {
-            self.take(*byte);
-        }
+        let sum = add_all(self.sum, bytes);
+        let left = (self.left as usize).saturating_sub(bytes.len());
+        self.sum = sum;
+        self.left = left as u32;
     }
 
     // Puts out what the stage makes of one byte.
@@ -120,4 +121,24 @@ impl Work {
         self.sum = self.sum.wrapping_add(byte);
         self.left = self.left.saturating_sub(1);
     }
+}
+
+// The sum of a number and bytes, modulo 256: a loop of its own, which the compiler does in vectors.
+#[inline(always)]
+fn add_all(sum: u8, bytes: &[u8]) -> u8
+    ensures { result ≡ added sum bytes.now }
+{
+    let mut total = sum;
+    for byte in bytes {
+        total = add_one(total, *byte);
+    }
+    total
+}
+
+// A number and one byte more.
+#[inline(always)]
+fn add_one(total: u8, byte: u8) -> u8
+    ensures { result ≡ (total + byte) % 256 }
+{
+    total.wrapping_add(byte)
 }

@@ -3,7 +3,7 @@
 use std::alloc::Global;
 use std::fmt::Display;
 use std::process::Abort;
-use strm_chain::chains::ChainError;
+use strm_chain::faults::ChainError;
 
 // What `{}` prints.
 fn prints<T: Display>(rt: &impl Abort, alloc: Global, value: &T, wanted: &str) {

@@ -4,7 +4,8 @@ ghost use Rattle.std.specs.Prelude.{◌≤◌};
 
 use std::alloc::{AllocError, Global};
 use std::process::Abort;
-use strm_chain::chains::{Chain, ChainEnd, ChainError, MAX_INPUT, chain_all, chain_run};
+use strm_chain::chains::{Chain, ChainEnd, chain_all, chain_run};
+use strm_chain::faults::{ChainError, MAX_INPUT};
 use strm_chain::serving::chain_serve;
 use strm_chain::stages::Stage;
 use strm_input_output::in_memory::{BytesSink, BytesSource};

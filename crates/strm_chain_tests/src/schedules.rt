@@ -2,7 +2,8 @@
 
 use std::alloc::Global;
 use std::process::Abort;
-use strm_chain::chains::{Chain, ChainEnd, ChainError, chain_run};
+use strm_chain::chains::{Chain, ChainEnd, chain_run};
+use strm_chain::faults::ChainError;
 use strm_chain::stages::Stage;
 use strm_chain::workers::ChainTurn;
 

@@ -4,7 +4,8 @@ ghost use Rattle.std.specs.Prelude.{◌≤◌};
 
 use std::alloc::Global;
 use std::process::Abort;
-use strm_chain::chains::{ChainError, chain_all};
+use strm_chain::chains::chain_all;
+use strm_chain::faults::ChainError;
 use strm_chain::stages::Stage;
 
 // Stages, an input, and what they make of it.

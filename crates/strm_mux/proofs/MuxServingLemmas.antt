@@ -1,24 +1,22 @@
 -- The words of the program, and what a status tells.
-use Rattle.std.proofs.Common.{◌≡◌, ◌≢◌, ℕ, zero, suc, ◌<◌, List, [], ◌∷◌, length, map, get_or, Option, Some, None, refl, sym, ap, ◌∙◌, subst, arith}
+use Rattle.std.proofs.lemmas.Bool.{cases_eq}
+use Rattle.std.proofs.Common.{◌≡◌, ◌≢◌, ◌⊎◌, inl, inr, ℕ, zero, suc, ◌<◌, ◌≤◌, List, [], ◌∷◌, length, map, get_or, Option, Some, None, refl, sym, ap, ◌∙◌, subst, arith}
 use Rattle.std.specs.Fmt.{decimal}
 use Rattle.strm_lines.specs.Grammar.{IsBetween}
 use Rattle.strm_lines.specs.Lines.{lines_of}
 use Rattle.strm_lines.specs.Reading.{number_within}
 use Rattle.strm_lines.proofs.ReadingLemmas.{IsReading, IsReading-within}
 use Rattle.strm_codes.specs.Counters.{Rose}
-use Rattle.strm_frames.specs.Frames.{Frame, encoding}
+use Rattle.strm_input_output.proofs.ServingLemmas.{read_of}
+use Rattle.strm_frames.specs.Frames.{Frame}
 use Rattle.strm_frames.specs.Muxes.{Written}
-use Rattle.strm_laws.specs.Conservation.{got, moments, state_after_steps}
-use Rattle.strm_machine.specs.Moments.{received}
-use Rattle.strm_machine.specs.Plays.{play, Ends}
 use Rattle.strm_machine.specs.declared.replies.Reply.{Reply}
 use Rattle.strm_machine.specs.declared.steps.Step.{Step}
-use Rattle.strm_carry_laws.specs.OneStream.{script_of, bytes_as_items}
-use Rattle.strm_session.specs.Runs.{run_start}
+use Rattle.strm_mux.specs.Carrying.{AreCarried}
 use Rattle.strm_mux.specs.LineReading.{HoldsLines}
 use Rattle.strm_mux.specs.Texts.{output_text}
 use Rattle.strm_mux.specs.Lines.{Puts, IsFirstBadLaneLine, IsMuxTooLong}
-use Rattle.strm_mux.specs.Serving.{AreSizes, IsSizes, IsCarriedBy, IsMuxOutput}
+use Rattle.strm_mux.specs.Serving.{AreSizes, IsSizes, IsCarriedBy, IsOfPuts, IsMuxOutput, IsMuxStatus}
 use Rattle.strm_mux.proofs.LineLemmas.{puts_not_bad}
 
 -- TWO SIZES
@@ -61,58 +59,64 @@ second_read words a e n s =
 
 -- WHAT IS CARRIED
 
--- bytes were carried by these steps, in pieces of these sizes
-pub record Carried (write read moved : ℕ) (bytes : List ℕ) (steps : List Step) (replies : List Reply) : Type 0 where
-  pub script : steps ≡ script_of write read bytes
-  pub plays : play [] run_start steps ≡ Ends replies (state_after_steps run_start steps)
-  pub gets : got 0 (moments run_start steps) ≡ bytes_as_items bytes
-  pub moves : (moved ≡ length bytes) × (moved ≡ received 0 (state_after_steps run_start steps))
-
--- then they are what the lines put
-pub carried_by : (write read moved : ℕ) (input text : List ℕ) (written : Written) (steps : List Step) (replies : List Reply) (h : HoldsLines written (lines_of input)) → Carried write read moved written.bytes steps replies → text ≡ output_text h.given moved → IsCarriedBy write read input text
-carried_by write read moved input text written steps replies h c t =
-    let same : steps ≡ script_of write read (encoding h.given) = c.script ∙ ap (script_of write read) h.bytes in
-    record {
-      given = h.given;
-      puts = h.puts;
-      replies = replies;
-      played = subst (λ s. play [] run_start s ≡ Ends replies (state_after_steps run_start s)) same c.plays;
-      received_is = subst (λ s. got 0 (moments run_start s) ≡ bytes_as_items (encoding h.given)) same (c.gets ∙ ap bytes_as_items h.bytes);
-      moved = moved;
-      moved_is = subst (λ s. moved ≡ received 0 (state_after_steps run_start s)) same c.moves.1;
-      whole = c.moves.0 ∙ ap length h.bytes;
-      text_is = t;
-    }
+-- what was carried of a mux that these lines filled is what they put
+pub carried_by : (write read moved : ℕ) (input text : List ℕ) (written : Written) (steps : List Step) (replies : List Reply) (h : HoldsLines written (lines_of input)) → AreCarried write read written.bytes steps replies moved → text ≡ output_text h.given moved → IsCarriedBy write read input text
+carried_by write read moved input text written steps replies h c t = record {
+  given = h.given;
+  puts = h.puts;
+  steps = steps;
+  replies = replies;
+  moved = moved;
+  carried = subst (λ bytes. AreCarried write read bytes steps replies moved) h.bytes c;
+  text_is = t;
+}
 
 -- WHAT A STATUS TELLS
 
-module _ {words : List (List ℕ)} {rest : Option (List ℕ)} {before after status : ℕ} {text : List ℕ} where
-  module _ (input : List ℕ) (h : IsMuxOutput words (Some input) rest before after status text) (r : IsSizes words) (calm : Rose before after → ⊥) where
-    not_usage : status ≢ 1
-    not_usage q = (h.usage q).0 r
+module _ {words : List (List ℕ)} {left rest : Option (List ℕ)} {before after status : ℕ} {text : List ℕ} (h : IsMuxOutput words left rest before after status text) where
+  -- the statuses of a text
+  known : status ≤ 4
+  known = by (cases_eq status 1)
+    where
+      of : IsOfPuts status ⊎ ((status ≡ 3) ⊎ (status ≡ 4)) → status ≤ 4
+      of (inl (inl e)) = omega (arith, e)
+      of (inl (inr e)) = omega (arith, e)
+      of (inr (inl e)) = omega (arith, e)
+      of (inr (inr e)) = omega (arith, e)
 
-    not_fault : status ≢ 4
-    not_fault q = calm (h.read_fault q).0
+      by : (status ≡ 1) ⊎ (status ≢ 1) → status ≤ 4
+      by (inl e) = omega (arith, e)
+      by (inr n) = of (h.by_words.asked n).1.known
 
-    done_of : (IsMuxTooLong input → ⊥) → (given : List Frame) → Puts (lines_of input) given → status ≡ 0
-    done_of long given p =
-        let no_bad : status ≢ 2 = λ q. let bad = h.bad_line q in puts_not_bad (lines_of input) given bad.0 p bad.1 in
-        let no_long : status ≢ 3 = λ q. long (h.too_long q).0 in
-        omega (arith, h.known, not_usage, no_bad, no_long, not_fault)
+  pub unfailed : (status ≢ 5) × (status ≢ 9)
+  unfailed = (λ q. omega (arith, known, q), λ q. omega (arith, known, q))
 
-    bad_line_of : (IsMuxTooLong input → ⊥) → (line : ℕ) → IsFirstBadLaneLine (lines_of input) line → status ≡ 2
-    bad_line_of long line bad =
-        let not_done : status ≢ 0 = λ q. let done = h.done q in puts_not_bad (lines_of input) done.3.given line done.3.puts bad in
-        let no_long : status ≢ 3 = λ q. long (h.too_long q).0 in
-        omega (arith, h.known, not_usage, not_done, no_long, not_fault)
+  -- and what is answered by `write_answer`
+  pub written_known : (answered : ℕ) {Taken : Type 0} → (answered ≢ 5 → (answered ≡ status) × Taken) → IsMuxStatus answered
+  written_known answered told = by (cases_eq answered 5)
+    where
+      by : (answered ≡ 5) ⊎ (answered ≢ 5) → IsMuxStatus answered
+      by (inl e) = inl (omega (arith, e))
+      by (inr n) = inl (omega (arith, known, (told n).0))
 
-  module _ (left : Option (List ℕ)) (input : List ℕ) (h : IsMuxOutput words left rest before after status text) where
-    -- of a source that has this input left, where nothing fails
-    told_input : left ≡ Some input → IsMuxOutput words (Some input) rest before after status text
-    told_input e = subst (λ l. IsMuxOutput words l rest before after status text) e h
+  -- of a source that has this input left, where nothing fails
+  module _ (input : List ℕ) (sizes : IsSizes words) (is : left ≡ Some input) (calm : Rose before after → ⊥) (short : IsMuxTooLong input → ⊥) where
+    told_input : IsMuxOutput words (Some input) rest before after status text
+    told_input = subst (λ l. IsMuxOutput words l rest before after status text) is h
 
-    pub told_done : IsSizes words → left ≡ Some input → (Rose before after → ⊥) → (IsMuxTooLong input → ⊥) → (given : List Frame) → Puts (lines_of input) given → status ≡ 0
-    told_done r e calm = done_of input (told_input e) r calm
+    puts : IsOfPuts status
+    puts = read_of h.by_words input sizes is calm short
 
-    pub told_bad_line : IsSizes words → left ≡ Some input → (Rose before after → ⊥) → (IsMuxTooLong input → ⊥) → (line : ℕ) → IsFirstBadLaneLine (lines_of input) line → status ≡ 2
-    told_bad_line r e calm = bad_line_of input (told_input e) r calm
+    pub told_done : (given : List Frame) → Puts (lines_of input) given → status ≡ 0
+    told_done given p = by puts
+      where
+        by : IsOfPuts status → status ≡ 0
+        by (inl e) = e
+        by (inr e) = let bad = told_input.bad_line e in absurd (puts_not_bad (lines_of input) given bad.0 p bad.1)
+
+    pub told_bad_line : (line : ℕ) → IsFirstBadLaneLine (lines_of input) line → status ≡ 2
+    told_bad_line line bad = by puts
+      where
+        by : IsOfPuts status → status ≡ 2
+        by (inl e) = let done = told_input.done e in absurd (puts_not_bad (lines_of input) done.3.given line done.3.puts bad)
+        by (inr e) = e

@@ -51,7 +51,8 @@ pub record TakesLine (old new : Written) (line : List ℕ) : Type 0 where
 -- a line puts nothing, or on a lane that ended
 abbrev pub IsRefused : Written → List ℕ → Type 0
 IsRefused old line =
-    (frame : Frame) → line_read line ≡ Some frame → slice_index_or old.ended (lane_named frame) false ≡ true
+    (frame : Frame) → line_read line ≡ Some frame →
+    slice_index_or old.ended (lane_named frame) false ≡ true
 
 -- a mux was given what these lines put, and nothing else
 pub record HoldsLines (written : Written) (lines : List (List ℕ)) : Type 0 where

@@ -29,7 +29,8 @@ lane_text lane bytes is_ended =
 -- the line of a lane that was named, with all that was put on it
 abbrev pub lane_line : ℕ → List Frame → List ℕ
 lane_line lane given =
-    if names_lane lane given then line_ended (lane_text lane (lane_in lane given) (ends lane given)) else []
+    if names_lane lane given
+    then line_ended (lane_text lane (lane_in lane given) (ends lane given)) else []
 
 -- those of the lanes below a number, ascending
 unfoldable pub lanes_below : ℕ → List Frame → List ℕ

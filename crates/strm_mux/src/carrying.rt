@@ -7,12 +7,11 @@ ghost use Rattle.std.specs.Prelude.{◌≡◌, ◌≤◌, ◌∷◌, [], List, �
 ghost use Rattle.strm_frames.specs.Demuxes.{IsDemuxFed};
 ghost use Rattle.strm_frames.specs.Frames.{Frame};
 ghost use Rattle.strm_frames.specs.Muxes.{MuxCarries};
-ghost use Rattle.strm_laws.specs.Conservation.{got, moments, state_after_steps, replies_of};
-ghost use Rattle.strm_machine.specs.Moments.{received};
+ghost use Rattle.strm_laws.specs.Conservation.{moments, state_after_steps, replies_of};
 ghost use Rattle.strm_machine.specs.Plays.{play, Ends};
 ghost use Rattle.strm_memory.specs.Bytes.{IsBytes};
-ghost use Rattle.strm_mux.specs.Carrying.{DeliversFrames, IsOneCount};
-ghost use Rattle.strm_carry_laws.specs.OneStream.{script_of, bytes_as_items, AreSettled};
+ghost use Rattle.strm_mux.specs.Carrying.{AreCarried, DeliversFrames, IsOneCount};
+ghost use Rattle.strm_carry_laws.specs.OneStream.{AreSettled};
 ghost use Rattle.strm_session.specs.Runs.{run_start, AreOfGuests, counts_of};
 
 use crate::hearing::heard;
@@ -47,18 +46,15 @@ pub fn carry(alloc: Global, mux: &Mux, write: u32, read: u32) -> Result<Carried,
     requires read { (16 ≤ read) × (read ≤ 64) }
     requires few { length mux.now.bytes ≤ 1048576 }
 
-    // The replies are those of the machine's play on these steps, with no host ends.
-    ensures steps { IfOk result (λ c. c.steps ≡ script_of write read mux.now.bytes) }
-    ensures played { IfOk result (λ c. play [] run_start c.steps ≡ Ends c.replies (state_after_steps run_start c.steps)) }
-
-    // What the stream got is the mux's bytes, in order, and as many were received.
-    ensures got { IfOk result (λ c. got 0 (moments run_start c.steps) ≡ bytes_as_items mux.now.bytes) }
-    ensures moved { IfOk result (λ c. (c.moved ≡ length mux.now.bytes)
-        × (c.moved ≡ received 0 (state_after_steps run_start c.steps))) }
+    // The steps are those of these pieces, and the replies the machine's; the stream got the mux's bytes, and as
+    // many were received.
+    ensures carried { IfOk result (λ c.
+        AreCarried write read mux.now.bytes c.steps c.replies c.moved) }
 
     // Each lane is what was put on it.
     ensures fed { IfOk result (λ c. IsDemuxFed c.demux mux.now.bytes) }
-    ensures delivers { (given : List Frame) → MuxCarries mux.now given → IfOk result (λ c. DeliversFrames c.demux given) }
+    ensures delivers { (given : List Frame) → MuxCarries mux.now given →
+        IfOk result (λ c. DeliversFrames c.demux given) }
 
     // Nothing but running out of memory is an error.
     ensures err { IfErr result (λ error. error ≡ MuxError.OutOfMemory) }
@@ -115,9 +111,11 @@ fn play_all(alloc: Global, steps: &[Step]) -> Result<Played, MuxError>
     requires guests { AreOfGuests steps.now }
     requires settled { AreSettled (replies_of (moments run_start steps.now)) }
     requires one { IsOneCount (counts_of (state_after_steps run_start steps.now)) }
-    ensures played { IfOk result (λ p. play [] run_start steps.now ≡ Ends p.replies (state_after_steps run_start steps.now)) }
+    ensures played { IfOk result (λ p.
+        play [] run_start steps.now ≡ Ends p.replies (state_after_steps run_start steps.now)) }
     ensures told { IfOk result (λ p. p.replies ≡ replies_of (moments run_start steps.now)) }
-    ensures moved { IfOk result (λ p. p.moved ∷ [] ≡ counts_of (state_after_steps run_start steps.now)) }
+    ensures moved { IfOk result (λ p.
+        p.moved ∷ [] ≡ counts_of (state_after_steps run_start steps.now)) }
     ensures err { IfErr result (λ error. error ≡ MuxError.OutOfMemory) }
 {
     let mut hosts = Hosts {

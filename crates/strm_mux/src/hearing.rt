@@ -16,7 +16,8 @@ use strm_machine::replies::Reply;
 // Feeds a piece of whole frames.
 fn feed(demux: &mut Demux, piece: &[u8]) -> Result<(), MuxError>
     requires { HearsOn demux.old piece.now }
-    ensures ok { OnOk result ((before : List ℕ) → IsDemuxFed demux.old before → IsDemuxFed demux.new (before ++ piece.now)) }
+    ensures ok { OnOk result ((before : List ℕ) →
+        IsDemuxFed demux.old before → IsDemuxFed demux.new (before ++ piece.now)) }
     ensures well { OnOk result (demux.new.fault ≡ None) }
     ensures err { IfErr result (λ error. error ≡ MuxError.OutOfMemory) }
 {
@@ -33,7 +34,8 @@ fn feed(demux: &mut Demux, piece: &[u8]) -> Result<(), MuxError>
 // Feeds the bytes that a reply tells, if it tells some.
 fn hear(demux: &mut Demux, reply: &Reply) -> Result<(), MuxError>
     requires { HearsOn demux.old (dumped_in reply.now) }
-    ensures ok { OnOk result ((before : List ℕ) → IsDemuxFed demux.old before → IsDemuxFed demux.new (before ++ dumped_in reply.now)) }
+    ensures ok { OnOk result ((before : List ℕ) →
+        IsDemuxFed demux.old before → IsDemuxFed demux.new (before ++ dumped_in reply.now)) }
     ensures well { OnOk result (demux.new.fault ≡ None) }
     ensures err { IfErr result (λ error. error ≡ MuxError.OutOfMemory) }
 {

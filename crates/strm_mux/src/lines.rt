@@ -44,7 +44,8 @@ enum Refused {
 pub(crate) fn mux_of(alloc: Global, bytes: &[u8]) -> Result<Mux, LinesError>
     requires { length bytes.now ≤ 262144 }
     ensures ok { IfOk result (λ mux. HoldsLines mux (lines_of bytes.now)) }
-    ensures bad_line { (line : ℕ) → result ≡ Err (LinesError.BadLine line) → IsFirstBadLaneLine (lines_of bytes.now) line }
+    ensures bad_line { (line : ℕ) → result ≡ Err (LinesError.BadLine line) →
+        IsFirstBadLaneLine (lines_of bytes.now) line }
 {
     let mut mux = Mux::new(alloc);
     let mut rest = bytes;

@@ -34,7 +34,8 @@ fn push(steps: &mut Steps, step: Step) -> Result<(), MuxError>
 
 // A read of at most so many bytes, and a dump of those that it finds.
 fn push_read(steps: &mut Steps, read: u32, count: u32) -> Result<(), MuxError>
-    ensures ok { OnOk result (steps.new ≡ steps.old ++ step_of.Read 1 carried_type 1 0 read ∷ step_of.Dump 1 0 count ∷ []) }
+    ensures ok { OnOk result (steps.new ≡ steps.old
+        ++ step_of.Read 1 carried_type 1 0 read ∷ step_of.Dump 1 0 count ∷ []) }
     ensures err { IfErr result (λ error. error ≡ MuxError.OutOfMemory) }
 {
     push(
@@ -113,7 +114,8 @@ fn push_piece(steps: &mut Steps, piece: &[u8], read: u32) -> Result<(), MuxError
 
 // Two guests and a stream from the first to the second.
 fn push_guests(steps: &mut Steps) -> Result<(), MuxError>
-    ensures ok { OnOk result (steps.new ≡ steps.old ++ step_of.Guest 64 ∷ step_of.Guest 64 ∷ step_of.Between 0 1 carried_type ∷ []) }
+    ensures ok { OnOk result (steps.new ≡ steps.old
+        ++ step_of.Guest 64 ∷ step_of.Guest 64 ∷ step_of.Between 0 1 carried_type ∷ []) }
     ensures err { IfErr result (λ error. error ≡ MuxError.OutOfMemory) }
 {
     push(steps, Step::Guest { size: SIZE })?;

@@ -1,4 +1,9 @@
 use Rattle.mux.proofs.served.Goals as goal
 
-pub returns-clause-bad_line : goal.returns-clause-bad_line
-returns-clause-bad_line g c = rw c.from.ensures c.mux_serve-status.ensures.bad_line
+pub returns-clause-writes : goal.returns-clause-writes
+returns-clause-writes g c =
+    let served = c.mux_serve-status.ensures in
+    rw c.from.ensures (record { told = served.told; part = served.part; write_fault = served.write_fault })
+
+pub returns-clause-complete : goal.returns-clause-complete
+returns-clause-complete g c = rw c.from.ensures c.mux_serve-status.ensures.complete

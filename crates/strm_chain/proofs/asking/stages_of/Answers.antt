@@ -9,5 +9,5 @@ returns-in_default-clause-none c = λ _ list.
 
 pub loop-word-preserved : goal.loop-word-preserved
 loop-word-preserved c =
-    rw c.in-Ok.ensures.items (spells_more (λ w. string_bytes w) c.args.words.now c.loop-word.word-index c.word-item.result c.as_bytes.result.now c.loop-word-test.true c.word-item.is c.as_bytes.ensures.value
+    rw c.in_ok-push.ensures.items (spells_more (λ w. string_bytes w) c.args.words.now c.loop-word.word-index c.word-item.result c.as_bytes.result.now c.loop-word-test.true c.word-item.is c.as_bytes.ensures.value
     c.loop-word.stages.items c.in-Some.stage c.loop-word.invariant c.in-Some.ensures)

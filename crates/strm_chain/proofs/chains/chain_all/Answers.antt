@@ -1,4 +1,5 @@
 use Rattle.std.proofs.Common.{rules, ◌≡◌, ◌-◌, ◌∙◌, ap, sym, arith, length}
+use Rattle.std.proofs.lemmas.Result.{IfOk-weaker}
 use Rattle.std.specs.Prelude.{None}
 use Rattle.strm_chain.specs.Faults.{fault_of}
 use Rattle.strm_chain.proofs.ChainLemmas.{goes_nowhere, goes_further, some_run_ok, flows_ok, told_ok, all_ended_ok, all_ok}
@@ -48,32 +49,32 @@ pub returns-clause-runs : goal.returns-clause-runs
 returns-clause-runs c =
     let i = c.loop-chain.invariant in
     some_run_ok (λ e. e.steps) (λ e. e.replies) (λ e. e.output) (λ e. e.ended) c.args.stages.now c.args.input.items c.args.chunk i.from.0 c.loop-chain.chain c.finish.result
-    i.from.1 i.from.2 (c.finish.ensures.steps, c.finish.ensures.replies, c.finish.ensures.plays)
+    i.from.1 i.from.2 c.finish.ensures.ok
 
 pub returns-clause-flows : goal.returns-clause-flows
 returns-clause-flows c =
     let i = c.loop-chain.invariant in
     flows_ok (λ e. e.steps) (λ e. e.replies) (λ e. e.output) (λ e. e.ended) c.args.stages.now c.args.input.items c.args.chunk i.from.0 c.loop-chain.chain c.finish.result
-    i.from.1 i.from.3 c.finish.ensures.flows
+    i.from.1 i.from.3 c.finish.ensures.ok
 
 pub returns-clause-told : goal.returns-clause-told
 returns-clause-told c =
     let i = c.loop-chain.invariant in
     told_ok (λ e. e.steps) (λ e. e.replies) (λ e. e.output) (λ e. e.ended) c.args.stages.now c.args.input.items c.args.chunk i.from.0 c.loop-chain.chain c.finish.result
-    i.from.1 i.from.3 (sym (c.ended.ensures i.runs) ∙ c.loop-chain-test.false) (c.finish.ensures.steps, c.finish.ensures.replies, c.finish.ensures.plays)
+    i.from.1 i.from.3 c.finish.ensures.ok (sym (c.ended.ensures i.runs) ∙ c.loop-chain-test.false)
 
 pub returns-clause-ended : goal.returns-clause-ended
 returns-clause-ended c =
     let i = c.loop-chain.invariant in
     all_ended_ok (λ e. e.steps) (λ e. e.replies) (λ e. e.output) (λ e. e.ended) c.args.stages.now c.args.input.items c.args.chunk i.from.0 c.loop-chain.chain c.finish.result
-    i.from.1 i.from.3 (sym (c.ended.ensures i.runs) ∙ c.loop-chain-test.false) (c.finish.ensures.steps, c.finish.ensures.replies, c.finish.ensures.plays) c.finish.ensures.ended
+    i.from.1 i.from.3 c.finish.ensures.ok (sym (c.ended.ensures i.runs) ∙ c.loop-chain-test.false)
 
 pub returns-clause-composed : goal.returns-clause-composed
 returns-clause-composed c =
     let i = c.loop-chain.invariant in
     all_ok (λ e. e.steps) (λ e. e.replies) (λ e. e.output) (λ e. e.ended) c.args.stages.now c.args.input.items c.args.chunk i.from.0 c.loop-chain.chain c.finish.result
-    i.from.1 i.from.3 (sym (c.ended.ensures i.runs) ∙ c.loop-chain-test.false) (c.finish.ensures.steps, c.finish.ensures.replies, c.finish.ensures.plays) c.finish.ensures.ended c.finish.ensures.composed
+    i.from.1 i.from.3 c.finish.ensures.ok (sym (c.ended.ensures i.runs) ∙ c.loop-chain-test.false)
 
 pub returns-clause-few : goal.returns-clause-few
 returns-clause-few c =
-    few_ok (λ e. e.steps) c.finish.result c.loop-chain.chain.play.steps _ c.finish.ensures.steps (omega (arith, c.loop-chain.invariant.spent))
+    few_ok (λ e. e.steps) c.finish.result c.loop-chain.chain.play.steps _ (IfOk-weaker c.finish.result _ _ (λ e h. h.steps_are) c.finish.ensures.ok) (omega (arith, c.loop-chain.invariant.spent))

@@ -20,7 +20,7 @@ turn_with_room-requires-clause-room c =
 pub loop-who-preserved : goal.loop-who-preserved
 loop-who-preserved c =
     let i = c.loop-who.invariant in
-    let e = c.in_ok-turn_with_room.ensures in
+    let e = c.in_ok-turn_with_room.ensures.ok in
     record {
       turns = some_more (length c.args.chain.now.workers - 1) (length c.loop-who.chain.workers - 1) c.args.chain.now.chunk c.loop-who.chain.chunk
           c.args.chain.now.play c.loop-who.chain.play c.turn_with_room.new.self.play (ap (λ n. n - 1) i.goes_on.many) i.goes_on.chunk _ _ i.turns e.turns;

@@ -16,7 +16,7 @@ loop-who-preserved c =
     record {
       turns = turns_mod c.args.chain.now.chunk c.loop-who.chain.chunk (length c.args.chain.now.workers) (length c.loop-who.chain.workers) c.guests-guests.result
           c.args.schedule.now c.loop-who.who-index 0 _ c.args.chain.now.play c.loop-who.chain.play c.turn.new.self.play
-          c.loop-who-test.true i.goes_on.chunk i.goes_on.many c.guests-guests.ensures.count i.turns c.in_ok-turn.ensures.turns;
-      goes_on = goes_further c.args.chain.now c.loop-who.chain c.turn.new.self i.goes_on c.in_ok-turn.ensures.goes_on;
-      runs = c.in_ok-turn.ensures.runs;
+          c.loop-who-test.true i.goes_on.chunk i.goes_on.many c.guests-guests.ensures.count i.turns c.in_ok-turn.ensures.ok.turns;
+      goes_on = goes_further c.args.chain.now c.loop-who.chain c.turn.new.self i.goes_on c.in_ok-turn.ensures.ok.goes_on;
+      runs = c.in_ok-turn.ensures.ok.runs;
     }

@@ -1,38 +1,22 @@
-use Rattle.strm_chain.proofs.ChainLemmas.{going_ok, stages_ok, input_ok, turns_ok, lowers_ok}
-use Rattle.strm_chain.specs.Keeping.{worker_at}
-use Rattle.strm_chain.proofs.RoomLemmas.{short_ok}
+use Rattle.strm_chain.proofs.ChainLemmas.{kept_ok, takes_ok}
 use Rattle.strm_chain.proofs.chains.turn_in.Goals as goal
 
-pub returns-clause-going : goal.returns-clause-going
-returns-clause-going c =
-    let e = c.turn_at.ensures in
-    going_ok c.args.player.now c.turn_at.new.player c.args.workers.now c.turn_at.new.workers c.args.who c.args.chunk c.turn_at.result c.requires.chunk c.requires.there
-    (record { many = e.many; others = e.others }) e.before e.after c.requires.going e.turned
+pub turn_at-requires-clause-chunk : goal.turn_at-requires-clause-chunk
+turn_at-requires-clause-chunk c = c.requires.chain.chunk
 
-pub returns-clause-stages : goal.returns-clause-stages
-returns-clause-stages c =
-    let e = c.turn_at.ensures in
-    stages_ok c.args.player.now c.turn_at.new.player c.args.workers.now c.turn_at.new.workers c.args.who c.args.chunk c.turn_at.result c.requires.chunk c.requires.there
-    (record { many = e.many; others = e.others }) e.turned
+pub turn_at-requires-clause-joined : goal.turn_at-requires-clause-joined
+turn_at-requires-clause-joined c = c.requires.chain.going.joined
 
-pub returns-clause-input : goal.returns-clause-input
-returns-clause-input c =
+pub returns-clause-kept : goal.returns-clause-kept
+returns-clause-kept c =
     let e = c.turn_at.ensures in
-    input_ok c.args.player.now c.turn_at.new.player c.args.workers.now c.turn_at.new.workers c.args.who c.args.chunk c.turn_at.result c.requires.chunk c.requires.there
-    (record { many = e.many; others = e.others }) c.requires.going.joined e.turned
+    let chain = c.requires.chain in
+    kept_ok c.args.player.now c.turn_at.new.player c.args.workers.now c.turn_at.new.workers c.args.who c.args.chunk c.turn_at.result chain.chunk c.requires.there
+    (record { many = e.many; others = e.others }) e.before e.after chain.going chain.some e.turned
 
-pub returns-clause-turns : goal.returns-clause-turns
-returns-clause-turns c =
+pub returns-clause-ok : goal.returns-clause-ok
+returns-clause-ok c =
     let e = c.turn_at.ensures in
-    turns_ok c.args.player.now c.turn_at.new.player c.args.workers.now c.turn_at.new.workers c.args.who c.args.chunk c.turn_at.result c.requires.chunk c.requires.there
-    (record { many = e.many; others = e.others }) c.requires.going e.turned
-
-pub returns-clause-lowers : goal.returns-clause-lowers
-returns-clause-lowers c =
-    let e = c.turn_at.ensures in
-    lowers_ok c.args.player.now c.turn_at.new.player c.args.workers.now c.turn_at.new.workers c.args.who c.args.chunk c.turn_at.result c.requires.chunk c.requires.there
-    (record { many = e.many; others = e.others }) e.before e.after c.requires.going c.requires.some e.turned
-
-pub returns-clause-short : goal.returns-clause-short
-returns-clause-short c =
-    short_ok c.args.player.now c.turn_at.new.player (worker_at c.args.workers.now c.args.who) (worker_at c.turn_at.new.workers c.args.who) c.args.who c.args.chunk c.turn_at.result c.turn_at.ensures.turned
+    let chain = c.requires.chain in
+    takes_ok c.args.player.now c.turn_at.new.player c.args.workers.now c.turn_at.new.workers c.args.who c.args.chunk c.turn_at.result chain.chunk c.requires.there
+    (record { many = e.many; others = e.others }) e.before e.after chain.going chain.some.0 e.turned

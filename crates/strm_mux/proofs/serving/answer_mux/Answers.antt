@@ -6,5 +6,5 @@ returns-in_ok-text-in-Ok-clause-carried c = λ input h.
     let carried = c.in-Ok.carried in
     let told = c.in-Ok.ensures in
     carried_by c.args.sizes.write c.args.sizes.read carried.moved input _ c.args.mux.now carried.steps carried.replies h
-    (record { script = told.steps; plays = told.played; gets = told.got; moves = told.moved })
+    told.carried
     (c.in_ok-text-in-Ok.ensures h.given (told.delivers h.given h.carries) h.puts.have)
