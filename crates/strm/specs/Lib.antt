@@ -1,2 +1,1 @@
-pub mod HostEnds
 pub mod Served

@@ -2,18 +2,18 @@
 use Rattle.std.specs.Prelude.{◌≢◌, ℕ, List, Option}
 use Rattle.strm_buffers.specs.Tells.{Tells}
 use Rattle.strm_session.specs.Serving.{IsRunOutput, IsRunStatus}
-use Rattle.strm.specs.HostEnds.{host_ends}
+use Rattle.strm_program_hosts.specs.HostEnds.{host_ends}
 
--- a text whose cause is known: from what the input had left, and among the program's host ends, none of which
--- was used before
-pub record HasText (words : List (List ℕ)) (left : Option (List ℕ)) (status : ℕ) : Type 0 where
+-- a text whose cause is known: from what the input had left and its faults, and among the program's host ends,
+-- none of which was used before
+pub record HasText (words : List (List ℕ)) (left : Option (List ℕ)) (before status : ℕ) : Type 0 where
   pub rest : Option (List ℕ)
   pub faults : ℕ
   pub text : List ℕ
   pub told : Tells
-  pub output : IsRunOutput words left rest host_ends told 0 faults status text
+  pub output : IsRunOutput words left rest host_ends told before faults status text
 
 -- the program's status to these words; with each but 5 and 9 goes such a text
-pub record IsServed (words : List (List ℕ)) (left : Option (List ℕ)) (status : ℕ) : Type 0 where
+pub record IsServed (words : List (List ℕ)) (left : Option (List ℕ)) (before status : ℕ) : Type 0 where
   pub known : IsRunStatus status
-  pub told : status ≢ 5 → status ≢ 9 → HasText words left status
+  pub told : status ≢ 5 → status ≢ 9 → HasText words left before status

@@ -6,3 +6,4 @@ pub mod TapeLemmas
 pub mod WrittenLemmas
 pub mod ManyLemmas
 pub mod SameLemmas
+pub mod SpelledLemmas

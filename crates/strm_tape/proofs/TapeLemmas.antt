@@ -167,7 +167,7 @@ ArePartsFit payload v = IsSpelledRoom v.0 × (Unit {0} × (AreRecorded (scalars_
 IsReading-parts : (payload : Payload) → IsReading (followed_by_part read_room (followed_by_part flag (followed_by_part (read_item_list (scalars_of payload)) answer))) (bytes_of_parts payload) (ArePartsFit payload)
 IsReading-parts payload = IsReading-followed_by IsReading-room (IsReading-followed_by IsReading-flag (IsReading-followed_by (IsReading-items (scalars_of payload)) IsReading-answer))
 
-IsReading-writer_record : (payload : Payload) → IsReading (read_writer_record payload) writer_record_bytes (IsWriterRecord payload)
+pub IsReading-writer_record : (payload : Payload) → IsReading (read_writer_record payload) writer_record_bytes (IsWriterRecord payload)
 IsReading-writer_record payload =
     IsReading-made (IsReading-parts payload) writer_record_bytes (IsWriterRecord payload) (record_of payload) parts_of
     (λ v. refl)

@@ -152,6 +152,10 @@ pub record TapeOf : Type 0 where
   pub writers : List WriterTape
   pub readers : List ReaderTape
 
+-- the tape of these
+abbrev pub tape_with : List Step → List WriterTape → List ReaderTape → TapeOf
+tape_with steps writers readers = record { steps = steps; writers = writers; readers = readers }
+
 -- a host writer: its type, and its records
 abbrev pub writer_bytes : WriterTape → List ℕ
 writer_bytes writer = type_bytes writer.ty ++ spelled_counted writer_record_bytes writer.said

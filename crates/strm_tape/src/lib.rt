@@ -9,6 +9,7 @@ mod parts;
 mod records;
 pub mod sameness;
 mod shapes;
+mod spelled;
 mod steps;
 pub mod tapable;
 pub mod tape;

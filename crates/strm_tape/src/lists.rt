@@ -8,12 +8,12 @@ ghost use Rattle.std.specs.Option.{option_map};
 ghost use Rattle.strm_tape.specs.Reading.{many, read_counted, few_listed, step, read_writer_record, read_reader_record, writer, reader};
 
 use crate::parts::{byte, number, transmit_type};
-use crate::records::{reader_record, writer_record};
+use crate::records::{after_record, reader_record};
+use crate::spelled::SpelledRecords;
 use crate::steps::step;
 use crate::tape::{ReaderTape, WriterTape};
 use std::alloc::Global;
 use strm_buffers::answers::ReaderSaid;
-use strm_buffers::said::WriterSaid;
 use strm_codes::counts::OutOfMemory;
 use strm_codes::payloads::Payload;
 use strm_machine::steps::Step;
@@ -44,7 +44,7 @@ fn steps(alloc: Global, count: u32, bytes: &[u8]) -> Result<Option<(Vec<Step>, &
 }
 
 // Steps behind their number, and what follows them.
-#[tactic(auto, unfolding(crate::specs::Reading::listed))]
+#[tactic(auto, unfolding(crate::specs::Reading::read_counted))]
 pub(crate) fn listed_steps(
     alloc: Global,
     bytes: &[u8],
@@ -58,26 +58,25 @@ pub(crate) fn listed_steps(
     }
 }
 
-// So many records of a host writer, and what follows them.
-fn writer_records<'a>(
+// What follows so many records of a host writer.
+pub(crate) fn after_records<'a>(
     alloc: Global,
     payload: &Payload,
     count: u32,
     bytes: &'a [u8],
-) -> Result<Option<(Vec<WriterSaid>, &'a [u8])>, OutOfMemory>
-    ensures { IfOk result (λ found. option_map (λ p. (p.0.items, p.1.now)) found
-        ≡ many (read_writer_record payload.now) count bytes.now) }
+) -> Result<Option<&'a [u8]>, OutOfMemory>
+    ensures { IfOk result (λ found. option_map (λ rest. rest.now) found
+        ≡ option_map (λ p. p.1) (many (read_writer_record payload.now) count bytes.now)) }
 {
-    let mut all = Vec::new(alloc);
+    let mut written = Vec::new(alloc);
     let mut rest = bytes;
     for k in 0..count {
-        let Some((found, behind)) = writer_record(alloc, *payload, rest)? else {
+        let Some(behind) = after_record(*payload, rest, &mut written)? else {
             return Ok(None);
         };
-        push_item(&mut all, found)?;
         rest = behind;
     }
-    Ok(Some((all, rest)))
+    Ok(Some(rest))
 }
 
 // So many records of a host reader, and what follows them.
@@ -102,7 +101,7 @@ fn reader_records(
 }
 
 // What a tape has of a host writer, and what follows it.
-#[tactic(auto, unfolding(crate::specs::Reading::listed))]
+#[tactic(auto, unfolding(crate::specs::Reading::read_counted))]
 fn writer(alloc: Global, bytes: &[u8]) -> Result<Option<(WriterTape, &[u8])>, OutOfMemory>
     ensures { IfOk result (λ found. option_map (λ p. (p.0, p.1.now)) found ≡ writer bytes.now) }
 {
@@ -112,14 +111,14 @@ fn writer(alloc: Global, bytes: &[u8]) -> Result<Option<(WriterTape, &[u8])>, Ou
     let Some((count, rest)) = number(rest) else {
         return Ok(None);
     };
-    let Some((said, behind)) = writer_records(alloc, &ty.payload(), count, rest)? else {
+    let Some((records, behind)) = SpelledRecords::read(alloc, &ty.payload(), count, rest)? else {
         return Ok(None);
     };
-    Ok(Some((WriterTape { ty, said }, behind)))
+    Ok(Some((WriterTape { ty, records }, behind)))
 }
 
 // What a tape has of a host reader, and what follows it.
-#[tactic(auto, unfolding(crate::specs::Reading::listed))]
+#[tactic(auto, unfolding(crate::specs::Reading::read_counted))]
 fn reader(alloc: Global, bytes: &[u8]) -> Result<Option<(ReaderTape, &[u8])>, OutOfMemory>
     ensures { IfOk result (λ found. option_map (λ p. (p.0, p.1.now)) found ≡ reader bytes.now) }
 {

@@ -31,7 +31,7 @@ pub(crate) fn byte(bytes: &[u8]) -> Option<(u8, &[u8])>
 
 // A number of four bytes, and what follows it.
 #[inline(always)]
-#[tactic(auto, unfolding(crate::specs::Reading::number))]
+#[tactic(auto, unfolding(crate::specs::Reading::read_number))]
 pub(crate) fn number(bytes: &[u8]) -> Option<(u32, &[u8])>
     ensures { option_map (λ p. (p.0, p.1.now)) result ≡ read_number bytes.now }
 {
@@ -194,7 +194,7 @@ fn type_by(kind: u8, bytes: &[u8]) -> Option<(TransmitIndex, &[u8])>
 }
 
 // The count of a read or write of this type, and what follows it.
-#[tactic(auto, unfolding(crate::specs::Reading::count_of))]
+#[tactic(auto, unfolding(crate::specs::Reading::read_count))]
 pub(crate) fn count_of<'a>(ty: &TransmitIndex, bytes: &'a [u8]) -> Option<(u32, &'a [u8])>
     ensures { option_map (λ p. (p.0, p.1.now)) result ≡ read_count ty.now bytes.now }
 {

@@ -4,7 +4,7 @@
 //! Source: ours.
 
 ghost use Rattle.std.specs.Prelude.{◌≡◌, ◌<◌, ◌*◌, ◌++◌, ◌∷◌, [], Bool, true, false, length, replicate, slice_get, if◌then◌else◌, Some, None, IsTrue, IfOk, OnOk};
-ghost use Rattle.std.specs.Option.{option_map};
+ghost use Rattle.std.specs.Option.{option_map, is_some};
 ghost use Rattle.strm_codes.specs.Layout.{scalars_of, item_size, is_number_payload};
 ghost use Rattle.strm_buffers.specs.Listing.{items_in, AreItemsKept};
 ghost use Rattle.strm_tape.specs.Reading.{read_as, flag, all_answers, answer, room_of_number, read_room, items_as_written, region, read_item_list, read_writer_record, read_reader_record, typed_items};
@@ -74,7 +74,7 @@ fn room_of(number: u32) -> Option<Option<u32>>
 }
 
 // A room, and what follows it.
-#[tactic(auto, unfolding(crate::specs::Reading::room))]
+#[tactic(auto, unfolding(crate::specs::Reading::read_room))]
 fn room(bytes: &[u8]) -> Option<(Option<u32>, &[u8])>
     ensures { option_map (λ p. (p.0, p.1.now)) result ≡ read_room bytes.now }
 {
@@ -90,7 +90,8 @@ fn write_again(bytes: &[u8], payload: Payload, count: u32, written: &mut Vec<u8>
     requires few { count < 4294967295 }
     ensures kept { IsTrue result → AreItemsKept payload written.new.items 0 count }
     ensures exact { items_as_written (scalars_of payload) bytes.now count
-        ≡ (if result then Some (items_in (scalars_of payload) written.new.items 0 count) else None) }
+        ≡ (if result then Some (items_in (scalars_of payload) written.new.items 0 count)
+        else None) }
 {
     are_bytes(bytes);
     match copy_region(bytes, 0, written.as_mut_slice(), 0, payload, count as usize) {
@@ -109,7 +110,8 @@ fn fill(
     requires all { length bytes.now ≡ item_size (scalars_of payload) * count }
     requires empty { written.old.items ≡ [] }
     requires few { count < 4294967295 }
-    ensures kept { IfOk result (λ same. IsTrue same → AreItemsKept payload written.new.items 0 count) }
+    ensures kept { IfOk result (λ same. IsTrue same →
+        AreItemsKept payload written.new.items 0 count) }
     ensures exact { IfOk result (λ same. items_as_written (scalars_of payload) bytes.now count
         ≡ (if same then Some (items_in (scalars_of payload) written.new.items 0 count) else None)) }
 {
@@ -147,7 +149,8 @@ fn fill_any(
     requires all { length bytes.now ≡ item_size (scalars_of payload) * count }
     requires empty { written.old.items ≡ [] }
     requires few { count < 4294967295 }
-    ensures kept { IfOk result (λ same. IsTrue same → AreItemsKept payload written.new.items 0 count) }
+    ensures kept { IfOk result (λ same. IsTrue same →
+        AreItemsKept payload written.new.items 0 count) }
     ensures exact { IfOk result (λ same. items_as_written (scalars_of payload) bytes.now count
         ≡ (if same then Some (items_in (scalars_of payload) written.new.items 0 count) else None)) }
 {
@@ -168,7 +171,8 @@ fn items_of_bytes(
     requires all { length bytes.now ≡ item_size (scalars_of payload.now) * count }
     requires few { count < 4294967295 }
     ensures { IfOk result (λ found. found
-        ≡ option_map (typed_items payload.now) (items_as_written (scalars_of payload.now) bytes.now count)) }
+        ≡ option_map (typed_items payload.now)
+        (items_as_written (scalars_of payload.now) bytes.now count)) }
 {
     let mut written = Vec::new(alloc);
     if !fill_any(bytes, *payload, count, &mut written)? {
@@ -201,7 +205,7 @@ fn region(
 }
 
 // Items behind their number, and what follows them.
-#[tactic(auto, unfolding(crate::specs::Reading::items_of))]
+#[tactic(auto, unfolding(crate::specs::Reading::read_item_list))]
 fn items_of(
     alloc: Global,
     payload: Payload,
@@ -218,6 +222,97 @@ fn items_of(
     } else {
         Ok(None)
     }
+}
+
+// Whether these bytes are so many items, which are written again in the place of what was written.
+fn are_items(
+    bytes: &[u8],
+    payload: Payload,
+    count: u32,
+    written: &mut Vec<u8>,
+) -> Result<bool, OutOfMemory>
+    requires all { length bytes.now ≡ item_size (scalars_of payload) * count }
+    requires few { count < 4294967295 }
+    ensures { IfOk result (λ good. good
+        ≡ is_some (items_as_written (scalars_of payload) bytes.now count)) }
+{
+    if payload.is_number() {
+        are_bytes(bytes);
+        return Ok(true);
+    }
+    written.clear();
+    fill(bytes, payload, count, written)
+}
+
+// What follows so many items.
+#[inline(always)]
+#[tactic(auto, unfolding(crate::specs::Reading::region))]
+fn after_region<'a>(
+    payload: Payload,
+    count: u32,
+    bytes: &'a [u8],
+    written: &mut Vec<u8>,
+) -> Result<Option<&'a [u8]>, OutOfMemory>
+    requires few { count < 4294967295 }
+    ensures { IfOk result (λ found. option_map (λ rest. rest.now) found
+        ≡ option_map (λ p. p.1) (region (scalars_of payload) count bytes.now)) }
+{
+    let size = payload.size() as usize * count as usize;
+    if bytes.len() < size {
+        return Ok(None);
+    }
+    let (front, rest) = bytes.split_at(size);
+    if are_items(front, payload, count, written)? {
+        Ok(Some(rest))
+    } else {
+        Ok(None)
+    }
+}
+
+// What follows items behind their number.
+#[inline(always)]
+#[tactic(auto, unfolding(crate::specs::Reading::read_item_list))]
+fn after_items<'a>(
+    payload: Payload,
+    bytes: &'a [u8],
+    written: &mut Vec<u8>,
+) -> Result<Option<&'a [u8]>, OutOfMemory>
+    ensures { IfOk result (λ found. option_map (λ rest. rest.now) found
+        ≡ option_map (λ p. p.1) (read_item_list (scalars_of payload) bytes.now)) }
+{
+    let Some((count, rest)) = number(bytes) else {
+        return Ok(None);
+    };
+    if count < 4_294_967_295 {
+        after_region(payload, count, rest, written)
+    } else {
+        Ok(None)
+    }
+}
+
+// What follows a record of a host writer of this payload. Items that are no numbers are written again
+// in the place of what was written.
+pub(crate) fn after_record<'a>(
+    payload: Payload,
+    bytes: &'a [u8],
+    written: &mut Vec<u8>,
+) -> Result<Option<&'a [u8]>, OutOfMemory>
+    ensures { IfOk result (λ found. option_map (λ rest. rest.now) found
+        ≡ option_map (λ p. p.1) (read_writer_record payload bytes.now)) }
+{
+    let Some((_, rest)) = room(bytes) else {
+        return Ok(None);
+    };
+    let Some((_, rest)) = flag(rest) else {
+        return Ok(None);
+    };
+    let Some(rest) = after_items(payload, rest, written)? else {
+        return Ok(None);
+    };
+    let Some((_, rest)) = answer(rest) else {
+        return Ok(None);
+    };
+    Ok(Some(rest))
 }
 
 // A record of a host writer of this payload, and what follows it.

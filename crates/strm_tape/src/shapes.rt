@@ -29,7 +29,8 @@ pub(crate) fn three_numbers(bytes: &[u8]) -> Option<(u32, u32, u32, &[u8])>
 }
 
 pub(crate) fn number_and_type(bytes: &[u8]) -> Option<(u32, TransmitIndex, &[u8])>
-    ensures { option_map (λ p. ((p.0, p.1), p.2.now)) result ≡ followed_by_part read_number transmit_type bytes.now }
+    ensures { option_map (λ p. ((p.0, p.1), p.2.now)) result
+        ≡ followed_by_part read_number transmit_type bytes.now }
 {
     let (number, rest) = number(bytes)?;
     let Some((ty, rest)) = transmit_type(rest) else {
@@ -73,7 +74,8 @@ pub(crate) fn end_and_guest(bytes: &[u8]) -> Option<(u32, TransmitIndex, u32, u3
 }
 
 pub(crate) fn operands(bytes: &[u8]) -> Option<(u32, TransmitIndex, u32, u32, u32, &[u8])>
-    ensures { option_map (λ p. ((p.0, (p.1, (p.2, (p.3, p.4)))), p.5.now)) result ≡ read_operands bytes.now }
+    ensures { option_map (λ p. ((p.0, (p.1, (p.2, (p.3, p.4)))), p.5.now)) result
+        ≡ read_operands bytes.now }
 {
     let (guest, rest) = number(bytes)?;
     let Some((ty, rest)) = transmit_type(rest) else {
@@ -85,7 +87,8 @@ pub(crate) fn operands(bytes: &[u8]) -> Option<(u32, TransmitIndex, u32, u32, u3
 }
 
 pub(crate) fn number_and_fed(bytes: &[u8]) -> Option<(u32, Chunk, &[u8])>
-    ensures { option_map (λ p. ((p.0, p.1), p.2.now)) result ≡ followed_by_part read_number (chunk 0) bytes.now }
+    ensures { option_map (λ p. ((p.0, p.1), p.2.now)) result
+        ≡ followed_by_part read_number (chunk 0) bytes.now }
 {
     let (host, rest) = number(bytes)?;
     let Some((fed, rest)) = chunk(0, rest) else {

@@ -93,7 +93,7 @@ fn put_steps(out: &mut Vec<u8>, steps: &[Step]) -> Result<(), OutOfMemory>
 }
 
 // Records of a host writer in a row.
-fn put_writer_records(out: &mut Vec<u8>, said: &[WriterSaid]) -> Result<(), OutOfMemory>
+pub(crate) fn put_writer_records(out: &mut Vec<u8>, said: &[WriterSaid]) -> Result<(), OutOfMemory>
     ensures { OnOk result (out.new.items ≡ out.old.items ++ flat_map writer_record_bytes said.now) }
 {
     for k in 0..said.len() {
@@ -114,12 +114,11 @@ fn put_reader_records(out: &mut Vec<u8>, said: &[ReaderSaid]) -> Result<(), OutO
 
 // What a tape has of a host writer.
 fn put_writer(out: &mut Vec<u8>, writer: &WriterTape) -> Result<(), OutOfMemory>
-    requires { IsU32 (length writer.now.said) }
     ensures { OnOk result (out.new.items ≡ out.old.items ++ writer_bytes writer.now) }
 {
     put_type(out, &writer.ty)?;
-    put_number(out, writer.said.len() as u32)?;
-    put_writer_records(out, &writer.said)
+    put_number(out, writer.records.len())?;
+    put(out, writer.records.as_slice())
 }
 
 // What a tape has of a host reader.
@@ -134,7 +133,6 @@ fn put_reader(out: &mut Vec<u8>, reader: &ReaderTape) -> Result<(), OutOfMemory>
 
 // Host writers in a row.
 fn put_writers(out: &mut Vec<u8>, writers: &[WriterTape]) -> Result<(), OutOfMemory>
-    requires { All IsWriterTape writers.now }
     ensures { OnOk result (out.new.items ≡ out.old.items ++ flat_map writer_bytes writers.now) }
 {
     for k in 0..writers.len() {

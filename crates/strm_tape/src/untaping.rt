@@ -64,7 +64,8 @@ pub fn untape(alloc: Global, bytes: &[u8]) -> Result<Tape, TapeError>
     ensures ok { IfOk result (λ found. tape_spelling found ≡ bytes.now) }
 
     // What was written of a tape is read as that tape.
-    ensures again { (t : TapeOf) → IsTape t → tape_spelling t ≡ bytes.now → IfOk result (λ found. found ≡ t) }
+    ensures again { (t : TapeOf) → IsTape t → tape_spelling t ≡ bytes.now →
+        IfOk result (λ found. found ≡ t) }
     ensures not_a_tape { IsErrOf result TapeError.NotATape → (t : TapeOf) → IsTape t →
         tape_spelling t ≢ bytes.now }
     ensures known { IfErr result (λ e. (e ≡ TapeError.NotATape) ⊎ (e ≡ TapeError.OutOfMemory)) }

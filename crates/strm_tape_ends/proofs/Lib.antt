@@ -1,2 +1,1 @@
 pub mod FollowLemmas
-pub mod LastLemmas

@@ -80,11 +80,10 @@ fn turns_of(alloc: Global, said: &[ReaderSaid]) -> Result<Vec<ReaderTurn>, OutOf
 impl HostReader for ReplayReader {
     ghost use Rattle.std.specs.Prelude.{true, false, OnErr};
     ghost use Rattle.strm_codes.specs.Layout.{scalars_of};
-    ghost use Rattle.strm_buffers.specs.Offers.{after_taking, IsBadNext};
+    ghost use Rattle.strm_buffers.specs.Offers.{IsBadNext};
     ghost use Rattle.strm_buffers.specs.Said.{IfAnswered, IfNoMemory};
     ghost use Rattle.strm_buffers.specs.Tells.{PollsReader, KeepsReader, SameOffer, reader_record, first_lent, reader_tells_closed, reader_granted};
-    ghost use Rattle.strm_program_ends.specs.Takings.{turn_after};
-    ghost use Rattle.strm_tape_ends.specs.ReaderPlans.{plan_of_reader, replay_reader_tells};
+    ghost use Rattle.strm_tape_ends.specs.ReaderPlans.{plan_of_reader, replay_reader_tells, FollowsTurn};
 
     ghost reader_tells = { replay_reader_tells };
 
@@ -112,14 +111,7 @@ impl HostReader for ReplayReader {
         ensures same { SameOffer offer.old offer.new }
 
         // It follows the record of its place among the polls.
-        ensures takes { IfAnswered result (λ _. offer.new ≡
-            after_taking
-            (turn_after (plan_of_reader self.old)
-            (length (replay_reader_tells self.old).said)).take offer.old) }
-        ensures answer { IfAnswered result (λ answer. answer ≡
-            (turn_after (plan_of_reader self.old)
-            (length (replay_reader_tells self.old).said)).answer) }
-        ensures plan { plan_of_reader self.new ≡ plan_of_reader self.old }
+        ensures follows { FollowsTurn self.old self.new offer.old offer.new result }
     {
         self.end.poll(offer, finish)
     }

@@ -2,10 +2,12 @@
 //!
 //! Meaning: `Replays.antt`. Source: ours.
 
-ghost use Rattle.std.specs.Prelude.{◌≡◌, ◌<◌, ◌≤◌, ◌-◌, ◌∷◌, ◌++◌, [], All, length, vec_len, vec_capacity, take, drop, reverse, IfOk, OnOk};
+ghost use Rattle.std.specs.Prelude.{◌≡◌, ◌<◌, ◌≤◌, ◌∷◌, ◌++◌, [], All, length, vec_len, vec_capacity, drop, IfOk, IsSome, OnOk, OnErr};
+ghost use Rattle.std.specs.Option.{option_map_or};
 ghost use Rattle.strm_codes.specs.Types.{kind_of, payload_of};
 ghost use Rattle.strm_program_ends.specs.Scripts.{unpolled_writer};
 
+use crate::coming::next_of;
 use std::alloc::Global;
 use strm_buffers::answers::{Answer, HostTurn, Turn};
 use strm_buffers::items::Items;
@@ -16,7 +18,7 @@ use strm_buffers::writers::HostWriter;
 use strm_codes::codes::TransmitKind;
 use strm_codes::counts::OutOfMemory;
 use strm_codes::payloads::Payload;
-use strm_tape::tape::Tape;
+use strm_tape::tape::{Tape, WriterTape};
 
 /// A writer whose polls are the records of a host writer of a tape, in order: each produces the items of
 /// the next record, and answers what that says. After the last it answers Pending without items. It
@@ -25,13 +27,15 @@ use strm_tape::tape::Tape;
 pub struct ReplayWriter {
     kind: TransmitKind,
     payload: Payload,
-    // The records that are still to follow, the next one last.
-    backwards: Vec<WriterSaid>,
+    // The record that it follows at its next poll, if that is known yet, and those behind it.
+    next: Option<WriterSaid>,
+    coming: WriterTape,
     held: Items,
     said: Vec<WriterSaid>,
     closed: bool,
     alloc: Global,
-    ghost typed: { All (λ said. said.payload ≡ payload) backwards.items },
+    ghost next_typed: { option_map_or (λ said. said.payload) next payload ≡ payload },
+    ghost typed: { payload_of coming.ty ≡ payload },
     ghost holding: { held.payload ≡ payload },
     ghost recorded: { All (λ said. said.payload ≡ payload) said.items },
 }
@@ -50,16 +54,14 @@ impl ReplayWriter {
         ensures plan { (t : WriterTape) → slice_get tape.now.writers number ≡ Some t →
             IfOk result (λ w. plan_of w ≡ t.said) }
     {
-        tape.sound();
-        let writer = tape.writer(number);
-        let held = Items::new(alloc, writer.ty.payload());
-        let payload = held.payload();
-        let backwards = backwards(alloc, &writer.said, &payload)?;
+        let coming = tape.writer(number).copy()?;
+        let ty = coming.ty();
         Ok(ReplayWriter {
-            kind: writer.ty.kind(),
-            payload,
-            backwards,
-            held,
+            kind: ty.kind(),
+            payload: ty.payload(),
+            next: None,
+            coming,
+            held: Items::new(alloc, ty.payload()),
             said: Vec::new(alloc),
             closed: false,
             alloc,
@@ -67,61 +69,9 @@ impl ReplayWriter {
     }
 }
 
-// Adds a copy of a record at the end.
-fn push_copy(records: &mut Vec<WriterSaid>, said: &WriterSaid) -> Result<(), OutOfMemory>
-    ensures { OnOk result (records.new.items ≡ records.old.items ++ said.now ∷ []) }
-{
-    let copy = said.copy()?;
-    records.push(copy)?;
-    Ok(())
-}
-
-// Copies of records, the last one first.
-fn backwards(
-    alloc: Global,
-    said: &[WriterSaid],
-    payload: &Payload,
-) -> Result<Vec<WriterSaid>, OutOfMemory>
-    requires { All (λ one. one.payload ≡ payload.now) said.now }
-    ensures records { IfOk result (λ records. records.items ≡ reverse said.now) }
-    ensures typed { IfOk result (λ records. All (λ one. one.payload ≡ payload.now) records.items) }
-{
-    let mut records = Vec::new(alloc);
-    for k in 0..said.len() {
-        push_copy(&mut records, &said[k])?;
-    }
-    records.reverse();
-    Ok(records)
-}
-
-// The last of some records, which are all of this payload.
-fn last_of<'a>(records: &'a Vec<WriterSaid>, payload: &Payload) -> &'a WriterSaid
-    requires typed { All (λ one. one.payload ≡ payload.now) records.now.items }
-    requires some { 0 < vec_len records.now }
-    ensures payload { result.now.payload ≡ payload.now }
-    ensures next { reverse records.now.items
-        ≡ result.now ∷ reverse (take (vec_len records.now - 1) records.now.items) }
-{
-    &records[records.len() - 1]
-}
-
-// Takes the last of some records, which are all of this payload.
-fn take_last(records: &mut Vec<WriterSaid>, payload: &Payload) -> WriterSaid
-    requires typed { All (λ one. one.payload ≡ payload.now) records.old.items }
-    requires some { 0 < vec_len records.old }
-    ensures typed { All (λ one. one.payload ≡ payload.now) records.new.items }
-    ensures payload { result.payload ≡ payload.now }
-    ensures next { reverse records.old.items ≡ result ∷ reverse records.new.items }
-{
-    match records.pop() {
-        Some(last) => last,
-        None => unreachable!(),
-    }
-}
-
 // A record with the room and the wish of another poll.
 fn again(said: WriterSaid, room: Option<u32>, finish: bool) -> WriterSaid
-    ensures { result ≡ record { room = room; finish = finish; payload = said.payload; items = said.items; answer = said.answer } }
+    ensures { result ≡ record said { room = room; finish = finish } }
 {
     WriterSaid {
         room,
@@ -157,11 +107,11 @@ fn rest_of(alloc: Global, items: &Items, count: usize) -> Result<Items, OutOfMem
 }
 
 impl HostWriter for ReplayWriter {
-    ghost use Rattle.std.specs.Prelude.{true, OnErr};
+    ghost use Rattle.std.specs.Prelude.{true};
     ghost use Rattle.strm_buffers.specs.Windows.{Between, room_of};
     ghost use Rattle.strm_buffers.specs.Said.{in_room, IfAnswered, IfNoMemory};
     ghost use Rattle.strm_buffers.specs.Tells.{PollsWriter, KeepsWriter, ClosesWriter, Fills, writer_record, writer_given, writer_fed};
-    ghost use Rattle.strm_tape_ends.specs.Replays.{plan_of, replay_tells, next_record_items, next_record_answer};
+    ghost use Rattle.strm_tape_ends.specs.Replays.{plan_of, replay_tells, FollowsNext, SamePlan};
 
     ghost writer_tells = { replay_tells };
 
@@ -178,20 +128,17 @@ impl HostWriter for ReplayWriter {
         requires nothing_held { self.old.held.items ≡ [] }
         requires nothing_marked { window.old.marked ≡ [] }
         requires prepared { window.old.prepared ≡ true }
-        ensures polls { IfAnswered result (λ answer. PollsWriter (replay_tells self.old) (replay_tells self.new)
-            (writer_record window.old finish window.new.marked (replay_tells self.new).holds answer) window.new.marked) }
-        ensures no_memory { IfNoMemory result (KeepsWriter (replay_tells self.old) (replay_tells self.new)) }
+        ensures polls { IfAnswered result (λ answer.
+            PollsWriter (replay_tells self.old) (replay_tells self.new)
+            (writer_record window.old finish window.new.marked
+            (replay_tells self.new).holds answer) window.new.marked) }
+        ensures no_memory { IfNoMemory result
+            (KeepsWriter (replay_tells self.old) (replay_tells self.new)) }
         ensures fills { Fills window.old window.new }
 
-        // It follows the next record of its plan.
-        ensures answer { IfAnswered result (λ answer. answer ≡ next_record_answer (plan_of self.old)) }
-        ensures items { IfAnswered result (λ _. window.new.marked ++ self.new.held.items ≡ next_record_items (plan_of self.old)) }
-        ensures plan { IfAnswered result (λ _. plan_of self.new ≡ drop 1 (plan_of self.old)) }
-
-        // Without memory the next one is what it was.
-        ensures same_answer { IfNoMemory result (next_record_answer (plan_of self.new) ≡ next_record_answer (plan_of self.old)) }
-        ensures same_items { IfNoMemory result (next_record_items (plan_of self.new) ≡ next_record_items (plan_of self.old)) }
-        ensures same_behind { IfNoMemory result (drop 1 (plan_of self.new) ≡ drop 1 (plan_of self.old)) }
+        // It follows the next record of its plan; without memory its plan says what it said.
+        ensures follows { IfAnswered result (FollowsNext self.old self.new window.new) }
+        ensures same_plan { IfNoMemory result (SamePlan (plan_of self.old) (plan_of self.new)) }
     {
         match self.find_next() {
             Ok(()) => {}
@@ -229,7 +176,8 @@ impl HostWriter for ReplayWriter {
     }
 
     fn feed(&mut self, _bytes: &[u8]) -> Result<(), OutOfMemory>
-        ensures ok { OnOk result (replay_tells self.new ≡ writer_fed (replay_tells self.old) _bytes.now) }
+        ensures ok { OnOk result
+            (replay_tells self.new ≡ writer_fed (replay_tells self.old) _bytes.now) }
         ensures err { OnErr result (replay_tells self.new ≡ replay_tells self.old) }
 
         // Its plan stays.
@@ -258,36 +206,22 @@ impl HostWriter for ReplayWriter {
 }
 
 impl ReplayWriter {
-    ghost use Rattle.std.specs.Prelude.{true, OnErr};
-    ghost use Rattle.strm_codes.specs.Layout.{scalars_of};
-    ghost use Rattle.strm_memory.specs.Items.{AreItems};
-    ghost use Rattle.strm_buffers.specs.Windows.{room_of};
-    ghost use Rattle.strm_buffers.specs.Said.{in_room, past_room};
     ghost use Rattle.strm_buffers.specs.Tells.{Fills};
-    ghost use Rattle.strm_tape_ends.specs.Replays.{plan_of, next_record_items, next_record_answer};
+    ghost use Rattle.strm_tape_ends.specs.Replays.{plan_of, SamePlan, FollowsRecord, FollowsNone, SameType};
 
-    // Sees that there is a record to follow: behind the last, one without items.
+    // Sees that the record to follow is known: behind the last, one without items.
     fn find_next(&mut self) -> Result<(), OutOfMemory>
-        ensures found { OnOk result (0 < vec_len self.new.backwards) }
-        ensures items { next_record_items (plan_of self.new) ≡ next_record_items (plan_of self.old) }
-        ensures answer { next_record_answer (plan_of self.new) ≡ next_record_answer (plan_of self.old) }
-        ensures behind { drop 1 (plan_of self.new) ≡ drop 1 (plan_of self.old) }
-        ensures kind { self.new.kind ≡ self.old.kind }
-        ensures payload { self.new.payload ≡ self.old.payload }
+        ensures found { OnOk result (IsSome self.new.next) }
+        ensures plan { SamePlan (plan_of self.old) (plan_of self.new) }
+        ensures same_type { SameType self.old self.new }
         ensures said { self.new.said.items ≡ self.old.said.items }
         ensures held { self.new.held.items ≡ self.old.held.items }
-        ensures closed { self.new.closed ≡ self.old.closed }
     {
-        if !self.backwards.is_empty() {
+        if self.next.is_some() {
             return Ok(());
         }
-        let nothing = WriterSaid {
-            room: None,
-            finish: false,
-            items: Items::new(self.alloc, self.payload),
-            answer: Answer::Pending,
-        };
-        self.backwards.push(nothing)?;
+        let next = next_of(self.alloc, &mut self.coming)?;
+        self.next = Some(next);
         Ok(())
     }
 
@@ -295,32 +229,27 @@ impl ReplayWriter {
     fn follow(&mut self, window: &mut Window, finish: bool) -> Result<Answer, OutOfMemory>
         requires payload { window.old.payload ≡ self.old.payload }
         requires nothing_marked { window.old.marked ≡ [] }
-        requires next { 0 < vec_len self.old.backwards }
-        ensures answer { IfOk result (λ answer. answer ≡ next_record_answer (plan_of self.old)) }
-        ensures marked { OnOk result (window.new.marked ≡ in_room (room_of window.old.place) (next_record_items (plan_of self.old))) }
-        ensures held { OnOk result (self.new.held.items ≡ past_room (room_of window.old.place) (next_record_items (plan_of self.old))) }
-        ensures said { OnOk result (self.new.said.items ≡ self.old.said.items
-            ++ record { room = room_of window.old.place; finish = finish; payload = window.old.payload; items = next_record_items (plan_of self.old); answer = next_record_answer (plan_of self.old) } ∷ []) }
-        ensures fit { OnOk result (AreItems (scalars_of self.old.payload) (next_record_items (plan_of self.old))) }
-        ensures plan { OnOk result (plan_of self.new ≡ drop 1 (plan_of self.old)) }
-        ensures err { OnErr result (self.new.said.items ≡ self.old.said.items) }
-        ensures same_plan { OnErr result (plan_of self.new ≡ plan_of self.old) }
-        ensures same_held { OnErr result (self.new.held.items ≡ self.old.held.items) }
-        ensures kind { self.new.kind ≡ self.old.kind }
-        ensures same_payload { self.new.payload ≡ self.old.payload }
-        ensures closed { self.new.closed ≡ self.old.closed }
+        requires next { IsSome self.old.next }
+        ensures follows { IfOk result
+            (FollowsRecord self.old self.new window.old window.new finish) }
+        ensures err { OnErr result (FollowsNone self.old self.new) }
+        ensures same_type { SameType self.old self.new }
         ensures fills { Fills window.old window.new }
     {
         let room = window.room();
         self.said.reserve(1)?;
-        let next = &last_of(&self.backwards, &self.payload).items;
-        next.sound();
-        let count = mark_in_room(window, next)?;
-        let held = rest_of(self.alloc, next, count)?;
-        let last = take_last(&mut self.backwards, &self.payload);
-        let answer = last.answer;
+        let Some(next) = &self.next else {
+            unreachable!();
+        };
+        next.items.sound();
+        let count = mark_in_room(window, &next.items)?;
+        let held = rest_of(self.alloc, &next.items, count)?;
+        let Some(next) = self.next.take() else {
+            unreachable!();
+        };
+        let answer = next.answer;
         self.held = held;
-        push_record(&mut self.said, again(last, room, finish), &self.payload);
+        push_record(&mut self.said, again(next, room, finish), &self.payload);
         Ok(answer)
     }
 }

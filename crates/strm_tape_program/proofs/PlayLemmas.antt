@@ -25,10 +25,6 @@ other_run tape old new text other is = record {
   differs = λ e. (other, is);
 }
 
--- with the status that was meant
-pub other_run_as : (tape : TapeOf) (old new : Tells) (status : ℕ) (text : List ℕ) → status ≡ 10 → IsOtherRun tape old new → text ≡ differs_text → IsOfTape tape old new status text
-other_run_as tape old new status text e other is = subst (λ (s : ℕ). IsOfTape tape old new s text) (sym e) (other_run tape old new text other is)
-
 writers_same : (writers : List WriterTape) (n at : ℕ) → WritersDiffer writers writers n at → ⊥
 writers_same writers n at d = d.1.there refl
 

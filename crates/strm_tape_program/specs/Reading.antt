@@ -1,5 +1,5 @@
 -- Why what is read is no tape, and what is written then. Ours.
-use Rattle.std.specs.Prelude.{◌≡◌, ◌⊎◌, ◌<◌, ◌≤◌, ℕ, List, length, Option, Some, IfSome}
+use Rattle.std.specs.Prelude.{◌≡◌, ◌⊎◌, ◌<◌, ◌≤◌, ℕ, List, length, Option, Some, IfSome, Result, Err, MatchResult}
 use Rattle.strm_codes.specs.Counters.{Rose}
 use Rattle.strm_lines.specs.Text.{too_long_text, read_fault_text}
 use Rattle.strm_tape.specs.Spelling.{TapeOf, IsTape, tape_spelling}
@@ -39,3 +39,17 @@ IsWhy left before after causes.OutOfMemory = Unit {0}
 pub record IsReadable (left : Option (List ℕ)) (before after : ℕ) (bytes : List ℕ) : Type 0 where
   pub left_is : left ≡ Some bytes
   pub source : ¬ Rose before after
+
+-- which answer comes, but for faults and running out of memory, by causes that a caller sees: the tape that was
+-- spelled, or that there is too much, or that there is none
+pub record IsReadComplete (left : Option (List ℕ))
+    (source_before source_after sink_before sink_after : ℕ) (result : Result TapeOf ℕ) : Type 0 where
+  pub complete : (tape : TapeOf) → IsTape tape →
+      IsReadable left source_before source_after (tape_spelling tape) →
+      length (tape_spelling tape) ≤ most_bytes →
+      MatchResult result (λ found. found ≡ tape) (λ status. status ≡ 9)
+  pub too_long : (bytes : List ℕ) → IsReadable left source_before source_after bytes →
+      most_bytes < length bytes → ¬ Rose sink_before sink_after → (result ≡ Err 3) ⊎ (result ≡ Err 9)
+  pub not_a_tape : (bytes : List ℕ) → IsReadable left source_before source_after bytes →
+      length bytes ≤ most_bytes → ¬ IsSpelling bytes → ¬ Rose sink_before sink_after →
+      (result ≡ Err 11) ⊎ (result ≡ Err 9)

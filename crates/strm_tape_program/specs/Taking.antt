@@ -2,7 +2,7 @@
 use Rattle.std.specs.Prelude.{◌≡◌, ◌≢◌, ◌⊎◌, ℕ, List, Option, Result, IfSome}
 use Rattle.strm_buffers.specs.Tells.{Tells}
 use Rattle.strm_machine.specs.declared.steps.Step.{Step}
-use Rattle.strm_input_output.specs.Serving.{IsOfSource}
+use Rattle.strm_input_output.specs.Serving.{IsOfSource, IsFaultless, IsOr}
 use Rattle.strm_lines.specs.Lines.{lines_of, Spells, IsFirstBadLine, IsTooLong}
 use Rattle.strm_lines.specs.Text.{bad_line_text, too_long_text, read_fault_text}
 use Rattle.strm_session.specs.declared.runs.RunStop.{RunStop}
@@ -44,6 +44,20 @@ pub record IsOfScript (left rest : Option (List ℕ)) (old new : Tells)
       × IfSome left (λ input. IsFirstBadLine (lines_of input) line) × (text ≡ bad_line_text line)
   -- where nothing is run, the host ends are as they were
   pub unrun : status ≢ 0 → new ≡ old
+
+-- which status comes, but for faults and running out of memory, by causes that a caller sees: lines in the grammar
+-- and the limits are run and taken; else the first bad line is told, or that the input is too long
+pub record IsTakeComplete (left : Option (List ℕ))
+    (source_before source_after sink_before sink_after status : ℕ) : Type 0 where
+  pub complete : (input : List ℕ) (steps : List Step) →
+      IsFaultless left input source_before source_after sink_before sink_after →
+      Spells (lines_of input) steps → ¬ IsTooLong input → IsOr 0 status
+  pub bad_line : (input : List ℕ) (line : ℕ) →
+      IsFaultless left input source_before source_after sink_before sink_after →
+      IsFirstBadLine (lines_of input) line → ¬ IsTooLong input → IsOr 2 status
+  pub too_long : (input : List ℕ) →
+      IsFaultless left input source_before source_after sink_before sink_after →
+      IsTooLong input → IsOr 3 status
 
 -- the statuses of taking
 abbrev pub IsTakeStatus : ℕ → Type 0

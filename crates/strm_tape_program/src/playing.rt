@@ -5,7 +5,7 @@
 ghost use Rattle.std.specs.Prelude.{◌≡◌, ◌≢◌, ◌⊎◌, Result, IfOk};
 ghost use Rattle.strm_buffers.specs.Tells.{Tells};
 ghost use Rattle.strm_codes.specs.Counters.{Rose};
-ghost use Rattle.strm_input_output.specs.Serving.{WritesWhole, WritesPart, IsOr};
+ghost use Rattle.strm_input_output.specs.Serving.{Writes, port, IsOr};
 ghost use Rattle.strm_session.specs.Records.{HostsGoOn};
 ghost use Rattle.strm_session.specs.Serving.{IsStopStatus};
 ghost use Rattle.strm_session.specs.declared.runs.RunStop.{RunStop};
@@ -15,7 +15,7 @@ ghost use Rattle.strm_tape_runs.specs.Taking.{tape_of_run};
 ghost use Rattle.strm_tape_runs.specs.Playing.{AreEndsOf, WasRunOrNot, IsPlayOf};
 ghost use Rattle.strm_tape_program.specs.Playing.{IsReplay, IsOfTape, IsPlayStatus, IsStatusOfPlay};
 
-use crate::statuses::{DIFFERS, DONE, OUT_OF_MEMORY, WRITE_FAULT};
+use crate::statuses::{DIFFERS, DONE, OUT_OF_MEMORY};
 use crate::texts::differs_text;
 use std::alloc::Global;
 use strm_codes::counts::OutOfMemory;
@@ -41,13 +41,9 @@ pub fn tape_play<K: Sink, H: RecordedEnds>(
 ) -> u8
     requires ends { AreEndsOf tape.now (H.tells hosts.old) }
     ensures known { IsPlayStatus result }
-    ensures told { result ≢ WRITE_FAULT → result ≢ OUT_OF_MEMORY →
-        WritesWhole (IsOfTape tape.now (H.tells hosts.old) (H.tells hosts.new))
-        (K.taken sink.old) (K.taken sink.new) result }
-    ensures part { result ≡ WRITE_FAULT →
-        WritesPart (IsOfTape tape.now (H.tells hosts.old) (H.tells hosts.new))
-        (K.taken sink.old) (K.taken sink.new) }
-    ensures write_fault { result ≡ WRITE_FAULT → Rose (K.faults sink.old) (K.faults sink.new) }
+    ensures writes { Writes (IsOfTape tape.now (H.tells hosts.old) (H.tells hosts.new))
+        (port (K.taken sink.old) (K.faults sink.old)) (port (K.taken sink.new) (K.faults sink.new))
+        result }
     ensures nothing { result ≡ OUT_OF_MEMORY → sink.new ≡ sink.old }
     ensures goes_on { HostsGoOn (H.tells hosts.old) (H.tells hosts.new) }
 

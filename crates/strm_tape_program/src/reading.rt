@@ -2,14 +2,14 @@
 //!
 //! Meaning: `Reading.antt`. Ours.
 
-ghost use Rattle.std.specs.Prelude.{◌≡◌, ◌≢◌, ◌⊎◌, ◌≤◌, ◌<◌, ◌+◌, ℕ, List, length, IfOk, IfErr, OnOk, IfSome, MatchResult, Err, Some};
+ghost use Rattle.std.specs.Prelude.{◌≡◌, ◌⊎◌, ◌≤◌, length, IfOk, IfErr, OnOk, IfSome, Err, Some};
 ghost use Rattle.std.specs.Io.KnownBytes.{IsAtEnd};
 ghost use Rattle.strm_codes.specs.Counters.{Rose};
-ghost use Rattle.strm_input_output.specs.Serving.{ReadsWithin, WritesWhole, WritesPart};
+ghost use Rattle.strm_input_output.specs.Serving.{ReadsWithin, Writes, port};
 ghost use Rattle.strm_tape.specs.Spelling.{TapeOf, IsTape, tape_spelling};
-ghost use Rattle.strm_tape_program.specs.Reading.{most_bytes, IsSpelling, IsReadStatus, IsNoTape, IsWhy, IsReadable};
+ghost use Rattle.strm_tape_program.specs.Reading.{most_bytes, IsSpelling, IsReadStatus, IsNoTape, IsWhy, IsReadComplete};
 
-use crate::statuses::{NOT_A_TAPE, OUT_OF_MEMORY, READ_FAULT, TOO_LONG, WRITE_FAULT};
+use crate::statuses::{NOT_A_TAPE, OUT_OF_MEMORY, READ_FAULT, TOO_LONG};
 use crate::texts::not_a_tape_text;
 use std::alloc::Global;
 use strm_input_output::answers::write_answer;
@@ -49,33 +49,16 @@ pub fn tape_read<S: Source, K: Sink>(
     ensures whole { OnOk result (IsAtEnd (S.left source.new)) }
     ensures quiet { OnOk result (sink.new ≡ sink.old) }
     ensures known { IfErr result IsReadStatus }
-    ensures told { IfErr result (λ status. status ≢ WRITE_FAULT → status ≢ OUT_OF_MEMORY →
-        WritesWhole (IsNoTape (S.left source.old) (S.faults source.old) (S.faults source.new))
-        (K.taken sink.old) (K.taken sink.new) status) }
-    ensures part { IfErr result (λ status. status ≡ WRITE_FAULT →
-        WritesPart (IsNoTape (S.left source.old) (S.faults source.old) (S.faults source.new))
-        (K.taken sink.old) (K.taken sink.new)) }
-    ensures write_fault { IfErr result (λ status. status ≡ WRITE_FAULT →
-        Rose (K.faults sink.old) (K.faults sink.new)) }
+    ensures writes { IfErr result
+        (Writes (IsNoTape (S.left source.old) (S.faults source.old) (S.faults source.new))
+        (port (K.taken sink.old) (K.faults sink.old))
+        (port (K.taken sink.new) (K.faults sink.new))) }
     ensures nothing { IfErr result (λ status. status ≡ OUT_OF_MEMORY → sink.new ≡ sink.old) }
     ensures read { ReadsWithin MAX_TAPE_BYTES (S.left source.old) (S.left source.new) }
 
-    // Which comes, but for faults and running out of memory: the tape that was spelled, or that there is too much, or
-    // that there is none.
-    ensures complete { (tape : TapeOf) → IsTape tape →
-        IsReadable (S.left source.old) (S.faults source.old) (S.faults source.new)
-        (tape_spelling tape) →
-        length (tape_spelling tape) ≤ MAX_TAPE_BYTES →
-        MatchResult result (λ found. found ≡ tape) (λ status. status ≡ OUT_OF_MEMORY) }
-    ensures too_long { (bytes : List ℕ) →
-        IsReadable (S.left source.old) (S.faults source.old) (S.faults source.new) bytes →
-        MAX_TAPE_BYTES < length bytes → ¬ Rose (K.faults sink.old) (K.faults sink.new) →
-        (result ≡ Err TOO_LONG) ⊎ (result ≡ Err OUT_OF_MEMORY) }
-    ensures not_a_tape { (bytes : List ℕ) →
-        IsReadable (S.left source.old) (S.faults source.old) (S.faults source.new) bytes →
-        length bytes ≤ MAX_TAPE_BYTES → ¬ IsSpelling bytes →
-        ¬ Rose (K.faults sink.old) (K.faults sink.new) →
-        (result ≡ Err NOT_A_TAPE) ⊎ (result ≡ Err OUT_OF_MEMORY) }
+    // Which answer comes, but for faults and running out of memory, by causes that a caller sees.
+    ensures complete { IsReadComplete (S.left source.old) (S.faults source.old)
+        (S.faults source.new) (K.faults sink.old) (K.faults sink.new) result }
 {
     match read_tape(alloc, source) {
         Ok(tape) => Ok(tape),

@@ -2,19 +2,17 @@
 //!
 //! Meaning: `Taking.antt`; what a run puts on a tape, `Taking.antt` of `strm_tape_runs`. Ours.
 
-ghost use Rattle.std.specs.Prelude.{◌≡◌, ◌≢◌, ◌≤◌, ℕ, List, [], All, length, IfOk, OnOk, Some};
-ghost use Rattle.strm_machine.specs.declared.steps.Step.{Step};
+ghost use Rattle.std.specs.Prelude.{◌≡◌, ◌≤◌, ℕ, [], All, length, IfOk, OnOk, Some};
 ghost use Rattle.strm_codes.specs.Counters.{Rose};
-ghost use Rattle.strm_input_output.specs.Serving.{ReadsWithin, WritesWhole, WritesPart, IsFaultless, IsOr};
+ghost use Rattle.strm_input_output.specs.Serving.{ReadsWithin, Writes, port};
 ghost use Rattle.strm_lines.specs.Grammar.{HasLine};
-ghost use Rattle.strm_lines.specs.Lines.{lines_of, Spells, IsFirstBadLine, IsTooLong};
 ghost use Rattle.strm_session.specs.Records.{HostsGoOn};
 ghost use Rattle.strm_session.specs.Runs.{HaveRoom};
 ghost use Rattle.strm_tape.specs.Spelling.{tape_spelling};
 ghost use Rattle.strm_tape_runs.specs.Taking.{NoneHolds, tape_of_run};
-ghost use Rattle.strm_tape_program.specs.Taking.{IsTaped, IsOfScript, IsTakeStatus, status_of_output, text_of};
+ghost use Rattle.strm_tape_program.specs.Taking.{IsTaped, IsOfScript, IsTakeStatus, IsTakeComplete, status_of_output, text_of};
 
-use crate::statuses::{BAD_LINE, DONE, OUT_OF_MEMORY, READ_FAULT, TOO_LONG, WRITE_FAULT};
+use crate::statuses::{BAD_LINE, DONE, OUT_OF_MEMORY, READ_FAULT, TOO_LONG};
 use std::alloc::Global;
 use strm_codes::counts::OutOfMemory;
 use strm_input_output::answers::write_answer;
@@ -77,31 +75,18 @@ pub fn tape_take<S: Source, K: Sink, H: RecordedEnds>(
     requires held { NoneHolds (H.tells hosts.old) }
     requires room { HaveRoom (H.tells hosts.old) }
     ensures known { IsTakeStatus result }
-    ensures told { result ≢ WRITE_FAULT → result ≢ OUT_OF_MEMORY → WritesWhole
+    ensures writes { Writes
         (IsOfScript (S.left source.old) (S.left source.new) (H.tells hosts.old) (H.tells hosts.new)
-        (S.faults source.old) (S.faults source.new)) (K.taken sink.old) (K.taken sink.new) result }
-    ensures part { result ≡ WRITE_FAULT → WritesPart
-        (IsOfScript (S.left source.old) (S.left source.new) (H.tells hosts.old) (H.tells hosts.new)
-        (S.faults source.old) (S.faults source.new)) (K.taken sink.old) (K.taken sink.new) }
-    ensures write_fault { result ≡ WRITE_FAULT → Rose (K.faults sink.old) (K.faults sink.new) }
+        (S.faults source.old) (S.faults source.new))
+        (port (K.taken sink.old) (K.faults sink.old)) (port (K.taken sink.new) (K.faults sink.new))
+        result }
     ensures nothing { result ≡ OUT_OF_MEMORY → sink.new ≡ sink.old }
     ensures read { ReadsWithin MAX_BYTES (S.left source.old) (S.left source.new) }
     ensures goes_on { HostsGoOn (H.tells hosts.old) (H.tells hosts.new) }
 
-    // Lines in the grammar and the limits are run and taken, but for faults and running out of memory; else the first
-    // bad line is told, or that the input is too long.
-    ensures complete { (input : List ℕ) (steps : List Step) →
-        IsFaultless (S.left source.old) input
-        (S.faults source.old) (S.faults source.new) (K.faults sink.old) (K.faults sink.new) →
-        Spells (lines_of input) steps → ¬ IsTooLong input → IsOr DONE result }
-    ensures bad_line { (input : List ℕ) (line : ℕ) →
-        IsFaultless (S.left source.old) input
-        (S.faults source.old) (S.faults source.new) (K.faults sink.old) (K.faults sink.new) →
-        IsFirstBadLine (lines_of input) line → ¬ IsTooLong input → IsOr BAD_LINE result }
-    ensures too_long { (input : List ℕ) →
-        IsFaultless (S.left source.old) input
-        (S.faults source.old) (S.faults source.new) (K.faults sink.old) (K.faults sink.new) →
-        IsTooLong input → IsOr TOO_LONG result }
+    // Which status comes, but for faults and running out of memory, by causes that a caller sees.
+    ensures complete { IsTakeComplete (S.left source.old) (S.faults source.old)
+        (S.faults source.new) (K.faults sink.old) (K.faults sink.new) result }
 {
     match answer_source(alloc, source, hosts) {
         Ok(output) => write_answer(sink, output.status(), output.text()),

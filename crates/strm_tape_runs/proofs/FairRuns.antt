@@ -32,7 +32,9 @@ use Rattle.strm_tape_runs.specs.declared.marks.Mark.{Mark}
 use Rattle.strm_tape_runs.specs.Marks.{FairRoom, FairTaking, mark_of, reader_mark_of, IsTapable, ReaderTapable}
 use Rattle.strm_tape_runs.specs.Playing.{IsRunOfSteps, FoundMemory}
 use Rattle.strm_tape_runs.proofs.RunLemmas.{begins_length, payload_back, stop_found}
-use Rattle.strm_tape_runs.proofs.FairLemmas.{LeftFew, ReadsFew, UsedFew, Writes, Reads, EndsUsed, StepFares, step-fares}
+use Rattle.strm_tape_runs.proofs.FairRecords.{LeftFew, ReadsFew}
+use Rattle.strm_tape_runs.proofs.FairWorlds.{UsedFew, Writes, Reads, EndsUsed, StepFares}
+use Rattle.strm_tape_runs.proofs.FairLemmas.{step-fares}
 
 -- the limits of a run's store
 abbrev pub program_limits : Limits

@@ -4,5 +4,8 @@ pub mod ZipLemmas
 pub mod DifferLemmas
 pub mod RunLemmas
 pub mod PlayLemmas
+pub mod FairRecords
+pub mod FairWorlds
+pub mod FairTurns
 pub mod FairLemmas
 pub mod FairRuns

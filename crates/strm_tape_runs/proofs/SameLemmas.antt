@@ -1,7 +1,7 @@
 -- Lists that have the same front, and where they differ.
-use Rattle.std.proofs.Common.{◌≡◌, inl, inr, ℕ, ◌+◌, ◌-◌, ◌<◌, ◌≤◌, List, length, take, drop, Some, sym, ap, subst, ◌∙◌, arith}
+use Rattle.std.proofs.Common.{◌≡◌, inl, inr, ℕ, ◌+◌, ◌-◌, ◌<◌, ◌≤◌, List, ◌∷◌, length, take, drop, get_or, Some, sym, ap, subst, ◌∙◌, arith}
 use Rattle.std.specs.Prelude.{◌≢◌, min, slice_get}
-use Rattle.std.proofs.lemmas.List.{take_more_same, take_all, length-drop, get_or-drop}
+use Rattle.std.proofs.lemmas.List.{take_more_same, take_all, length-drop, get_or-drop, drop-drop}
 use Rattle.std.proofs.lemmas.Bool.{cases_lt}
 use Rattle.std.proofs.lemmas.Option.{slice_get-get_or, slice_get_past, slice_get_within, slice_get_cases, get_or_from_slice_get, none-some}
 use Rattle.strm_tape_runs.specs.Differing.{DifferFirst}
@@ -21,6 +21,22 @@ pub get-drop : {A : Type 0} (xs : List A) (n k : ℕ) (x : A) → slice_get xs (
 get-drop xs n k x e =
     let inside = slice_get_within xs (n + k) x e in
     slice_get-get_or (drop n xs) k x (omega (arith, inside, length-drop n xs)) ∙ ap Some (get_or-drop n xs k x ∙ get_or_from_slice_get xs (n + k) x x e)
+
+-- the elements behind a place begin with the one that stands there, and the others stand behind it
+pub record FirstBehind {A : Type 0} (xs rest : List A) (n : ℕ) (x : A) : Type 0 where
+  pub there : slice_get xs n ≡ Some x
+  pub behind : rest ≡ drop (n + 1) xs
+
+pub first_behind : {A : Type 0} (xs all rest : List A) (n : ℕ) (x : A) → all ≡ drop n xs → all ≡ x ∷ rest → FirstBehind xs rest n x
+first_behind xs all rest n x e f =
+    let begins : drop n xs ≡ x ∷ rest = sym e ∙ f in
+    let inside : n < length xs = omega (arith, ap length begins, length-drop n xs) in
+    let first : get_or xs (n + 0) x ≡ x = sym (get_or-drop n xs 0 x) ∙ ap (λ ys. get_or ys 0 x) begins in
+    let here : n + 0 ≡ n = omega arith in
+    record {
+      there = slice_get-get_or xs n x inside ∙ ap Some (ap (λ k. get_or xs k x) (sym here) ∙ first);
+      behind = sym (ap (λ ys. drop 1 ys) begins) ∙ drop-drop 1 n xs;
+    }
 
 -- LISTS BEHIND A PLACE
 

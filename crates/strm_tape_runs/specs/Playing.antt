@@ -13,7 +13,7 @@ use Rattle.strm_session.specs.declared.runs.Transcript.{Transcript}
 use Rattle.strm_session.specs.Records.{HostsGoOn}
 use Rattle.strm_session.specs.Runs.{run_start, counts_of, next_step, stop_of, AreOfGuests, IsWhole, HasStopped, IsDecided}
 use Rattle.strm_tape.specs.Spelling.{WriterTape, ReaderTape, TapeOf}
-use Rattle.strm_tape_runs.specs.Taking.{NoneHolds, writer_type, reader_type}
+use Rattle.strm_tape_runs.specs.Taking.{NoneHolds, writer_type, reader_type, tape_of_run}
 
 -- this came of a run of these steps among host ends that told this before and tell that after: all that `run`
 -- says of it
@@ -95,6 +95,14 @@ pub record PlaysToStop (tape : TapeOf) (s : RunStop) : Type 0 where
 abbrev pub IsPlayOf : TapeOf → Result Transcript RunStop → Type 0
 IsPlayOf tape (Ok t) = PlaysToEnd tape t
 IsPlayOf tape (Err s) = PlaysToStop tape s
+
+-- a run of these steps came to this end and found memory, this tape has them and what the host ends added, and
+-- the end is that of the machine's play of the tape
+pub record IsTapedRun (old new : Tells) (steps : List Step) (tape : TapeOf) (end : Result Transcript RunStop) : Type 0 where
+  pub ran : IsRunOfSteps old new steps end
+  pub memory : FoundMemory end
+  pub tape_is : tape ≡ tape_of_run steps old new
+  pub plays : IsPlayOf tape end
 
 -- host ends of the types of a tape's, of which none holds items
 pub record AreEndsOf (tape : TapeOf) (tells : Tells) : Type 0 where

@@ -33,31 +33,33 @@ fn is_writer_record<H: RecordedEnds>(
     same_writer_record(alloc, &record, said)
 }
 
-/// The first place at which the records of a host writer behind so many differ from these, from 0; none where
-/// they are these.
+/// The first place at which the records of a host writer behind so many differ from those that a tape has of
+/// it, from 0; none where they are these.
 pub(crate) fn writer_difference<H: RecordedEnds>(
     alloc: Global,
     hosts: &H,
     number: usize,
     from: usize,
-    said: &[WriterSaid],
+    tape: &WriterTape,
 ) -> Result<Option<u32>, OutOfMemory>
     requires there { number < length (H.tells hosts.now).writers }
     requires added { from ≤ length (told_by (H.tells hosts.now) number).said }
-    requires few { length said.now < 2 ^ 32 }
     ensures same { IfOk result (λ found. found ≡ None →
-        drop from (told_by (H.tells hosts.now) number).said ≡ said.now) }
+        drop from (told_by (H.tells hosts.now) number).said ≡ tape.now.said) }
     ensures differ { IfOk result (λ found. IfSome found (λ at.
-        DifferFirst at (drop from (told_by (H.tells hosts.now) number).said) said.now)) }
+        DifferFirst at (drop from (told_by (H.tells hosts.now) number).said) tape.now.said)) }
 {
     let added = hosts.writer_records(number) - from;
-    let both = added.min(said.len());
+    let count = tape.len() as usize;
+    let both = added.min(count);
+    let mut coming = tape.copy()?;
     for at in 0..both {
-        if !is_writer_record(alloc, hosts, number, from + at, &said[at])? {
+        let said = coming.take_first(alloc)?;
+        if !is_writer_record(alloc, hosts, number, from + at, &said)? {
             return Ok(Some(at as u32));
         }
     }
-    if added == said.len() {
+    if added == count {
         Ok(None)
     } else {
         Ok(Some(both as u32))
@@ -119,13 +121,6 @@ pub(crate) struct Difference {
     pub(crate) at: u32,
 }
 
-// The records that a tape has of a host writer.
-fn writer_said(tape: &WriterTape) -> &[WriterSaid]
-    ensures { result.now ≡ tape.now.said }
-{
-    &tape.said
-}
-
 // The records that a tape has of a host reader.
 fn reader_said(tape: &ReaderTape) -> &[ReaderSaid]
     ensures { result.now ≡ tape.now.said }
@@ -150,9 +145,8 @@ fn writers_difference<H: RecordedEnds>(
 {
     tape.sound();
     for n in 0..tape.writers() {
-        let said = writer_said(tape.writer(n));
         let from = marks[n as usize].records;
-        if let Some(at) = writer_difference(alloc, hosts, n as usize, from, said)? {
+        if let Some(at) = writer_difference(alloc, hosts, n as usize, from, tape.writer(n))? {
             return Ok(Some(Difference {
                 reader: false,
                 end: n,

@@ -2,11 +2,11 @@
 //!
 //! Source: ours.
 
-ghost use Rattle.std.specs.Prelude.{◌≡◌, ℕ, Bool, IfOk, IsErrOf};
+ghost use Rattle.std.specs.Prelude.{ℕ, Bool, IfOk, IsErrOf};
 ghost use Rattle.strm_session.specs.Records.{HostsGoOn};
 ghost use Rattle.strm_tape_runs.specs.Taking.{tape_of_run};
 ghost use Rattle.strm_tape_runs.specs.Errors.{IsReplayError};
-ghost use Rattle.strm_tape_runs.specs.Playing.{IsRunOfSteps, WasRunOrNot, WasRunInMemory, FoundMemory, IsPlayOf, AreEndsOf};
+ghost use Rattle.strm_tape_runs.specs.Playing.{IsTapedRun, WasRunOrNot, WasRunInMemory, AreEndsOf};
 ghost use Rattle.strm_tape_runs.specs.Differing.{FirstDiffer};
 
 use crate::differing::{Difference, first_difference};
@@ -31,15 +31,9 @@ pub fn replay<H: RecordedEnds>(
 ) -> Result<Result<Transcript, RunStop>, TapeError>
     requires ends { AreEndsOf tape.now (H.tells hosts.old) }
 
-    // The run is one of `run`, and what was added is what the tape has.
-    ensures ran { IfOk result (λ end.
-        IsRunOfSteps (H.tells hosts.old) (H.tells hosts.new) tape.now.steps end) }
-    ensures memory { IfOk result (λ end. FoundMemory end) }
-    ensures same { IfOk result (λ _.
-        tape_of_run tape.now.steps (H.tells hosts.old) (H.tells hosts.new) ≡ tape.now) }
-
-    // It is the machine's play of that tape.
-    ensures plays { IfOk result (λ end. IsPlayOf tape.now end) }
+    // The run is one of `run`, what was added is what the tape has, and it is the machine's play of that tape.
+    ensures plays { IfOk result
+        (IsTapedRun (H.tells hosts.old) (H.tells hosts.new) tape.now.steps tape.now) }
 
     // Where it differs, the run is one of `run` too, which found memory, and the first difference is told.
     ensures differs { (reader : Bool) (end at : ℕ) →

@@ -2,13 +2,13 @@
 //!
 //! Source: ours.
 
-ghost use Rattle.std.specs.Prelude.{◌≡◌, ◌≢◌, ◌≤◌, ℕ, false, All, length, IfOk, IsErr, IsErrOf};
+ghost use Rattle.std.specs.Prelude.{◌≡◌, ◌≢◌, ◌≤◌, ◌↔◌, ℕ, false, All, length, IfOk, IsErr, IsErrOf};
 ghost use Rattle.strm_lines.specs.Grammar.{HasLine};
 ghost use Rattle.strm_session.specs.Records.{HostsGoOn};
 ghost use Rattle.strm_session.specs.Runs.{HaveRoom};
-ghost use Rattle.strm_tape_runs.specs.Taking.{NoneHolds, IsFirstHolding, tape_of_run};
+ghost use Rattle.strm_tape_runs.specs.Taking.{NoneHolds, IsFirstHolding};
 ghost use Rattle.strm_tape_runs.specs.Errors.{IsTakingError};
-ghost use Rattle.strm_tape_runs.specs.Playing.{IsRunOfSteps, WasRunOrNot, FoundMemory, IsPlayOf};
+ghost use Rattle.strm_tape_runs.specs.Playing.{IsTapedRun, WasRunOrNot, FoundMemory};
 
 use crate::marks::{Marks, first_holding};
 use crate::recorded::RecordedEnds;
@@ -45,26 +45,17 @@ pub fn tape_run<H: RecordedEnds>(
     requires few { length steps.now ≤ 4294967295 }
     requires room { HaveRoom (H.tells hosts.old) }
 
-    // The run is one of `run`, and the tape has its steps and the records that it added.
-    ensures ran { IfOk result (λ t.
-        IsRunOfSteps (H.tells hosts.old) (H.tells hosts.new) steps.now t.end) }
-    ensures memory { IfOk result (λ t. FoundMemory t.end) }
-    ensures tape { IfOk result (λ t.
-        t.tape ≡ tape_of_run steps.now (H.tells hosts.old) (H.tells hosts.new)) }
-
-    // It is the machine's play of that tape.
-    ensures plays { IfOk result (λ t. IsPlayOf t.tape t.end) }
+    // The run is one of `run`, the tape has its steps and the records that it added, and it is the machine's
+    // play of that tape.
+    ensures taped { IfOk result (λ t.
+        IsTapedRun (H.tells hosts.old) (H.tells hosts.new) steps.now t.tape t.end) }
 
     // The first host writer that holds items is named, exactly where one does; else a step has no place on a
     // tape, exactly where that is told.
-    ensures holding { (n : ℕ) → IsFirstHolding n (H.tells hosts.old) →
-        IsErrOf result (TapeError.Holding n) }
-    ensures holds { (n : ℕ) → IsErrOf result (TapeError.Holding n) →
-        IsFirstHolding n (H.tells hosts.old) }
-    ensures not_tapable { NoneHolds (H.tells hosts.old) → ¬ All HasLine steps.now →
-        IsErrOf result TapeError.NotTapable }
-    ensures untapable { IsErrOf result TapeError.NotTapable →
-        NoneHolds (H.tells hosts.old) × (¬ All HasLine steps.now) }
+    ensures holding { (n : ℕ) → IsErrOf result (TapeError.Holding n)
+        ↔ IsFirstHolding n (H.tells hosts.old) }
+    ensures not_tapable { IsErrOf result TapeError.NotTapable
+        ↔ NoneHolds (H.tells hosts.old) × (¬ All HasLine steps.now) }
     ensures other { (error : TapeError) → IsErrOf result error → IsTakingError error }
 
     // What it did to the host ends: where it was refused, nothing; without memory, it was run, or nothing was done.
@@ -114,12 +105,8 @@ fn run_on_tape<H: RecordedEnds>(
     requires tapable { All HasLine steps.now }
     requires room { HaveRoom (H.tells hosts.old) }
     requires held { NoneHolds (H.tells hosts.old) }
-    ensures ran { IfOk result (λ t.
-        IsRunOfSteps (H.tells hosts.old) (H.tells hosts.new) steps.now t.end) }
-    ensures memory { IfOk result (λ t. FoundMemory t.end) }
-    ensures tape { IfOk result (λ t.
-        t.tape ≡ tape_of_run steps.now (H.tells hosts.old) (H.tells hosts.new)) }
-    ensures plays { IfOk result (λ t. IsPlayOf t.tape t.end) }
+    ensures taped { IfOk result (λ t.
+        IsTapedRun (H.tells hosts.old) (H.tells hosts.new) steps.now t.tape t.end) }
     ensures out_of_memory { IsErr result →
         WasRunOrNot (H.tells hosts.old) (H.tells hosts.new) steps.now }
     ensures hosts { HostsGoOn (H.tells hosts.old) (H.tells hosts.new) }

@@ -108,7 +108,7 @@ fn writer_tape<H: RecordedEnds>(
 {
     sound_type(&mark.ty);
     let said = writer_records_behind(alloc, hosts, number, mark)?;
-    Ok(WriterTape { ty: mark.ty, said })
+    WriterTape::new(alloc, mark.ty, &said)
 }
 
 // Adds a record of a host reader, by its place, at the end of others.

@@ -9,10 +9,13 @@ ghost use Rattle.strm_tape_runs.specs.Playing.{AreEndsOf};
 use std::alloc::Global;
 use strm_codes::codes::{TransmitIndex, TransmitKind};
 use strm_codes::payloads::Payload;
+use strm_input_output::in_memory::{BytesSink, BytesSource};
 use strm_lines::parsing::parse;
 use strm_session::runs::{RunStop, Transcript};
 use strm_tape::errors::TapeError;
 use strm_tape::tape::{ReaderTape, Tape, WriterTape};
+use strm_tape_program::playing::tape_play;
+use strm_tape_program::taking::tape_take;
 use strm_tape_runs::recorded::RecordedEnds;
 use strm_tape_runs::replays::replay;
 use strm_tape_runs::runs::{Taped, tape_run};
@@ -22,7 +25,7 @@ use strm_transmit::host_ends::HostEnds;
 fn taped_type(writer: &WriterTape) -> TransmitIndex
     ensures { result ≡ writer.now.ty }
 {
-    writer.ty
+    writer.ty()
 }
 
 // The type that a tape has of a host reader.
@@ -166,4 +169,37 @@ pub(crate) fn played<H: RecordedEnds>(
         return Err(TapeError::NotATape);
     }
     replay(alloc, tape, hosts)
+}
+
+/// Whether the lines of a source, run among host ends of the types that this tape has, are taken on a tape that
+/// has these bytes.
+pub(crate) fn is_taken_to<H: RecordedEnds>(
+    alloc: Global,
+    types: &Tape,
+    source: &mut BytesSource,
+    hosts: &mut H,
+    wanted: &[u8],
+) -> bool {
+    if !are_ends_of(hosts, types) {
+        return false;
+    }
+    types.sound();
+    let mut sink = BytesSink::new(alloc, 65_536, Vec::new(alloc));
+    let status = tape_take(alloc, source, &mut sink, hosts);
+    status == 0 && sink.taken() == wanted
+}
+
+/// Whether a tape is played to its end among host ends of its types, and these bytes are written.
+pub(crate) fn is_played_to<H: RecordedEnds>(
+    alloc: Global,
+    tape: &Tape,
+    hosts: &mut H,
+    wanted: &[u8],
+) -> bool {
+    if !are_ends_of(hosts, tape) {
+        return false;
+    }
+    let mut sink = BytesSink::new(alloc, 65_536, Vec::new(alloc));
+    let status = tape_play(alloc, tape, hosts, &mut sink);
+    status == 0 && sink.taken() == wanted
 }

@@ -83,9 +83,15 @@ fn are_same(alloc: Global, tape: &Tape) -> bool {
     if tape.writers() == 0 {
         return false;
     }
-    match tape.writer(0).said.first() {
-        Some(said) => same_items(alloc, &said.items, &said.items) == Ok(true),
-        None => false,
+    let Ok(mut writer) = tape.writer(0).copy() else {
+        return false;
+    };
+    if writer.len() == 0 {
+        return false;
+    }
+    match writer.take_first(alloc) {
+        Ok(said) => same_items(alloc, &said.items, &said.items) == Ok(true),
+        Err(_) => false,
     }
 }
 

@@ -16,10 +16,12 @@ mod most_ends;
 #[cfg(test)]
 mod others;
 #[cfg(test)]
+mod out_of_memory;
+#[cfg(test)]
+mod programs;
+#[cfg(test)]
 mod refused;
 #[cfg(test)]
 mod rows;
 #[cfg(test)]
 mod scripts;
-#[cfg(test)]
-mod out_of_memory;

@@ -91,7 +91,7 @@ fn is_followed(alloc: Global, tape: &Tape) -> Result<bool, Fail> {
 fn records(tape: &Tape) -> (usize, usize) {
     let mut writers = 0usize;
     for n in 0..tape.writers() {
-        writers = writers.saturating_add(tape.writer(n).said.len());
+        writers = writers.saturating_add(tape.writer(n).len() as usize);
     }
     let mut readers = 0usize;
     for r in 0..tape.readers() {

@@ -1,4 +1,3 @@
-pub mod TellsLemmas
 pub mod FollowLemmas
 pub mod OutcomeLemmas
 pub mod NamingLemmas

@@ -1,11 +1,13 @@
 -- What the program does, put together.
 use Rattle.std.proofs.Common.{◌≡◌, ◌⊎◌, inl, inr, ℕ, ◌<◌, ◌≤◌, List, length, map, Option, Result, Ok, Err, IfSome, refl, sym, ap, ◌∙◌, subst, arith}
+use Rattle.std.specs.Prelude.{MatchResult}
 use Rattle.strm_buffers.specs.Tells.{WriterTells, ReaderTells, Tells}
 use Rattle.strm_codes.specs.Counters.{Rose}
 use Rattle.strm_tape.specs.Spelling.{TapeOf, IsTape, tape_spelling}
 use Rattle.strm_tape_runs.proofs.RunLemmas.{hosts_stay}
 use Rattle.strm_tape_program.specs.Reading.{IsReadable, most_bytes}
-use Rattle.tape.specs.HostEnds.{writers, readers, unused, following, following_reader, followers}
+use Rattle.strm_program_hosts.specs.HostEnds.{writers, readers, host_ends}
+use Rattle.tape.specs.HostEnds.{following, following_reader, followers}
 use Rattle.strm_input_output.specs.Serving.{Port, ReadsWithin}
 use Rattle.tape.specs.Outcomes.{TakesAmong, PlaysAmong, Plays, ReadsTape, PlaysRead}
 
@@ -18,9 +20,9 @@ tells_are tells ws rs e f =
 -- of host ends that told this before and tell that after, and by the status that is handed on
 module _ (ends after : Tells) (status code : ℕ) (same : code ≡ status) where
   -- what is taken among host ends that tell what the program's do
-  pub takes_among : (source source_after sink sink_after : Port) → ends.writers ≡ writers → ends.readers ≡ readers → TakesAmong ends after source source_after sink sink_after status → TakesAmong unused after source source_after sink sink_after code
+  pub takes_among : (source source_after sink sink_after : Port) → ends.writers ≡ writers → ends.readers ≡ readers → TakesAmong ends after source source_after sink sink_after status → TakesAmong host_ends after source source_after sink sink_after code
   takes_among source source_after sink sink_after ws rs takes =
-      subst (λ (n : ℕ). TakesAmong unused after source source_after sink sink_after n) (sym same)
+      subst (λ (n : ℕ). TakesAmong host_ends after source source_after sink sink_after n) (sym same)
       (subst (λ (t : Tells). TakesAmong t after source source_after sink sink_after status) (tells_are ends writers readers ws rs) takes)
 
   -- what is played among host ends that tell what those do that follow the tape
@@ -56,6 +58,13 @@ no_error answer x n m is (inr e) = cc
 pub of_error : {A : Type 0} (answer : Result A ℕ) (status n m : ℕ) → answer ≡ Err status → (answer ≡ Err n) ⊎ (answer ≡ Err m) → (status ≡ n) ⊎ (status ≡ m)
 of_error answer status n m is (inl e) = inl cc
 of_error answer status n m is (inr e) = inr cc
+
+-- of a tape or an error that was answered, which it is
+pub tape_read : (answer : Result TapeOf ℕ) (tape found : TapeOf) → answer ≡ Ok found → MatchResult answer (λ x. x ≡ tape) (λ status. status ≡ 9) → found ≡ tape
+tape_read answer tape found is = subst (λ (r : Result TapeOf ℕ). MatchResult r (λ x. x ≡ tape) (λ status. status ≡ 9)) is
+
+pub error_read : (answer : Result TapeOf ℕ) (tape : TapeOf) (why : ℕ) → answer ≡ Err why → MatchResult answer (λ x. x ≡ tape) (λ status. status ≡ 9) → why ≡ 9
+error_read answer tape why is = subst (λ (r : Result TapeOf ℕ). MatchResult r (λ x. x ≡ tape) (λ status. status ≡ 9)) is
 
 -- a tape that was read and played
 module _ (source source_after : Port) where

@@ -2,11 +2,9 @@
 use Rattle.std.specs.Prelude.{◌≡◌, ◌≢◌, ◌⊎◌, ◌≤◌, ◌<◌, ◌+◌, ℕ, List, length, Option, Result, IfSome}
 use Rattle.std.specs.Io.KnownBytes.{Appends, IsAtEnd}
 use Rattle.strm_buffers.specs.Tells.{Tells}
-use Rattle.strm_machine.specs.declared.steps.Step.{Step}
 use Rattle.strm_codes.specs.Counters.{Rose}
 use Rattle.strm_input_output.specs.Faults.{TakesPart}
-use Rattle.strm_input_output.specs.Serving.{Port, Writes, ReadsWithin, IsFaultless, IsOr}
-use Rattle.strm_lines.specs.Lines.{lines_of, Spells, IsFirstBadLine, IsTooLong}
+use Rattle.strm_input_output.specs.Serving.{Port, Writes, ReadsWithin, IsOr}
 use Rattle.strm_session.specs.Records.{HostsGoOn}
 use Rattle.strm_session.specs.declared.runs.RunStop.{RunStop}
 use Rattle.strm_session.specs.declared.runs.Transcript.{Transcript}
@@ -15,9 +13,10 @@ use Rattle.strm_tape_runs.specs.Taking.{tape_of_run}
 use Rattle.strm_tape_runs.specs.Playing.{WasRunOrNot, IsPlayOf}
 use Rattle.strm_tape_program.specs.Playing.{IsOfTape, IsPlayStatus, IsStatusOfPlay}
 use Rattle.strm_tape_program.specs.Reading.{IsNoTape, IsReadStatus, IsReadable, IsSpelling, most_bytes}
-use Rattle.strm_tape_program.specs.Taking.{IsOfScript, IsTakeStatus}
+use Rattle.strm_tape_program.specs.Taking.{IsOfScript, IsTakeStatus, IsTakeComplete}
 use Rattle.strm_tape_program.specs.Texts.{tape_usage_text}
-use Rattle.tape.specs.HostEnds.{unused, followers}
+use Rattle.strm_program_hosts.specs.HostEnds.{host_ends}
+use Rattle.tape.specs.HostEnds.{followers}
 
 -- a script of a source was taken among host ends that told this before and tell that after, and which answer
 -- comes but for faults and running out of memory
@@ -27,20 +26,12 @@ pub record TakesAmong (ends after : Tells) (source source_after sink sink_after 
       sink sink_after status
   pub read : ReadsWithin 16777216 source.bytes source_after.bytes
   pub goes_on : HostsGoOn ends after
-  pub complete : (input : List ℕ) (steps : List Step) →
-      IsFaultless source.bytes input source.faults source_after.faults sink.faults sink_after.faults →
-      Spells (lines_of input) steps → ¬ IsTooLong input → IsOr 0 status
-  pub bad_line : (input : List ℕ) (line : ℕ) →
-      IsFaultless source.bytes input source.faults source_after.faults sink.faults sink_after.faults →
-      IsFirstBadLine (lines_of input) line → ¬ IsTooLong input → IsOr 2 status
-  pub too_long : (input : List ℕ) →
-      IsFaultless source.bytes input source.faults source_after.faults sink.faults sink_after.faults →
-      IsTooLong input → IsOr 3 status
+  pub complete : IsTakeComplete source.bytes source.faults source_after.faults sink.faults sink_after.faults status
 
 -- among those of the program
 abbrev pub TakesScript : Port → Port → Port → Port → ℕ → Type 0
 TakesScript source source_after sink sink_after status =
-    (after : Tells) × TakesAmong unused after source source_after sink sink_after status
+    (after : Tells) × TakesAmong host_ends after source source_after sink sink_after status
 
 -- a tape was played among host ends that told this before and tell that after, and which answer comes but for
 -- faults and running out of memory

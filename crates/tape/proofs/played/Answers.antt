@@ -11,7 +11,7 @@ returns-clause-plays g c =
     let played = c.tape_play.ensures in
     plays_among _ _ _ _ c.from.ensures c.args.tape.now _ _ c.requires.writers c.requires.readers (record {
       known = played.known;
-      writes = record { told = played.told; part = played.part; write_fault = played.write_fault };
+      writes = played.writes;
       goes_on = played.goes_on;
       complete = played.complete;
       differs = played.differs;

@@ -7,7 +7,7 @@ use Rattle.strm_tape_program.proofs.taking.taped.Goals as goal
 
 pub unreachable-requires : goal.unreachable-requires
 unreachable-requires g c =
-    none_first _ _ c.requires.held (c.tape_run.ensures.holds c.in-Err-Holding.field-0-0 (c.in-Err-Holding.is ∙ ap Err c.in-Err-Holding.field-0-is))
+    none_first _ _ c.requires.held ((c.tape_run.ensures.holding c.in-Err-Holding.field-0-0).0 (c.in-Err-Holding.is ∙ ap Err c.in-Err-Holding.field-0-is))
 
 pub unreachable-requires-in-Err-NotATape : goal.unreachable-requires-in-Err-NotATape
 unreachable-requires-in-Err-NotATape g c = c.tape_run.ensures.other NotATape (c.in-Err-NotATape.is ∙ ap Err c.in-Err-NotATape.field-0-is)
@@ -18,10 +18,11 @@ unreachable-requires-in-Err-Differs g c =
 
 pub returns-in-Ok-clause-taped : goal.returns-in-Ok-clause-taped
 returns-in-Ok-clause-taped g c =
+    let taped = c.in-Ok.ensures.taped in
     on_ok c.tape_bytes.result _ (record {
-      is_tape = subst IsTape c.in-Ok.ensures.tape c.sound.ensures;
+      is_tape = subst IsTape taped.tape_is c.sound.ensures;
       end = c.in-Ok.taped.end;
-      run = c.in-Ok.ensures.ran;
-      memory = c.in-Ok.ensures.memory;
-      plays = subst (λ (t : TapeOf). IsPlayOf t c.in-Ok.taped.end) c.in-Ok.ensures.tape c.in-Ok.ensures.plays;
+      run = taped.ran;
+      memory = taped.memory;
+      plays = subst (λ (t : TapeOf). IsPlayOf t c.in-Ok.taped.end) taped.tape_is taped.plays;
     })

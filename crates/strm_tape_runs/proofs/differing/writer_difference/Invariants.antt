@@ -4,4 +4,5 @@ use Rattle.strm_tape_runs.proofs.differing.writer_difference.Given as goal
 
 abbrev pub invariant-loop-at : goal.invariant-loop-at
 invariant-loop-at g l =
-    take l.at (drop l.from (told_by (g.H.HostEnds.tells l.hosts) l.number).said) ≡ take l.at l.said
+    (take l.at (drop l.from (told_by (g.H.HostEnds.tells l.hosts) l.number).said) ≡ take l.at l.tape.said)
+    × (l.coming.said ≡ drop l.at l.tape.said)

@@ -1,8 +1,7 @@
-use Rattle.std.proofs.Common.{◌≡◌, ◌<◌, length, drop, get_or, ap, subst, refl, arith}
-use Rattle.std.proofs.lemmas.List.Elements.{All-get_or}
-use Rattle.std.proofs.lemmas.Option.{slice_get-get_or, slice_get_within, get_or_from_slice_get}
+use Rattle.std.proofs.Common.{◌≡◌, ◌<◌, length, drop, get_or, ap, refl, arith}
+use Rattle.std.proofs.lemmas.Option.{slice_get-get_or}
 use Rattle.strm_buffers.specs.Tells.{told_by, no_tells}
-use Rattle.strm_tape.specs.Spelling.{WriterTape, IsWriterTape}
+use Rattle.strm_tape.specs.Spelling.{WriterTape}
 use Rattle.strm_tape_runs.specs.declared.marks.Mark.{Mark}
 use Rattle.strm_tape_runs.specs.Differing.{DifferFirst}
 use Rattle.strm_tape_runs.specs.Marks.{writer_behind, IsMarkReached}
@@ -24,16 +23,10 @@ writer_difference-requires-clause-added g c =
     let reached = zipped_here IsMarkReached c.args.marks.now (g.H.HostEnds.tells c.args.hosts.now).writers c.loop-n.n c.index-marks-n.result no_tells c.index-marks-n.is c.requires.reached inside in
     omega (arith, reached, ap (λ (m : Mark). m.records) c.index-marks-n.is)
 
-pub writer_difference-requires-clause-few : goal.writer_difference-requires-clause-few
-writer_difference-requires-clause-few g c =
-    let there = slice_get_within c.args.tape.now.writers c.loop-n.n c.writer.result.now c.writer.ensures in
-    let sound = subst IsWriterTape (get_or_from_slice_get c.args.tape.now.writers c.loop-n.n c.writer.result.now c.writer.result.now c.writer.ensures) (All-get_or IsWriterTape c.args.tape.now.writers c.loop-n.n c.writer.result.now there c.sound.ensures.writers) in
-    omega (arith, sound.few, ap (λ xs. length xs) c.writer_said-said.ensures)
-
 pub returns-in-Some-clause-differ : goal.returns-in-Some-clause-differ
 returns-in-Some-clause-differ g c =
     let inside : c.loop-n.n < length c.args.marks.now = omega (arith, c.loop-n-test.true, c.writers-n-end.ensures, same_lengths (λ (m : Mark). m.ty) (λ (t : WriterTape). t.ty) c.args.marks.now c.args.tape.now.writers c.requires.types) in
-    let differs : DifferFirst c.in-Some.at (drop (get_or c.args.marks.now c.loop-n.n c.index-marks-n.result).records (told_by (g.H.HostEnds.tells c.args.hosts.now) c.loop-n.n).said) c.writer_said-said.result.now = (rw c.in-Some.is at c.in_ok-at.ensures.differ) in (
+    let differs : DifferFirst c.in-Some.at (drop (get_or c.args.marks.now c.loop-n.n c.index-marks-n.result).records (told_by (g.H.HostEnds.tells c.args.hosts.now) c.loop-n.n).said) c.writer.result.now.said = (rw c.in-Some.is at c.in_ok-at.ensures.differ) in (
       refl,
       (
         c.loop-n.invariant,
@@ -41,7 +34,7 @@ returns-in-Some-clause-differ g c =
             c.loop-n.n c.index-marks-n.result _ c.writer.result.now (read_at c.args.marks.now c.loop-n.n c.index-marks-n.result inside c.index-marks-n.is)
             (slice_get-get_or (g.H.HostEnds.tells c.args.hosts.now).writers c.loop-n.n no_tells (omega (arith, inside, zipped_length IsMarkReached c.args.marks.now (g.H.HostEnds.tells c.args.hosts.now).writers c.requires.reached)))
             c.writer.ensures
-            c.in-Some.at (differs_behind (told_by (g.H.HostEnds.tells c.args.hosts.now) c.loop-n.n).said c.writer_said-said.result.now c.writer.result.now.said c.index-marks-n.result _ c.in-Some.at c.index-marks-n.is c.writer_said-said.ensures differs),
+            c.in-Some.at (differs_behind (told_by (g.H.HostEnds.tells c.args.hosts.now) c.loop-n.n).said c.writer.result.now.said c.writer.result.now.said c.index-marks-n.result _ c.in-Some.at c.index-marks-n.is refl differs),
       ),
     )
 
@@ -52,7 +45,7 @@ loop-n-preserved g c =
     c.loop-n.n c.index-marks-n.result _ c.writer.result.now (read_at c.args.marks.now c.loop-n.n c.index-marks-n.result inside c.index-marks-n.is)
     (slice_get-get_or (g.H.HostEnds.tells c.args.hosts.now).writers c.loop-n.n no_tells (omega (arith, inside, zipped_length IsMarkReached c.args.marks.now (g.H.HostEnds.tells c.args.hosts.now).writers c.requires.reached)))
     c.writer.ensures
-    (behind_mark (told_by (g.H.HostEnds.tells c.args.hosts.now) c.loop-n.n).said c.writer_said-said.result.now c.writer.result.now.said c.index-marks-n.result _ c.index-marks-n.is c.writer_said-said.ensures (c.in_ok-at.ensures.same c.in_default.is)) c.loop-n.invariant
+    (behind_mark (told_by (g.H.HostEnds.tells c.args.hosts.now) c.loop-n.n).said c.writer.result.now.said c.writer.result.now.said c.index-marks-n.result _ c.index-marks-n.is refl (c.in_ok-at.ensures.same c.in_default.is)) c.loop-n.invariant
 
 pub returns-clause-same : goal.returns-clause-same
 returns-clause-same g c = λ e.

@@ -1,4 +1,4 @@
-use Rattle.std.proofs.Common.{Result, inr, ap, refl, subst, sym, ◌∙◌}
+use Rattle.std.proofs.Common.{◌≡◌, Result, inr, ap, refl, subst, sym, ◌∙◌}
 use Rattle.strm_session.specs.declared.runs.RunStop.{RunStop}
 use Rattle.strm_session.specs.declared.runs.Transcript.{Transcript}
 use Rattle.strm_tape_runs.specs.Differing.{FirstDiffer}
@@ -27,17 +27,22 @@ pub first_difference-requires-clause-reader_types : goal.first_difference-requir
 first_difference-requires-clause-reader_types g c =
     types_marked reader_mark_of reader_type (λ t. refl) c.in-Ok.marks.readers.items (g.H.HostEnds.tells c.args.hosts.now).readers _ c.in-Ok.ensures.readers c.requires.ends.readers
 
-pub returns-in-Ok-None-clause-same : goal.returns-in-Ok-None-clause-same
-returns-in-Ok-None-clause-same g c =
-    sym (tape_is c.args.tape.now.steps c.in-Ok.marks (g.H.HostEnds.tells c.args.hosts.now) (g.H.HostEnds.tells c.run-end.new.hosts) c.in-Ok.ensures.writers c.in-Ok.ensures.readers)
-    ∙ c.in-Ok-None.ensures.same c.in-Ok-None.field-0-is
-
 pub returns-in-Ok-None-clause-plays : goal.returns-in-Ok-None-clause-plays
 returns-in-Ok-None-clause-plays g c =
-    let steps = c.steps.result.now in
-    let run : IsRunOfSteps (g.H.HostEnds.tells c.args.hosts.now) (g.H.HostEnds.tells c.run-end.new.hosts) steps c.run-end.result = record { ok = c.run-end.ensures.ok; received = c.run-end.ensures.received; stop = c.run-end.ensures.stop; at = c.run-end.ensures.at; goes_on = c.run-end.ensures.hosts; alone = c.run-end.ensures.alone; decided = c.run-end.ensures.decided } in
-    subst (λ tape. IsPlayOf tape c.run-end.result) (ap (λ steps. tape_of_run steps (g.H.HostEnds.tells c.args.hosts.now) (g.H.HostEnds.tells c.run-end.new.hosts)) c.steps.ensures ∙ returns-in-Ok-None-clause-same g c)
-    (run_plays c.runs_are_alike.ensures steps (g.H.HostEnds.tells c.args.hosts.now) (g.H.HostEnds.tells c.run-end.new.hosts) c.run-end.result c.requires.ends.held run (c.wanted_memory.ensures c.if-wanted_memory.false))
+    let old = g.H.HostEnds.tells c.args.hosts.now in
+    let new = g.H.HostEnds.tells c.run-end.new.hosts in
+    let end = c.run-end.result in
+    let run : IsRunOfSteps old new c.steps.result.now end = record { ok = c.run-end.ensures.ok; received = c.run-end.ensures.received; stop = c.run-end.ensures.stop; at = c.run-end.ensures.at; goes_on = c.run-end.ensures.hosts; alone = c.run-end.ensures.alone; decided = c.run-end.ensures.decided } in
+    let memory = c.wanted_memory.ensures c.if-wanted_memory.false in
+    let same : tape_of_run c.args.tape.now.steps old new ≡ c.args.tape.now =
+    sym (tape_is c.args.tape.now.steps c.in-Ok.marks old new c.in-Ok.ensures.writers c.in-Ok.ensures.readers) ∙ c.in-Ok-None.ensures.same c.in-Ok-None.field-0-is in
+    record {
+      ran = subst (λ steps. IsRunOfSteps old new steps end) c.steps.ensures run;
+      memory = memory;
+      tape_is = sym same;
+      plays = subst (λ tape. IsPlayOf tape end) (ap (λ steps. tape_of_run steps old new) c.steps.ensures ∙ same)
+          (run_plays c.runs_are_alike.ensures c.steps.result.now old new end c.requires.ends.held run memory);
+    }
 
 pub returns-in-Ok-Some-clause-differs : goal.returns-in-Ok-Some-clause-differs
 returns-in-Ok-Some-clause-differs g c = λ reader end at e.
