@@ -1,3 +1,4 @@
 pub mod TransmitLemmas
 pub mod BufferLemmas
 pub mod LaneFacts
+pub mod RunFacts

@@ -11,7 +11,8 @@ use Rattle.strm_buffers.specs.Tells.{WriterTells, ReaderTells}
 
 -- the writer told one poll more, with this room: of what it produced there, as much as there was
 -- room for lies in the memory, which is otherwise as it was, and the rest it holds
-pub record FetchesItems (old new : WriterTells) (memory after : List ℕ) (address room : ℕ) (finish : Bool) (answer : Answer) : Type 0 where
+pub record FetchesItems (old new : WriterTells) (memory after : List ℕ) (address room : ℕ)
+    (finish : Bool) (answer : Answer) : Type 0 where
   pub said : WriterSaid
   pub told : new.said ≡ old.said ++ said ∷ []
   pub room_is : said.room ≡ Some room
@@ -22,11 +23,13 @@ pub record FetchesItems (old new : WriterTells) (memory after : List ℕ) (addre
 
 -- the host reader told one poll more, of so many items of the memory, of which it took so many from
 -- the first on; where it tells what it took, those are added
-pub record DeliversItems (old new : ReaderTells) (memory : List ℕ) (address offered : ℕ) (finish : Bool) (taken : ℕ) (answer : Answer) : Type 0 where
+pub record DeliversItems (old new : ReaderTells) (memory : List ℕ) (address offered : ℕ)
+    (finish : Bool) (taken : ℕ) (answer : Answer) : Type 0 where
   pub said : ReaderSaid
   pub told : new.said ≡ old.said ++ said ∷ []
   pub offered_is : said.offered ≡ offered
   pub finish_is : said.finish ≡ finish
   pub answer_is : said.answer ≡ answer
   pub taken_is : said.taken ≡ taken
-  pub took : new.holds ≡ option_map (λ xs. xs ++ items_in (scalars_of old.payload) memory address taken) old.holds
+  pub took : new.holds
+      ≡ option_map (λ xs. xs ++ items_in (scalars_of old.payload) memory address taken) old.holds

@@ -29,7 +29,8 @@ pub fn fetch(
     requires inside { address + item_size (scalars_of (writer_tells writer.old).payload) * room
         ≤ length memory.old.bytes }
     requires nothing_held { (writer_tells writer.old).holds ≡ [] }
-    ensures fetched { IfAnswered result (FetchesItems (writer_tells writer.old) (writer_tells writer.new)
+    ensures fetched { IfAnswered result
+        (FetchesItems (writer_tells writer.old) (writer_tells writer.new)
         memory.old.bytes memory.new.bytes address room finish) }
     ensures no_record { IfNoMemory result
         ((writer_tells writer.new).said ≡ (writer_tells writer.old).said) }

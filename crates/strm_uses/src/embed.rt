@@ -20,7 +20,7 @@ const LIMITS: Limits = Limits {
     places: 3,
 };
 
-/// A store in which bytes were passed, the read's answer, and what the write was told.
+/// A store of guests alone, after bytes were handed over: the read's answer, and the write's event.
 #[derive(Drop)]
 pub struct Handed {
     pub store: GuestStore,

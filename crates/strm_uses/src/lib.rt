@@ -4,9 +4,11 @@
 #![tactic(auto)]
 
 pub mod buffers;
+pub mod chain;
 pub mod embed;
 pub mod handles;
 pub mod lanes;
 pub mod memory;
 pub mod resources;
+pub mod session;
 pub mod transmit;
