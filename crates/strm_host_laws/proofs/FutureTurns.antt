@@ -1,6 +1,6 @@
 -- What is known of a future that a host writer writes is known after a turn for its read, after its round, and
 -- after a read of it that is called.
-use Rattle.std.proofs.Common.{◌≡◌, ◌≢◌, ℕ, ◌+◌, ◌<◌, ◌≤◌, ◌==◌, ◌||◌, Bool, true, false, cond, List, [], ◌∷◌, ◌++◌, length, get_or, Option, Some, None, refl, sym, ap, subst, ◌∙◌, ◌⊎◌, inl, inr, arith, length-append}
+use Rattle.std.proofs.Common.{◌≡◌, ℕ, ◌+◌, ◌<◌, ◌≤◌, ◌==◌, ◌||◌, Bool, true, false, cond, List, [], ◌∷◌, ◌++◌, length, get_or, Option, Some, None, refl, sym, ap, subst, ◌∙◌, ◌⊎◌, inl, inr, arith, length-append}
 use Rattle.std.specs.Prelude.{if◌then◌else◌}
 use Rattle.std.proofs.lemmas.Bool.{cases_lt, eq-eqb, ne_eqb, true≢false}
 use Rattle.std.proofs.lemmas.List.{get_or-set_same}
@@ -11,7 +11,6 @@ use Rattle.strm_machine.specs.State.{no_consumer, kept_at, consumer_at, is_host,
 use Rattle.strm_machine.specs.Sides.{end_of, with_operation}
 use Rattle.strm_machine.specs.Endings.{delivered}
 use Rattle.strm_machine.specs.Turns.{is_future, with_received}
-use Rattle.strm_machine.specs.Tests.{named}
 use Rattle.strm_machine.specs.declared.acts.NamedEnd.{NamedEnd}
 use Rattle.strm_machine.specs.declared.streams.Consumer.{Consumer}
 use Rattle.strm_machine.specs.declared.streams.End.{End}
@@ -39,7 +38,7 @@ use Rattle.strm_host_laws.proofs.Rounds.{Passed}
 use Rattle.strm_host_laws.proofs.TurnsStand.{Holds, nothing_kept}
 use Rattle.strm_host_laws.proofs.Touched.{told_stream}
 use Rattle.strm_host_laws.proofs.TurnMoves.{Moves, moved_on-moves}
-use Rattle.strm_host_laws.proofs.Turned.{turned, stream_moved, Turned}
+use Rattle.strm_host_laws.proofs.Turned.{stream_moved, Turned}
 use Rattle.strm_host_laws.proofs.WrittenBack.{back-kept, back-here, back-length, back-stays, back-received, CanTurn, turned-here, turned-ends, mid_end, round_keeps, round_ends}
 use Rattle.strm_host_laws.proofs.FutureKept.{IsReadOne, ReadsOne, ReadStep, Leaves, Opens, RestsOn, OneWritten, one_step, back-resting, passed_resting}
 

@@ -1,13 +1,11 @@
 -- A future that a host writer writes: it passes one item at most, if its writer held no more than one when it was
 -- made.
-use Rattle.std.proofs.Common.{◌≡◌, ℕ, ◌+◌, Bool, true, false, [], ◌++◌, get_or, Some, None, refl, sym, ap, subst, ◌∙◌, inl, inr, arith}
+use Rattle.std.proofs.Common.{◌≡◌, ℕ, Bool, true, false, [], ◌++◌, get_or, Some, None, refl, sym, ap, subst, ◌∙◌, inl, inr, arith}
 use Rattle.strm_codes.specs.declared.codes.TransmitKind.TheVariants.{Future}
 use Rattle.strm_machine.specs.State.{kept_at, is_loose}
-use Rattle.strm_machine.specs.Turns.{turn}
 use Rattle.strm_machine.specs.declared.streams.Operation.{Operation}
 use Rattle.strm_machine.specs.declared.streams.Owner.TheVariants.{Host, Gone}
 use Rattle.strm_machine.specs.declared.streams.Side.TheVariants.{Reading}
-use Rattle.strm_machine.specs.Moments.{received}
 use Rattle.strm_machine.specs.declared.replies.Reply.TheVariants as replies
 use Rattle.strm_machine.proofs.HostLemmas.{unless_host}
 use Rattle.strm_host_machine.specs.World.{World, stream_in, writer_at, held_of}
@@ -18,7 +16,6 @@ use Rattle.strm_host_laws.proofs.KeptItems.{turned_kept, Rested, rested_or_passi
 use Rattle.strm_host_laws.proofs.Lives.{Lives, drive_can}
 use Rattle.strm_host_laws.proofs.TurnsStand.{nothing_kept}
 use Rattle.strm_host_laws.proofs.Touched.{Touch, NotTouched, IsLost, HasTurn, HasRound, HasRead}
-use Rattle.strm_host_laws.proofs.Turned.{turned}
 use Rattle.strm_host_laws.proofs.FutureKept.{OneWritten, one_most, one_step, Busy, BusyTurn, BusyRound, BusyCall, Quiet, form_quiet}
 use Rattle.strm_host_laws.proofs.FutureTurns.{Onward, turn_onward, round_onward, call_onward}
 

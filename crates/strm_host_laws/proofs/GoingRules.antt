@@ -27,11 +27,10 @@ use Rattle.strm_host_machine.specs.Outcomes.{Outcome, Goes, Stops, Stuck}
 use Rattle.strm_host_machine.specs.Settling.{with_some_received, moved_on, since_after}
 use Rattle.strm_host_machine.specs.WriterTurn.{with_answer, hands_out}
 use Rattle.strm_host_machine.specs.ReaderTurn.{reader_with_taken, gives_up}
-use Rattle.strm_host_machine.specs.Attaching.{hosted_stream, with_new_stream, new_producer, piped, without_ends, pipes, forsaken}
+use Rattle.strm_host_machine.specs.Attaching.{hosted_stream, with_new_stream, new_producer, piped, without_ends, forsaken}
 use Rattle.strm_host_machine.specs.Piping.{is_resting}
 use Rattle.strm_machine.specs.Turns.{with_received}
 use Rattle.strm_host_machine.specs.HostRefusals.{refusal_in}
-use Rattle.strm_host_machine.specs.Steps.{reacts}
 use Rattle.strm_host_machine.proofs.SettleLemmas.{is_done_with as is_settled_done, leaves_writer-stays, leaves_reader-stays, delivered-owners}
 use Rattle.strm_host_laws.specs.HostMoments.{Part, Acts}
 use Rattle.strm_machine.proofs.EndLemmas.{each_side}

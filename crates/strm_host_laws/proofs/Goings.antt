@@ -47,7 +47,7 @@ use Rattle.strm_host_machine.specs.HostRefusals.{refusal_in}
 use Rattle.strm_host_machine.specs.Steps.{reacts, reads_from, writes_to, operates_by, drops_in, on_host, performs_by, performs_in, unless_refused_in, outcome}
 use Rattle.strm_host_laws.specs.HostMoments.{Part, Acts, Turns, part_on}
 use Rattle.strm_host_laws.proofs.Chains.{is_part}
-use Rattle.strm_host_laws.proofs.GoingRules.{with_state, gave_up, with_passed, Begins, Stopping, hosted, Rules, Halted, Comes, is_passing, moved_on-left, delivered-stays, with_operation-owned, forsaken-left, piped-ends, some_received-owned, without_ends-left}
+use Rattle.strm_host_laws.proofs.GoingRules.{with_state, gave_up, with_passed, Begins, Stopping, Rules, Halted, Comes, is_passing, moved_on-left, delivered-stays, with_operation-owned, forsaken-left, piped-ends, some_received-owned, without_ends-left}
 
 module _ (R K : World → World → Type 0) (begins : Begins R) (stopping : Stopping K) where
   fetched-comes : (w : World) (s n : ℕ) (coming : List WriterSaid) → (writer_at w n).coming ≡ coming

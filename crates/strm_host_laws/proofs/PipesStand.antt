@@ -4,11 +4,10 @@ use Rattle.std.proofs.Common.{◌≡◌, ◌≢◌, ℕ, ◌<◌, Bool, true, fa
 use Rattle.std.proofs.lemmas.Bool.{cases_eq}
 use Rattle.std.specs.Prelude.{ℤ}
 use Rattle.std.proofs.lemmas.List.{get_or-set_same, get_or-set_other, set-set}
-use Rattle.strm_machine.specs.State.{State, empty, host_limit, no_stream, no_consumer, stream_at, producer_at, kept_at, consumer_at, is_host, is_held, is_loose}
+use Rattle.strm_machine.specs.State.{State, host_limit, no_stream, no_consumer, stream_at, producer_at, kept_at, consumer_at, is_host, is_held, is_loose}
 use Rattle.strm_machine.specs.Hosting.{duty_of, ServesOne, is_piped, KeepsForPipe, HostsHold}
 use Rattle.strm_machine.specs.Sides.{opposite, end_of}
 use Rattle.strm_machine.specs.Moves.{with_owner}
-use Rattle.strm_machine.specs.Tests.{named}
 use Rattle.strm_machine.specs.Reactions.{with_stream_at}
 use Rattle.strm_codes.specs.declared.payloads.Payload.{Payload}
 use Rattle.strm_machine.specs.Soundness.{IsSound, IsPlaced, OperationIsPlaced, StreamIsPlaced, sizes_of}
@@ -23,7 +22,6 @@ use Rattle.strm_machine.specs.declared.streams.Side.{Side}
 use Rattle.strm_machine.specs.declared.streams.Side.TheVariants.{Writing, Reading}
 use Rattle.strm_machine.specs.declared.streams.Stream.{Stream}
 use Rattle.strm_machine.proofs.HeldLemmas.{StateIsHeld}
-use Rattle.strm_machine.proofs.TurnLemmas.{all_kept}
 use Rattle.strm_machine.proofs.EndLemmas.{each_side}
 use Rattle.strm_machine.proofs.HostLemmas.{serving_known, unless_host}
 use Rattle.strm_machine.proofs.SoundLemmas.{IsSound-stream, placed_at, type_of-same}

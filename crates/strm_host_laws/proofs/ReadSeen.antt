@@ -29,7 +29,7 @@ use Rattle.strm_machine.proofs.HostLemmas.{no_host}
 use Rattle.strm_machine.proofs.MomentLemmas.{untold}
 use Rattle.strm_machine.proofs.SeenSteps.{named_other}
 use Rattle.strm_machine.proofs.StreamSteps.{reaction_streams}
-use Rattle.strm_machine.proofs.TurnChangeLemmas.{still, goes_on}
+use Rattle.strm_machine.proofs.TurnChangeLemmas.{goes_on}
 use Rattle.strm_laws.proofs.KeptChanges.{scene_with}
 use Rattle.strm_host_machine.specs.Attaching.{withdrawn, piped, without_ends, forsaken}
 use Rattle.strm_host_laws.specs.HostMoments.{Part, Acts, Turns}

@@ -28,10 +28,9 @@ use Rattle.strm_machine.specs.declared.streams.Side.{Side}
 use Rattle.strm_machine.specs.declared.streams.Side.TheVariants.{Writing, Reading}
 use Rattle.strm_machine.specs.declared.streams.Stream.{Stream}
 use Rattle.strm_machine.proofs.Changes.{Change, ByGoing, ByOpening, ByServing}
-use Rattle.strm_machine.proofs.EndingLemmas.{IsTold, told-becomes, unreported}
+use Rattle.strm_machine.proofs.EndingLemmas.{IsTold, told-becomes}
 use Rattle.strm_machine.proofs.MomentLemmas.{Untold, untold}
 use Rattle.strm_machine.proofs.NamedEndLemmas.{named_itself}
-use Rattle.strm_machine.proofs.TurnChangeLemmas.{still}
 use Rattle.strm_laws.proofs.KeptChanges.{scene_with}
 use Rattle.strm_host_machine.specs.Settling.{went, operation_settled}
 use Rattle.strm_host_machine.proofs.SettleLemmas.{code_told as code_answered}

@@ -20,7 +20,7 @@ use Rattle.strm_host_machine.specs.Does.{start_world}
 use Rattle.strm_host_machine.specs.World.{World, stream_in}
 use Rattle.strm_host_laws.specs.HostMoments.{HostMoment, first_moments}
 use Rattle.strm_host_laws.specs.HostLaws.{plain, taken_in_moment, taken_from_owner, taken_by, host_taken_in, all_taken}
-use Rattle.strm_host_laws.proofs.Chains.{Follows, Chain, first-chain}
+use Rattle.strm_host_laws.proofs.Chains.{Chain, first-chain}
 use Rattle.strm_host_laws.proofs.Effects.{Effect}
 use Rattle.strm_host_laws.proofs.PartEffects.{follows_effect}
 use Rattle.strm_host_laws.proofs.Forms.{IsRound, Form, part-formed}
@@ -35,7 +35,7 @@ use Rattle.strm_host_laws.proofs.Rooms.{HasRoom, WrittenOrRoom, written_or_room,
 use Rattle.strm_host_laws.proofs.TurnsStand.{Holds}
 use Rattle.strm_host_laws.proofs.Standing.{Holds-next, Holds-empty}
 use Rattle.strm_host_laws.proofs.StepsLeft.{left_after, Costs, first_cost}
-use Rattle.strm_host_laws.proofs.Took.{TakesOn, Took, Rests, Takes, Passes, form_took}
+use Rattle.strm_host_laws.proofs.Took.{TakesOn, Rests, Takes, Passes, form_took}
 
 -- ## Items that lie there
 

@@ -4,7 +4,7 @@ use Rattle.std.proofs.Common.{◌≡◌, ◌≢◌, ℕ, ◌<◌, ◌≤◌, Boo
 use Rattle.std.proofs.lemmas.Bool.{cases_eq}
 use Rattle.std.proofs.lemmas.List.{get_or-set_same, get_or-set_other, get_or_past, get_or_append_left, map-append}
 use Rattle.std.proofs.lemmas.List.Elements.{All-push, All-weaker}
-use Rattle.strm_machine.specs.State.{State, Guest, empty, host_limit, no_stream, no_producer, idle_end, stream_at, producer_at, kept_at, consumer_at, is_host, is_held, is_loose}
+use Rattle.strm_machine.specs.State.{State, Guest, host_limit, no_stream, no_producer, idle_end, stream_at, producer_at, kept_at, consumer_at, is_host, is_held, is_loose}
 use Rattle.strm_machine.specs.Hosting.{ServesOne, is_piped, KeepsForPipe, HostsHold}
 use Rattle.strm_machine.specs.Sides.{opposite, end_of, with_end}
 use Rattle.strm_machine.specs.Moves.{with_owner}

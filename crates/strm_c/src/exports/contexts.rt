@@ -41,8 +41,8 @@ pub extern "C" fn strm_error_context_message(
     address: u32,
     out: &mut u32,
 ) -> Status
-    ensures answers { AnswersCall store.old.state (λ s. react s (steps.ErrText guest handle address))
-        result out.old out.new store.new.state }
+    ensures answers { AnswersCall store.old.state
+        (λ s. react s (steps.ErrText guest handle address)) result out.old out.new store.new.state }
 {
     let Some(store) = store.get_mut() else {
         return NO_STORE;

@@ -36,8 +36,8 @@ pub extern "C" fn strm_memory_write(
     address: u32,
     bytes: &[u8],
 ) -> Status
-    ensures answers { AnswersCall store.old.state (λ s. react s (steps.Poke guest address bytes.now))
-        result 0 0 store.new.state }
+    ensures answers { AnswersCall store.old.state
+        (λ s. react s (steps.Poke guest address bytes.now)) result 0 0 store.new.state }
 {
     let Some(store) = store.get_mut() else {
         return NO_STORE;

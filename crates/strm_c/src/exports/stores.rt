@@ -124,7 +124,8 @@ pub extern "C" fn strm_moved(store: &mut StoreHandle, stream: u32, out: &mut Str
 /// Puts at `out` the type of a stream of which an end is there. UNKNOWN_STREAM of any other.
 #[unsafe(no_mangle)]
 pub extern "C" fn strm_transmit_index(store: &mut StoreHandle, stream: u32, out: &mut u64) -> Status
-    ensures live { IfSome store.old.state (λ s. result ≡ 0 ↔ IsTrue (is_live (stream_at s stream))) }
+    ensures live { IfSome store.old.state
+        (λ s. result ≡ 0 ↔ IsTrue (is_live (stream_at s stream))) }
     ensures gone { IfSome store.old.state (λ s. result ≢ 0 → result ≡ no_stream_status) }
     ensures none { store.old.state ≡ None → result ≡ no_store }
     ensures ty { IfSome store.old.state (λ s. result ≡ 0 →

@@ -17,7 +17,8 @@ impl StoreHandle {
     /// The store, if it is of one. When the borrow ends, the handle has what was written through it.
     #[inline(always)]
     pub(crate) fn get_mut(&mut self) -> Option<&mut GuestStore>
-        ensures* writes_back { sem 𝓛 (LendsIf the_row store_row self.entry result (handle_with self.old) self.old) }
+        ensures* writes_back { sem 𝓛
+            (LendsIf the_row store_row self.entry result (handle_with self.old) self.old) }
         ensures value { option_copied_mut result ≡ self.old.state }
     {
         if self.is_none() {
@@ -30,7 +31,8 @@ impl StoreHandle {
     // The store. When the borrow ends, the handle has what was written through it.
     fn store_mut(&mut self) -> &mut GuestStore
         requires { IsSome self.old.state }
-        ensures* writes_back { sem 𝓛 (follows the_row store_row self.entry.ghost_name result.ghost_name (handle_with self.old)) }
+        ensures* writes_back { sem 𝓛 (follows the_row store_row self.entry.ghost_name
+            result.ghost_name (handle_with self.old)) }
         ensures value { self.old.state ≡ Some result.now }
     {
         unsafe { &mut *(self.at as *mut GuestStore) }

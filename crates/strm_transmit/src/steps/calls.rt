@@ -110,7 +110,8 @@ pub(crate) fn join_set(
 ) -> Result<(), StoreError>
     ensures meets { Meets store.old store.new (as_reply (λ _. replies.Done) result)
         (reaction store.old (acts.OnSet guest set (set_acts.Join handle))) }
-    ensures settled { IfOk (as_reply (λ _. replies.Done) result) (λ reply. IsTrue (is_settled reply)) }
+    ensures settled { IfOk (as_reply (λ _. replies.Done) result)
+        (λ reply. IsTrue (is_settled reply)) }
 {
     store.set_join(guest, set, handle)
 }
@@ -182,7 +183,8 @@ pub(crate) fn move_context(
 pub(crate) fn drop_context(store: &mut Store, guest: u32, handle: u32) -> Result<(), StoreError>
     ensures meets { Meets store.old store.new (as_reply (λ _. replies.Done) result)
         (reaction store.old (acts.OnContext guest handle context_acts.Drop)) }
-    ensures settled { IfOk (as_reply (λ _. replies.Done) result) (λ reply. IsTrue (is_settled reply)) }
+    ensures settled { IfOk (as_reply (λ _. replies.Done) result)
+        (λ reply. IsTrue (is_settled reply)) }
     ensures takes_no_memory { result ≢ Err StoreError.OutOfMemory }
 {
     store.error_context_drop(guest, handle)
