@@ -15,7 +15,7 @@ use Rattle.strm_events.specs.Reports.{is_dropped, report_of, operation_report, i
 use Rattle.strm_machine.specs.State.{State, Guest, no_stream, memory_in, stream_at, is_gone}
 use Rattle.strm_machine.specs.Sides.{opposite, end_of, with_end, write_of, read_of}
 use Rattle.strm_machine.specs.Meetings.{meeting_of, begun, advanced}
-use Rattle.strm_machine.specs.Turns.{Turn, turn, finds, rendezvous_by, moves, completes_alone}
+use Rattle.strm_machine.specs.Operating.{Operated, operate, finds, rendezvous_by, moves, completes_alone}
 use Rattle.strm_machine.specs.Tests.{named, end_named, stream_named, side_named, items_asked}
 use Rattle.strm_machine.specs.Endings.{report_on, pending_of, told_end, delivered, dropped}
 use Rattle.strm_machine.specs.Reactions.{Reaction, goes, written, written_back, with_stream_at, told, performs}
@@ -134,7 +134,7 @@ both_meet Reading mine theirs a b = meeting_some theirs.left mine.left b a
 finds-owned : (side : Side) (guests : List Guest) (stream : Stream) (mine : Operation) (o : Option Operation) → IsPlain o → 1 ≤ mine.left → HasItems mine → StaysOwned side stream (finds side guests stream mine o).stream
 finds-owned side guests stream mine None f l c = waits-owned side stream mine c
 finds-owned side guests stream mine (Some theirs) f l c =
-    cond_both theirs.is_open _ _ (λ (t : Turn). StaysOwned side stream t.stream)
+    cond_both theirs.is_open _ _ (λ (t : Operated). StaysOwned side stream t.stream)
     (λ e. subst (λ m. StaysOwned side stream (rendezvous_by m side guests stream mine theirs).stream) (sym (both_meet side mine theirs l (f.left e)))
     (moves-owned side guests stream mine theirs (min mine.left theirs.left) _ (omega (arith, l, f.left e))))
     (λ e. waits-owned side stream mine c)
@@ -148,10 +148,10 @@ pub plain_on : (side : Side) (stream : Stream) → ArePlain stream → IsPlain (
 plain_on Writing stream p = p.0
 plain_on Reading stream p = p.1
 
-turn-owned : (side : Side) (guests : List Guest) (stream : Stream) (mine : Operation) → ArePlain stream → 1 ≤ mine.left → HasItems mine → StaysOwned side stream (turn side guests stream mine).stream
-unfolding turn
-turn-owned side guests stream mine p l c =
-    cond_both (is_gone (end_of (opposite side) stream).owner) _ _ (λ (t : Turn). StaysOwned side stream t.stream)
+operate-owned : (side : Side) (guests : List Guest) (stream : Stream) (mine : Operation) → ArePlain stream → 1 ≤ mine.left → HasItems mine → StaysOwned side stream (operate side guests stream mine).stream
+unfolding operate
+operate-owned side guests stream mine p l c =
+    cond_both (is_gone (end_of (opposite side) stream).owner) _ _ (λ (t : Operated). StaysOwned side stream t.stream)
     (λ e. learns-owned side stream)
     (λ e. finds-owned side guests stream mine (end_of (opposite side) stream).operation (plain_on (opposite side) stream p) l c)
 
@@ -180,17 +180,17 @@ meeting-told ReadCompletes side guests stream mine theirs = alone-told Reading s
 finds-told : (side : Side) (guests : List Guest) (stream : Stream) (mine : Operation) (o : Option Operation) → (end_of side (finds side guests stream mine o).stream).told ≡ (end_of side stream).told
 finds-told side guests stream mine None = waits-told side stream mine
 finds-told side guests stream mine (Some theirs) =
-    cond_both theirs.is_open _ _ (λ (t : Turn). (end_of side t.stream).told ≡ (end_of side stream).told)
+    cond_both theirs.is_open _ _ (λ (t : Operated). (end_of side t.stream).told ≡ (end_of side stream).told)
     (λ e. meeting-told (meeting_of (write_of side mine theirs).left (read_of side mine theirs).left) side guests stream mine theirs)
     (λ e. waits-told side stream mine)
 
 -- the code of a turn is another than Dropped, and so the end was told as before
-abbrev TellsOther : Side → Stream → Turn → Type 0
+abbrev TellsOther : Side → Stream → Operated → Type 0
 TellsOther side stream t = (code : ReturnCode) → t.code ≡ Some code → is_dropped code ≡ false → (end_of side t.stream).told ≡ (end_of side stream).told
 
-turn-told : (side : Side) (guests : List Guest) (stream : Stream) (mine : Operation) → TellsOther side stream (turn side guests stream mine)
-unfolding turn
-turn-told side guests stream mine =
+operate-told : (side : Side) (guests : List Guest) (stream : Stream) (mine : Operation) → TellsOther side stream (operate side guests stream mine)
+unfolding operate
+operate-told side guests stream mine =
     cond_both (is_gone (end_of (opposite side) stream).owner) _ _ (TellsOther side stream)
     (λ gone code e d. absurd (let same : codes.Dropped 0 ≡ code = cc in let wrong : true ≡ false = ap is_dropped same ∙ d in cc))
     (λ e code f d. finds-told side guests stream mine (end_of (opposite side) stream).operation)
@@ -222,15 +222,15 @@ moves-some side guests stream mine theirs n (Some after) k some m e =
 finds-some : (side : Side) (guests : List Guest) (stream : Stream) (mine : Operation) (o : Option Operation) → stream.kind ≡ AStream → IsPlain o → 1 ≤ mine.left → CountsSome (finds side guests stream mine o).code
 finds-some side guests stream mine None k f l m e = other_code codes.Blocked m e (λ b. cc)
 finds-some side guests stream mine (Some theirs) k f l i c =
-    (cond_both theirs.is_open _ _ (λ (t : Turn). CountsSome t.code)
+    (cond_both theirs.is_open _ _ (λ (t : Operated). CountsSome t.code)
     (λ e. subst (λ m. CountsSome (rendezvous_by m side guests stream mine theirs).code) (sym (both_meet side mine theirs l (f.left e)))
     (moves-some side guests stream mine theirs (min mine.left theirs.left) _ k (omega (arith, l, f.left e))))
     (λ e m b. other_code codes.Blocked m b (λ x. cc))) i c
 
-turn-some : (side : Side) (guests : List Guest) (stream : Stream) (mine : Operation) → stream.kind ≡ AStream → ArePlain stream → 1 ≤ mine.left → CountsSome (turn side guests stream mine).code
-unfolding turn
-turn-some side guests stream mine k p l =
-    cond_both (is_gone (end_of (opposite side) stream).owner) _ _ (λ (t : Turn). CountsSome t.code)
+operate-some : (side : Side) (guests : List Guest) (stream : Stream) (mine : Operation) → stream.kind ≡ AStream → ArePlain stream → 1 ≤ mine.left → CountsSome (operate side guests stream mine).code
+unfolding operate
+operate-some side guests stream mine k p l =
+    cond_both (is_gone (end_of (opposite side) stream).owner) _ _ (λ (t : Operated). CountsSome t.code)
     (λ e m b. other_code (codes.Dropped 0) m b (λ x. cc))
     (λ e. finds-some side guests stream mine (end_of (opposite side) stream).operation k (plain_on (opposite side) stream p) l)
 
@@ -289,7 +289,7 @@ meeting-other ReadCompletes side guests stream mine theirs = alone-other Reading
 finds-other : (side : Side) (guests : List Guest) (stream : Stream) (mine : Operation) (o : Option Operation) → IsOther (finds side guests stream mine o).code
 finds-other side guests stream mine None = refl
 finds-other side guests stream mine (Some theirs) =
-    cond_both theirs.is_open _ _ (λ (t : Turn). IsOther t.code)
+    cond_both theirs.is_open _ _ (λ (t : Operated). IsOther t.code)
     (λ e. meeting-other (meeting_of (write_of side mine theirs).left (read_of side mine theirs).left) side guests stream mine theirs)
     (λ e. refl)
 
@@ -301,10 +301,10 @@ other-only : (side : Side) (stream : Stream) (code : Option ReturnCode) → IsOt
 other-only side stream None o c e d = cc
 other-only side stream (Some x) o c e d = absurd (let same : x ≡ c = cc in let wrong : false ≡ true = sym o ∙ ap is_dropped same ∙ d in cc)
 
-turn-only : (side : Side) (guests : List Guest) (stream : Stream) (mine : Operation) → OnlyGone side stream (turn side guests stream mine).code
-unfolding turn
-turn-only side guests stream mine =
-    cond_both (is_gone (end_of (opposite side) stream).owner) _ _ (λ (t : Turn). OnlyGone side stream t.code)
+operate-only : (side : Side) (guests : List Guest) (stream : Stream) (mine : Operation) → OnlyGone side stream (operate side guests stream mine).code
+unfolding operate
+operate-only side guests stream mine =
+    cond_both (is_gone (end_of (opposite side) stream).owner) _ _ (λ (t : Operated). OnlyGone side stream t.code)
     (λ gone c e d. gone)
     (λ e. other-only side stream _ (finds-other side guests stream mine (end_of (opposite side) stream).operation))
 
@@ -331,7 +331,7 @@ report-only stream k p c e d =
 
 -- ## Whole steps
 
-pub written_is : (state next : State) (s : ℕ) (t : Turn) (o : Option ReturnCode) (code : ReturnCode) → written_back state s t o ≡ goes (replies.Code code) next → (o ≡ Some code) × (next ≡ written state s t)
+pub written_is : (state next : State) (s : ℕ) (t : Operated) (o : Option ReturnCode) (code : ReturnCode) → written_back state s t o ≡ goes (replies.Code code) next → (o ≡ Some code) × (next ≡ written state s t)
 written_is state next s t None code e = absurd (let wrong = ap (λ (r : Reaction). r.reply) e in cc)
 written_is state next s t (Some x) code e =
     let reply : replies.Code x ≡ replies.Code code = ap (λ (r : Reaction). r.reply) e in
@@ -345,19 +345,19 @@ pub record IsOfSome (state : State) (s count : ℕ) : Type 0 where
   pub some : 1 ≤ count
 
 -- a read or write that answers a code
-pub record Operated (state next : State) (s : ℕ) (side : Side) (code : ReturnCode) : Type 0 where
+pub record IsOperated (state next : State) (s : ℕ) (side : Side) (code : ReturnCode) : Type 0 where
   pub steady : Steady s side state next
   pub own : is_dropped code ≡ false → told_at next s side ≡ told_at state s side
   pub only : is_dropped code ≡ true → is_gone (end_of (opposite side) (stream_at state s)).owner ≡ true
   pub some : (n : ℕ) → code ≡ codes.Completed n → 1 ≤ n
 
 module _ (state next : State) (s : ℕ) (side : Side) (end : NamedEnd) (address count : ℕ) (code : ReturnCode) where
-  pub operate_after : IsPerformed state (OnEnd side end (Operate address count)) (replies.Code code) next → stream_named (named state end) ≡ s → s < length state.streams → IsOfSome state s (items_asked end.ty count) → Operated state next s side code
+  pub operate_after : IsPerformed state (OnEnd side end (Operate address count)) (replies.Code code) next → stream_named (named state end) ≡ s → s < length state.streams → IsOfSome state s (items_asked end.ty count) → IsOperated state next s side code
   unfolding performs
   operate_after p e l z =
       let n = stream_named (named state end) in
       let mine = begun end.guest address (items_asked end.ty count) in
-      let t = turn side state.guests (stream_at state n) mine in
+      let t = operate side state.guests (stream_at state n) mine in
       let w = written_is state next n t t.code code p.does in
       let y : IsOfSome state n (items_asked end.ty count) = subst (λ k. IsOfSome state k (items_asked end.ty count)) (sym e) z in
       let there : n < length state.streams = subst (λ k. k < length state.streams) (sym e) l in
@@ -365,10 +365,10 @@ module _ (state next : State) (s : ℕ) (side : Side) (end : NamedEnd) (address 
       record {
         own = λ d. subst (λ k. told_at next k side ≡ told_at state k side) e
             (ap (λ xs. (end_of side (get_or xs n no_stream)).told) is ∙ ap (λ y. (end_of side y).told) (get_or-set_same state.streams n t.stream no_stream there)
-            ∙ turn-told side state.guests (stream_at state n) mine code w.0 d);
-        steady = subst (λ k. Steady k side state next) e (steady_set state next n side t.stream is there (turn-owned side state.guests (stream_at state n) mine y.plain y.some (begun_items end.guest address (items_asked end.ty count) y.some)));
-        only = λ d. subst (λ k. is_gone (end_of (opposite side) (stream_at state k)).owner ≡ true) e (turn-only side state.guests (stream_at state n) mine code w.0 d);
-        some = λ i c. turn-some side state.guests (stream_at state n) mine y.kind y.plain y.some i (w.0 ∙ ap Some c);
+            ∙ operate-told side state.guests (stream_at state n) mine code w.0 d);
+        steady = subst (λ k. Steady k side state next) e (steady_set state next n side t.stream is there (operate-owned side state.guests (stream_at state n) mine y.plain y.some (begun_items end.guest address (items_asked end.ty count) y.some)));
+        only = λ d. subst (λ k. is_gone (end_of (opposite side) (stream_at state k)).owner ≡ true) e (operate-only side state.guests (stream_at state n) mine code w.0 d);
+        some = λ i c. operate-some side state.guests (stream_at state n) mine y.kind y.plain y.some i (w.0 ∙ ap Some c);
       }
 
 left_plain : (code : Option ReturnCode) (o : Option Operation) → IsPlain o → IsPlain (left_pending code o)

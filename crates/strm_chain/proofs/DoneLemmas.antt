@@ -34,7 +34,7 @@ use Rattle.strm_machine.specs.Acts.{end_named_by}
 use Rattle.strm_machine.specs.Sides.{opposite, end_of, same_side, write_of, read_of}
 use Rattle.strm_machine.specs.Soundness.{IsSound, EntryIsNamed, type_of, types_of}
 use Rattle.strm_machine.specs.Meetings.{begun, carried}
-use Rattle.strm_machine.specs.Turns.{Turn, turn, finds, moves, rendezvous_by}
+use Rattle.strm_machine.specs.Operating.{Operated, operate, finds, moves, rendezvous_by}
 use Rattle.strm_machine.specs.Endings.{report_on, pending_of}
 use Rattle.strm_machine.specs.Moments.{is_end}
 use Rattle.strm_machine.specs.Tests.{Name, named, end_named, side_of, stream_named, side_named, names_misaligned, is_busy, owes_value, is_open_of}
@@ -134,7 +134,7 @@ names_it s side (Ok answer) e =
 names_it s side (Err error) e = cc
 
 -- a code is answered, of which this holds
-abbrev pub Codes : (ReturnCode → Type 0) → Turn → Type 0
+abbrev pub Codes : (ReturnCode → Type 0) → Operated → Type 0
 Codes P t = (code : ReturnCode) × (t.code ≡ Some code) × P code
 
 -- guest g holds this end of stream s, which is of bytes, under a handle
@@ -207,12 +207,12 @@ module _ (state : State) (s : ℕ) (side : Side) (g handle : ℕ) (h : IsSound s
   -- so the machine does it, and answers a code of the turn
   module _ (address count : ℕ) (P : ReturnCode → Type 0) (untrapped : state.trapped ≡ false)
       (free : refusal state (OnEnd side this (Operate address count)) ≡ None)
-      (codes_are : Codes P (turn side state.guests (stream_at state s) (begun g address count))) where
+      (codes_are : Codes P (operate side state.guests (stream_at state s) (begun g address count))) where
     abbrev found : ℕ
     found = stream_named (named state this)
 
-    abbrev turn_at : ℕ → Turn
-    turn_at k = turn side state.guests (stream_at state k) (begun g address count)
+    abbrev turn_at : ℕ → Operated
+    turn_at k = operate side state.guests (stream_at state k) (begun g address count)
 
     performed_so : reaction state (OnEnd side this (Operate address count)) ≡ written_back state found (turn_at found) (turn_at found).code
     performed_so =
@@ -308,15 +308,15 @@ finds_code side guests stream mine (Some theirs) k p f l =
     (bytes_carried guests (write_of side mine theirs) (read_of side mine theirs) (min mine.left theirs.left)))))
     (λ e. (codes.Blocked, refl, inl refl))
 
-pub read_code : (guests : List Guest) (stream : Stream) (mine : Operation) → stream.kind ≡ AStream → stream.payload ≡ One U8 → ArePlain stream → 1 ≤ mine.left → Codes IsReadCode (turn Reading guests stream mine)
-unfolding turn
+pub read_code : (guests : List Guest) (stream : Stream) (mine : Operation) → stream.kind ≡ AStream → stream.payload ≡ One U8 → ArePlain stream → 1 ≤ mine.left → Codes IsReadCode (operate Reading guests stream mine)
+unfolding operate
 read_code guests stream mine k p plain l =
     cond_both (is_gone stream.writer.owner) _ _ (Codes IsReadCode)
     (λ e. (codes.Dropped 0, refl, inr (WithLast refl)))
     (λ e. let x = finds_code Reading guests stream mine stream.writer.operation k p plain.0 l in (x.0, x.1, reads_too x.0 x.2))
 
-pub write_code : (guests : List Guest) (stream : Stream) (mine : Operation) → stream.kind ≡ AStream → stream.payload ≡ One U8 → ArePlain stream → 1 ≤ mine.left → is_gone stream.reader.owner ≡ false → Codes IsWriteCode (turn Writing guests stream mine)
-unfolding turn
+pub write_code : (guests : List Guest) (stream : Stream) (mine : Operation) → stream.kind ≡ AStream → stream.payload ≡ One U8 → ArePlain stream → 1 ≤ mine.left → is_gone stream.reader.owner ≡ false → Codes IsWriteCode (operate Writing guests stream mine)
+unfolding operate
 write_code guests stream mine k p plain l there =
     cond_both (is_gone stream.reader.owner) _ _ (Codes IsWriteCode)
     (λ e. absurd (let wrong : true ≡ false = sym e ∙ there in cc))

@@ -14,7 +14,7 @@ use Rattle.strm_memory.specs.Region.{has_bytes}
 use Rattle.strm_machine.specs.State.{memory_in, stream_at, is_gone}
 use Rattle.strm_machine.specs.Acts.{end_named_by}
 use Rattle.strm_machine.specs.Meetings.{begun}
-use Rattle.strm_machine.specs.Turns.{turn}
+use Rattle.strm_machine.specs.Operating.{operate}
 use Rattle.strm_machine.specs.Soundness.{type_of}
 use Rattle.strm_machine.specs.Refusals.{refusal}
 use Rattle.strm_machine.specs.declared.streams.Side.TheVariants.{Writing as AWrite, Reading as ARead}
@@ -171,7 +171,7 @@ module _ (g : ℕ) (w : Worker) (p : ChainPlay) (x : IsGuest g w p) (f : IsChain
             untold = (reads_here handle has).reads.untold unclosed;
           })
 
-      read_codes : Codes IsReadCode (turn ARead p.state.guests (stream_at p.state (g - 1)) (begun g 0 count))
+      read_codes : Codes IsReadCode (operate ARead p.state.guests (stream_at p.state (g - 1)) (begun g 0 count))
       read_codes =
           let h = reads_here handle has in
           read_code p.state.guests (stream_at p.state (g - 1)) (begun g 0 count) (kind_is p.state (g - 1) h.typed) (payload_is p.state (g - 1) h.typed) h.reads.plain counts.some
@@ -202,7 +202,7 @@ module _ (g : ℕ) (w : Worker) (p : ChainPlay) (x : IsGuest g w p) (f : IsChain
             untold = (writes_here handle has).writes.untold;
           })
 
-      write_codes : Codes IsWriteCode (turn AWrite p.state.guests (stream_at p.state g) (begun g 64 count))
+      write_codes : Codes IsWriteCode (operate AWrite p.state.guests (stream_at p.state g) (begun g 64 count))
       write_codes =
           let h = writes_here handle has in
           write_code p.state.guests (stream_at p.state g) (begun g 64 count) (kind_is p.state g h.typed) (payload_is p.state g h.typed) h.plain counts.some h.read

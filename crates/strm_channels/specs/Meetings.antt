@@ -7,7 +7,7 @@ use Rattle.strm_memory.specs.declared.copies.BadItem.{BadItem}
 use Rattle.strm_machine.specs.State as machine
 use Rattle.strm_machine.specs.Meetings.{carried}
 use Rattle.strm_machine.specs.Sides.{end_of}
-use Rattle.strm_machine.specs.Turns.{Turn}
+use Rattle.strm_machine.specs.Operating.{Operated}
 use Rattle.strm_machine.specs.declared.streams.Operation.{Operation}
 use Rattle.strm_machine.specs.declared.streams.Side.{Side}
 use Rattle.strm_machine.specs.declared.streams.Stream.{Stream}
@@ -32,5 +32,5 @@ answered_code (Ok code) = Some code
 answered_code (Err error) = None
 
 -- the code that was answered, and the guests and the stream afterwards
-abbrev pub meeting_answered : Result ReturnCode BadItem → List Guest → Stream → Turn
+abbrev pub meeting_answered : Result ReturnCode BadItem → List Guest → Stream → Operated
 meeting_answered result guests stream = record { code = answered_code result; guests = guests_of guests; stream = stream }

@@ -13,7 +13,7 @@ ghost use Rattle.strm_machine.specs.State.{is_gone, idle_end};
 ghost use Rattle.strm_machine.specs.Sides.{end_of, with_end, with_operation};
 ghost use Rattle.strm_machine.specs.Meetings.{begun, advanced};
 ghost use Rattle.strm_machine.specs.Moves.{with_owner};
-ghost use Rattle.strm_machine.specs.Turns.{is_future, with_received};
+ghost use Rattle.strm_machine.specs.Operating.{is_future, with_received};
 ghost use Rattle.strm_machine.specs.Endings.{report_on, delivered, cancelled_end, told_end};
 ghost use Rattle.strm_codes.specs.declared.codes.ReturnCode.TheVariants.{Blocked};
 ghost use Rattle.strm_events.specs.Cells.{new_cell, kept_report, may_meet, moved_so_far};

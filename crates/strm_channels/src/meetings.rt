@@ -15,7 +15,7 @@ ghost use Rattle.strm_memory.specs.Items.{items_at, stored_at, is_number_or_none
 ghost use Rattle.std.specs.Prelude.{IsTrue, IsSomeAnd};
 ghost use Rattle.std.specs.Prelude.{false};
 ghost use Rattle.strm_machine.specs.Meetings.{begun, advanced, meeting_of, carried};
-ghost use Rattle.strm_machine.specs.Turns.{with_received, answers, completes_alone, moves, rendezvous, turn};
+ghost use Rattle.strm_machine.specs.Operating.{with_received, answers, completes_alone, moves, rendezvous, operate};
 ghost use Rattle.strm_machine.specs.Soundness.{sizes_of, IsPlaced, StreamIsPlaced};
 ghost use Rattle.strm_channels.specs.Guests.{guests_of};
 ghost use Rattle.strm_channels.specs.Meetings.{Waits, Carries, meeting_answered};
@@ -306,7 +306,7 @@ fn meet(
 /// A read or write of a guest, by what it finds on the other side. After a bad item nothing has
 /// changed. The payload is the stream's: who knows it already, or some of it, has less code here.
 #[inline(always)]
-#[tactic(auto, unfolding(strm_machine::specs::Turns::turn))]
+#[tactic(auto, unfolding(strm_machine::specs::Operating::operate))]
 pub fn meet_or_wait(
     alloc: Global,
     guests: &mut Vec<Guest>,
@@ -323,7 +323,7 @@ pub fn meet_or_wait(
     requires sizes { sum (sizes_of (guests_of guests.old.items)) ≤ 268435456 }
     requires numbers { IsTrue (is_open_of mine.guest (end_of (opposite side) stream.old).operation)
         → IsTrue (is_number_or_none stream.old.payload) }
-    ensures { turn side (guests_of guests.old.items) stream.old mine
+    ensures { operate side (guests_of guests.old.items) stream.old mine
         ≡ meeting_answered result guests.new.items stream.new }
 {
     if stream.owner(opposite(side)) == Owner::Gone {

@@ -11,7 +11,7 @@ use Rattle.strm_events.specs.Reports.{report_of, left_pending, cancel_answer}
 use Rattle.strm_machine.specs.State.{Guest, is_gone, is_host}
 use Rattle.strm_machine.specs.Sides.{opposite, end_of, with_end, with_operation, write_of, read_of}
 use Rattle.strm_machine.specs.Meetings.{meeting_of}
-use Rattle.strm_machine.specs.Turns.{Turn, with_received, learns, moves, rendezvous_by, rendezvous, finds, turn}
+use Rattle.strm_machine.specs.Operating.{Operated, with_received, learns, moves, rendezvous_by, rendezvous, finds, operate}
 use Rattle.strm_machine.specs.Endings.{pending_of, report_on, told_end, delivered, dropped, cancelled, cancelled_end, asked_to_finish, code_of_cancel, waits_for_host}
 use Rattle.strm_machine.specs.Moves.{with_owner}
 use Rattle.strm_machine.specs.declared.streams.End.{End}
@@ -99,7 +99,7 @@ module _ (held : ℕ) (over : Bool) where
   -- ## A read or write between guests
 
   -- a turn that finds only items
-  abbrev SeenAs : Stream → Reached → Turn → Type 0
+  abbrev SeenAs : Stream → Reached → Operated → Type 0
   SeenAs stream reached t = IsTrue (is_some t.code) → reached ≡ reaches t.code (seen t.stream held over)
 
   module _ (guests : List Guest) (stream : Stream) (mine theirs : Operation) where
@@ -176,10 +176,10 @@ module _ (held : ℕ) (over : Bool) where
     holder-across = ap (λ (x : CourseEnd). x.holder) (end-seen (opposite side) stream)
 
     -- a read or write of an end whose other end is no host's: what is answered, and what becomes of the stream
-    pub turn-seen : (polls : List CoursePoll) → is_host (end_of (opposite side) stream).owner ≡ false → progress_of mine ≡ begins mine.left
-        → SeenAs stream (course_by (Calls side mine.left polls) (seen stream held over)) (turn side guests stream mine)
-    unfolding turn course_by
-    turn-seen polls e b some =
+    pub operate-seen : (polls : List CoursePoll) → is_host (end_of (opposite side) stream).owner ≡ false → progress_of mine ≡ begins mine.left
+        → SeenAs stream (course_by (Calls side mine.left polls) (seen stream held over)) (operate side guests stream mine)
+    unfolding operate course_by
+    operate-seen polls e b some =
         ap (λ o. called_by o side (seen stream held over) mine.left polls) holder-across
         ∙ called-seen polls (end_of (opposite side) stream).owner e b some
 

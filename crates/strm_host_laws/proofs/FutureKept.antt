@@ -10,7 +10,7 @@ use Rattle.strm_machine.specs.Sides.{end_of, with_end, with_operation}
 use Rattle.strm_machine.specs.Moves.{with_owner}
 use Rattle.strm_machine.specs.Making.{made_stream, made_pair, with_stream}
 use Rattle.strm_machine.specs.Endings.{delivered}
-use Rattle.strm_machine.specs.Turns.{Turn, finds, turn}
+use Rattle.strm_machine.specs.Operating.{Operated, finds, operate}
 use Rattle.strm_machine.specs.Reactions.{Reaction, written_back, reaction}
 use Rattle.strm_machine.specs.Tests.{named, stream_named}
 use Rattle.strm_machine.specs.declared.acts.Act.{Act}
@@ -95,10 +95,10 @@ step_value old new (Opens o is few unpassed same) = same
 -- ## What the machine does without host ends
 
 -- a read finds no write there
-turn_reads : (guests : List Guest) (stream : Stream) (mine : Operation) → stream.writer.operation ≡ None → mine.left ≤ 1 → stream.passed ≡ false → ReadStep stream (turn Reading guests stream mine).stream
-unfolding turn
+turn_reads : (guests : List Guest) (stream : Stream) (mine : Operation) → stream.writer.operation ≡ None → mine.left ≤ 1 → stream.passed ≡ false → ReadStep stream (operate Reading guests stream mine).stream
+unfolding operate
 turn_reads guests stream mine o few unpassed =
-    cond_both (is_gone stream.writer.owner) _ _ (λ (t : Turn). ReadStep stream t.stream)
+    cond_both (is_gone stream.writer.owner) _ _ (λ (t : Operated). ReadStep stream t.stream)
     (λ g. Leaves (Unchanged refl) (record { passed = refl; count = refl; loose = λ l. inl l; owner = λ r e. inl e }))
     (λ g. subst (λ p. ReadStep stream (finds Reading guests stream mine p).stream) (sym o)
     (Opens mine refl few unpassed (record { passed = refl; count = refl; loose = λ l. inl l; owner = λ r e. inl e })))
@@ -112,7 +112,7 @@ module _ (state : State) (s : ℕ) (held : StateIsHeld state) (k : IsTaken Writi
         | inr ne ↦ subst (ReadStep (stream_at state s)) (sym (get_or-set_other state.streams t s x no_stream ne)) (still_read (stream_at state s))
       ]
 
-  written_reads : (t : ℕ) (x : Turn) (code : Option ReturnCode) → t < length state.streams → (t ≡ s → ReadStep (stream_at state t) x.stream) → ReadStep (stream_at state s) (get_or (written_back state t x code).state.streams s no_stream)
+  written_reads : (t : ℕ) (x : Operated) (code : Option ReturnCode) → t < length state.streams → (t ≡ s → ReadStep (stream_at state t) x.stream) → ReadStep (stream_at state s) (get_or (written_back state t x code).state.streams s no_stream)
   written_reads t x (Some code) l h = set_reads t x.stream l h
   written_reads t x None l h = set_reads t x.stream l h
 

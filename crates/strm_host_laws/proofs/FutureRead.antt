@@ -19,7 +19,7 @@ use Rattle.strm_machine.specs.Moves.{with_owner}
 use Rattle.strm_machine.specs.Making.{made_stream, made_pair, with_stream}
 use Rattle.strm_machine.specs.Endings.{asked_to_finish}
 use Rattle.strm_machine.specs.Moments.{count_reported}
-use Rattle.strm_machine.specs.Turns.{Turn, is_future, with_received, finds, turn}
+use Rattle.strm_machine.specs.Operating.{Operated, is_future, with_received, finds, operate}
 use Rattle.strm_machine.specs.Reactions.{Reaction, written_back, reaction}
 use Rattle.strm_machine.specs.Soundness.{is_opened}
 use Rattle.strm_machine.specs.Tests.{named, stream_named}
@@ -134,10 +134,10 @@ future_step old new s (Opens o is begins same) kept h =
 -- ## What the machine does without host ends
 
 -- a write finds no read there
-turn_steps : (guests : List Guest) (stream : Stream) (mine : Operation) → stream.reader.operation ≡ None → BeginsOne mine stream.passed → FutureStep stream (turn Writing guests stream mine).stream
-unfolding turn
+turn_steps : (guests : List Guest) (stream : Stream) (mine : Operation) → stream.reader.operation ≡ None → BeginsOne mine stream.passed → FutureStep stream (operate Writing guests stream mine).stream
+unfolding operate
 turn_steps guests stream mine o begins =
-    cond_both (is_gone stream.reader.owner) _ _ (λ (t : Turn). FutureStep stream t.stream)
+    cond_both (is_gone stream.reader.owner) _ _ (λ (t : Operated). FutureStep stream t.stream)
     (λ g. Leaves (Unchanged refl) (record { passed = refl; count = refl; owner = λ r e. e }))
     (λ g. subst (λ p. FutureStep stream (finds Writing guests stream mine p).stream) (sym o) (Opens mine refl begins (record { passed = refl; count = refl; owner = λ r e. e })))
 
@@ -152,7 +152,7 @@ module _ (state : State) (s : ℕ) (held : StateIsHeld state) (k : IsTaken Readi
         | inr ne ↦ subst (FutureStep (stream_at state s)) (sym (get_or-set_other state.streams t s x no_stream ne)) (still_step (stream_at state s))
       ]
 
-  written_steps : (t : ℕ) (x : Turn) (code : Option ReturnCode) → t < length state.streams → (t ≡ s → FutureStep (stream_at state t) x.stream) → FutureStep (stream_at state s) (get_or (written_back state t x code).state.streams s no_stream)
+  written_steps : (t : ℕ) (x : Operated) (code : Option ReturnCode) → t < length state.streams → (t ≡ s → FutureStep (stream_at state t) x.stream) → FutureStep (stream_at state s) (get_or (written_back state t x code).state.streams s no_stream)
   written_steps t x (Some code) l h = set_steps t x.stream l h
   written_steps t x None l h = set_steps t x.stream l h
 

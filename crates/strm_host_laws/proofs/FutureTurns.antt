@@ -10,7 +10,7 @@ use Rattle.strm_buffers.specs.Listing.{Item}
 use Rattle.strm_machine.specs.State.{no_consumer, kept_at, consumer_at, is_host, is_loose}
 use Rattle.strm_machine.specs.Sides.{end_of, with_operation}
 use Rattle.strm_machine.specs.Endings.{delivered}
-use Rattle.strm_machine.specs.Turns.{is_future, with_received}
+use Rattle.strm_machine.specs.Operating.{is_future, with_received}
 use Rattle.strm_machine.specs.declared.acts.NamedEnd.{NamedEnd}
 use Rattle.strm_machine.specs.declared.streams.Consumer.{Consumer}
 use Rattle.strm_machine.specs.declared.streams.End.{End}

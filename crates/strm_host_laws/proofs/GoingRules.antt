@@ -29,7 +29,7 @@ use Rattle.strm_host_machine.specs.WriterTurn.{with_answer, hands_out}
 use Rattle.strm_host_machine.specs.ReaderTurn.{reader_with_taken, gives_up}
 use Rattle.strm_host_machine.specs.Attaching.{hosted_stream, with_new_stream, new_producer, piped, without_ends, forsaken}
 use Rattle.strm_host_machine.specs.Piping.{is_resting}
-use Rattle.strm_machine.specs.Turns.{with_received}
+use Rattle.strm_machine.specs.Operating.{with_received}
 use Rattle.strm_host_machine.specs.HostRefusals.{refusal_in}
 use Rattle.strm_host_machine.proofs.SettleLemmas.{is_done_with as is_settled_done, leaves_writer-stays, leaves_reader-stays, delivered-owners}
 use Rattle.strm_host_laws.specs.HostMoments.{Part, Acts}

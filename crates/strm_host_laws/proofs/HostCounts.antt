@@ -11,7 +11,7 @@ use Rattle.strm_machine.specs.Sides.{opposite, with_operation}
 use Rattle.strm_machine.specs.Soundness.{IsPlaced, sizes_of}
 use Rattle.strm_machine.specs.State.{State, no_stream, stream_at, is_host}
 use Rattle.strm_machine.specs.Tests.{named, stream_named, items_asked}
-use Rattle.strm_machine.specs.Turns.{with_received}
+use Rattle.strm_machine.specs.Operating.{with_received}
 use Rattle.strm_machine.specs.declared.acts.NamedEnd.{NamedEnd}
 use Rattle.strm_machine.specs.declared.replies.Reply.{Reply}
 use Rattle.strm_machine.specs.declared.streams.Owner.TheVariants.{Host}

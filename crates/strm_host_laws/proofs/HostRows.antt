@@ -14,7 +14,7 @@ use Rattle.strm_buffers.specs.Listing.{Item}
 use Rattle.strm_buffers.specs.Said.{WriterSaid}
 use Rattle.strm_buffers.specs.Tells.{Heard}
 use Rattle.strm_machine.specs.State.{empty}
-use Rattle.strm_machine.specs.Turns.{turn}
+use Rattle.strm_machine.specs.Operating.{operate}
 use Rattle.strm_machine.specs.Endings.{delivered, dropped}
 use Rattle.strm_machine.specs.Moments.{received, decoded}
 use Rattle.strm_machine.specs.Refusals.{refusal}
@@ -143,7 +143,7 @@ account-served : account (writer (7 ∷ []) records) served ≡ record {
   closed = false;
   heard = Some ((2, 65 ∷ []) ∷ []);
 }
-unfolding outcome performs_in refusal_in hosts_new writer_turn drive_turn with_stream_in moved_on reaction refusal performs turn delivered dropped decode_from encode_from items stored decoded
+unfolding outcome performs_in refusal_in hosts_new writer_turn drive_turn with_stream_in moved_on reaction refusal performs operate delivered dropped decode_from encode_from items stored decoded
 account-served = refl
 
 -- the same, and then the read end goes: what is held is given up, and the host writer closed
@@ -177,7 +177,7 @@ account-given_up : account (writer (7 ∷ []) (said 2 (1 ∷ 2 ∷ 3 ∷ []) ans
       closed = true;
       heard = Some ((1, 66 ∷ []) ∷ []);
     }
-unfolding outcome performs_in refusal_in hosts_new writer_turn drive_turn with_stream_in moved_on reaction refusal performs turn delivered dropped decode_from encode_from items stored decoded
+unfolding outcome performs_in refusal_in hosts_new writer_turn drive_turn with_stream_in moved_on reaction refusal performs operate delivered dropped decode_from encode_from items stored decoded
 account-given_up = refl
 
 -- a host writer that has no more to come: its last item is received first, and then its end is gone
@@ -209,5 +209,5 @@ account-over : account (writer [] (said 1 (5 ∷ 6 ∷ []) answers.Dropped ∷ [
       closed = true;
       heard = Some [];
     }
-unfolding outcome performs_in refusal_in hosts_new writer_turn drive_turn with_stream_in moved_on reaction refusal performs turn delivered dropped decode_from encode_from items stored decoded
+unfolding outcome performs_in refusal_in hosts_new writer_turn drive_turn with_stream_in moved_on reaction refusal performs operate delivered dropped decode_from encode_from items stored decoded
 account-over = refl

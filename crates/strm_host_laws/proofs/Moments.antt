@@ -17,7 +17,7 @@ use Rattle.strm_machine.specs.State.{Guest, kept_at, stream_at, is_host, is_held
 use Rattle.strm_machine.specs.Moments.{Moment, MemoryPlace, received, rise, place_of, target, is_named, items_in_memory, got_in}
 use Rattle.strm_machine.specs.Sides.{with_operation}
 use Rattle.strm_machine.specs.Endings.{delivered}
-use Rattle.strm_machine.specs.Turns.{with_received}
+use Rattle.strm_machine.specs.Operating.{with_received}
 use Rattle.strm_machine.specs.Soundness.{sizes_of, IsPlaced}
 use Rattle.strm_machine.specs.declared.acts.Act.{Act}
 use Rattle.strm_machine.specs.declared.acts.Act.TheVariants.{OnEnd, Drive}

@@ -12,7 +12,7 @@ use Rattle.strm_machine.specs.Making.{made_stream, made_pair, with_stream}
 use Rattle.strm_machine.specs.Moves.{with_owner}
 use Rattle.strm_machine.specs.Endings.{delivered, report_on, told_end}
 use Rattle.strm_machine.specs.Tests.{named, stream_named, items_asked}
-use Rattle.strm_machine.specs.Turns.{Turn, finds, turn, with_received}
+use Rattle.strm_machine.specs.Operating.{Operated, finds, operate, with_received}
 use Rattle.strm_machine.specs.Reactions.{Reaction, told, written_back, reaction}
 use Rattle.strm_machine.specs.declared.acts.Act.{Act}
 use Rattle.strm_machine.specs.declared.acts.NamedEnd.{NamedEnd}
@@ -124,17 +124,17 @@ no_owner Gone a b c d = cc
 
 -- a read or write on the other side
 module _ (guests : List Guest) (stream : Stream) (mine : Operation) where
-  write_parted : stream.reader.operation ≡ None → is_held stream.reader.owner ≡ false → is_loose stream.reader.owner ≡ false → Parted Reading stream → Parted Reading (turn Writing guests stream mine).stream
-  unfolding turn
+  write_parted : stream.reader.operation ≡ None → is_held stream.reader.owner ≡ false → is_loose stream.reader.owner ≡ false → Parted Reading stream → Parted Reading (operate Writing guests stream mine).stream
+  unfolding operate
   write_parted e held loose p =
-      cond_both (is_gone stream.reader.owner) _ _ (λ (t : Turn). Parted Reading t.stream)
+      cond_both (is_gone stream.reader.owner) _ _ (λ (t : Operated). Parted Reading t.stream)
       (λ g. p)
       (λ g. subst (λ o. Parted Reading (finds Writing guests stream mine o).stream) (sym e) (λ u v. absurd (no_owner stream.reader.owner held loose g u)))
 
-  read_parted : stream.writer.operation ≡ None → is_held stream.writer.owner ≡ false → is_loose stream.writer.owner ≡ false → Parted Writing stream → Parted Writing (turn Reading guests stream mine).stream
-  unfolding turn
+  read_parted : stream.writer.operation ≡ None → is_held stream.writer.owner ≡ false → is_loose stream.writer.owner ≡ false → Parted Writing stream → Parted Writing (operate Reading guests stream mine).stream
+  unfolding operate
   read_parted e held loose p =
-      cond_both (is_gone stream.writer.owner) _ _ (λ (t : Turn). Parted Writing t.stream)
+      cond_both (is_gone stream.writer.owner) _ _ (λ (t : Operated). Parted Writing t.stream)
       (λ g. p)
       (λ g. subst (λ o. Parted Writing (finds Reading guests stream mine o).stream) (sym e) (λ u v. absurd (no_owner stream.writer.owner held loose g u)))
 

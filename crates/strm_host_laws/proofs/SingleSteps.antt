@@ -10,7 +10,7 @@ use Rattle.strm_codes.specs.declared.refusals.Refusal.{Refusal}
 use Rattle.strm_codes.specs.declared.refusals.Refusal.TheVariants as refusals
 use Rattle.strm_machine.specs.State.{Guest, no_stream, is_host, is_loose}
 use Rattle.strm_machine.specs.Sides.{opposite, end_of}
-use Rattle.strm_machine.specs.Turns.{Turn}
+use Rattle.strm_machine.specs.Operating.{Operated}
 use Rattle.strm_machine.specs.Endings.{report_on, delivered, dropped, cancelled, cancelled_end, code_of_cancel, waits_for_host}
 use Rattle.strm_machine.specs.Moves.{without_handle, next_in, handle_given, with_owner}
 use Rattle.strm_machine.specs.Tests.{named, end_named, stream_named, side_named, items_asked, is_busy, is_cancel_under_way}
@@ -49,7 +49,7 @@ use Rattle.strm_host_laws.specs.HostMoments.{Acts, HostMoment}
 use Rattle.strm_host_laws.specs.Isolation.{StreamStaysWhole}
 use Rattle.strm_host_laws.specs.StreamEvents.{polls_across, by_name, by_loose_act, events_by_number, code_answered}
 use Rattle.strm_host_laws.proofs.Tracing.{holder_of, held_for, over_for, seen, course_of}
-use Rattle.strm_host_laws.proofs.CourseLemmas.{delivered-seen, cancelled-seen, owner-seen, dropped-seen, turn-seen}
+use Rattle.strm_host_laws.proofs.CourseLemmas.{delivered-seen, cancelled-seen, owner-seen, dropped-seen, operate-seen}
 use Rattle.strm_host_laws.proofs.GoingRules.{with_state, IfGoes}
 use Rattle.strm_host_laws.proofs.TurnsStand.{Holds}
 use Rattle.strm_host_laws.proofs.PartEffects.{loose_made}
@@ -268,7 +268,7 @@ module _ (w : World) (h : Holds w.state) where
     abbrev calling : Act
     calling = OnEnd side end (Operate address count)
 
-    abbrev its_turn : Turn
+    abbrev its_turn : Operated
     its_turn = turn_on w.state side end address count
 
     pub called-formed : first_of (on_end_reasons w.state side end (Operate address count)) ≡ None → is_host (end_of (opposite side) (stream_in w here)).owner ≡ false → Formed calling (reacted w (written_back w.state here its_turn its_turn.code))
@@ -294,7 +294,7 @@ module _ (w : World) (h : Holds w.state) where
               code = Some code;
               is_event = refl;
               answers = refl;
-              course = turn-seen (held_for w owner) (over_for w owner) side w.state.guests stream (begun_on end address count) polls alone refl (ap is_some f)
+              course = operate-seen (held_for w owner) (over_for w owner) side w.state.guests stream (begun_on end address count) polls alone refl (ap is_some f)
                   ∙ ap (λ c. reaches c (seen t.stream (held_for w owner) (over_for w owner))) f
                   ∙ ap (reaches (Some code)) (sym (set-course_of w t.guests s t.stream o.found.made owner (operate-keeps w.state side end address count o).stream.writer));
             })

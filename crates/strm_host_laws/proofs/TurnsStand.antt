@@ -9,7 +9,7 @@ use Rattle.strm_machine.specs.Hosting.{ServesOne, is_piped, KeepsForPipe, HostsH
 use Rattle.strm_machine.specs.Sides.{opposite, end_of, with_end}
 use Rattle.strm_machine.specs.Moves.{with_owner}
 use Rattle.strm_machine.specs.Making.{made_stream, made_pair, with_stream}
-use Rattle.strm_machine.specs.Turns.{Turn}
+use Rattle.strm_machine.specs.Operating.{Operated}
 use Rattle.strm_machine.specs.Endings.{report_on, told_end, delivered}
 use Rattle.strm_machine.specs.Tests.{named, stream_named}
 use Rattle.strm_machine.specs.Reactions.{Reaction, with_stream_at, told, written_back, reaction}
@@ -75,7 +75,7 @@ not_loose : (owner : Owner) (g handle : ℕ) → owner ≡ Held g handle → is_
 not_loose owner g handle e f = let wrong : is_loose (Held g handle) ≡ true = ap is_loose (sym e) ∙ f in cc
 
 module _ (state : State) (held : StateIsHeld state) (h : LooseIsIdle state) where
-  written_loose : (s : ℕ) (t : Turn) (code : Option ReturnCode) → IsIdleIfLoose t.stream → LooseIsIdle (written_back state s t code).state
+  written_loose : (s : ℕ) (t : Operated) (code : Option ReturnCode) → IsIdleIfLoose t.stream → LooseIsIdle (written_back state s t code).state
   written_loose s t (Some code) i = loose_set state (written_back state s t (Some code)).state s t.stream refl i h
   written_loose s t None i = loose_set state (written_back state s t None).state s t.stream refl i h
 

@@ -7,7 +7,7 @@ use Rattle.strm_machine.specs.Moves.{with_owner}
 use Rattle.strm_machine.specs.State.{State, Guest, no_stream, is_gone, is_loose, stream_at}
 use Rattle.strm_machine.specs.Sides.{end_of, with_end}
 use Rattle.strm_machine.specs.Making.{made_stream, made_pair, with_stream}
-use Rattle.strm_machine.specs.Turns.{Turn, finds, turn}
+use Rattle.strm_machine.specs.Operating.{Operated, finds, operate}
 use Rattle.strm_machine.specs.Tests.{named, stream_named}
 use Rattle.strm_machine.specs.Reactions.{Reaction, written_back, reaction}
 use Rattle.strm_machine.specs.declared.acts.Act.{Act}
@@ -55,14 +55,14 @@ unloose stream (WriterGone e o) f = let k : is_loose Gone ≡ true = ap is_loose
 unloose stream (WriterHost n e o) f = let k : is_loose (Host n) ≡ true = ap is_loose (sym e) ∙ f in cc
 
 -- a read finds no write there
-turn_unmoved : (guests : List Guest) (stream : Stream) (mine : Operation) → IsQuiet stream → Unmoved stream (turn Reading guests stream mine).stream
-unfolding turn
+turn_unmoved : (guests : List Guest) (stream : Stream) (mine : Operation) → IsQuiet stream → Unmoved stream (operate Reading guests stream mine).stream
+unfolding operate
 turn_unmoved guests stream mine (WriterGone e o) =
-    cond_both (is_gone stream.writer.owner) _ _ (λ (t : Turn). Unmoved stream t.stream)
+    cond_both (is_gone stream.writer.owner) _ _ (λ (t : Operated). Unmoved stream t.stream)
     (λ g. record { received = refl; writer = refl })
     (λ g. absurd (let k : is_gone Gone ≡ false = ap is_gone (sym e) ∙ g in cc))
 turn_unmoved guests stream mine (WriterHost n e o) =
-    cond_both (is_gone stream.writer.owner) _ _ (λ (t : Turn). Unmoved stream t.stream)
+    cond_both (is_gone stream.writer.owner) _ _ (λ (t : Operated). Unmoved stream t.stream)
     (λ g. record { received = refl; writer = refl })
     (λ g. subst (λ p. Unmoved stream (finds Reading guests stream mine p).stream) (sym o) (record { received = refl; writer = refl }))
 
@@ -79,7 +79,7 @@ module _ (state : State) (s : ℕ) (held : StateIsHeld state) (q : IsQuiet (stre
         | inr ne ↦ subst (Unmoved (stream_at state s)) (sym (get_or-set_other state.streams t s x no_stream ne)) (unmoved_itself (stream_at state s))
       ]
 
-  written_stays : (t : ℕ) (x : Turn) (code : Option ReturnCode) → t < length state.streams → (t ≡ s → Unmoved (stream_at state t) x.stream) → StaysIn (written_back state t x code).state.streams
+  written_stays : (t : ℕ) (x : Operated) (code : Option ReturnCode) → t < length state.streams → (t ≡ s → Unmoved (stream_at state t) x.stream) → StaysIn (written_back state t x code).state.streams
   written_stays t x (Some code) l h = set_stays t x.stream l h
   written_stays t x None l h = set_stays t x.stream l h
 

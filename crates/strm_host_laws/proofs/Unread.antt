@@ -8,7 +8,7 @@ use Rattle.strm_machine.specs.Moves.{with_owner}
 use Rattle.strm_machine.specs.State.{State, Guest, no_stream, is_gone, is_held, stream_at}
 use Rattle.strm_machine.specs.Sides.{end_of, with_end}
 use Rattle.strm_machine.specs.Making.{made_stream, made_pair, with_stream}
-use Rattle.strm_machine.specs.Turns.{Turn, finds, turn}
+use Rattle.strm_machine.specs.Operating.{Operated, finds, operate}
 use Rattle.strm_machine.specs.Tests.{named, stream_named}
 use Rattle.strm_machine.specs.Reactions.{Reaction, written_back, reaction}
 use Rattle.strm_machine.specs.declared.acts.Act.{Act}
@@ -26,10 +26,10 @@ use Rattle.strm_host_laws.proofs.PartsSeen.{IsTaken}
 use Rattle.strm_host_laws.proofs.TurnsStand.{Holds}
 
 -- a write finds no read there
-turn_counts : (guests : List Guest) (stream : Stream) (mine : Operation) → stream.reader.operation ≡ None → (turn Writing guests stream mine).stream.received ≡ stream.received
-unfolding turn
+turn_counts : (guests : List Guest) (stream : Stream) (mine : Operation) → stream.reader.operation ≡ None → (operate Writing guests stream mine).stream.received ≡ stream.received
+unfolding operate
 turn_counts guests stream mine o =
-    cond_both (is_gone stream.reader.owner) _ _ (λ (t : Turn). t.stream.received ≡ stream.received)
+    cond_both (is_gone stream.reader.owner) _ _ (λ (t : Operated). t.stream.received ≡ stream.received)
     (λ g. refl)
     (λ g. subst (λ p. (finds Writing guests stream mine p).stream.received ≡ stream.received) (sym o) refl)
 
@@ -56,7 +56,7 @@ module _ (state : State) (s : ℕ) (held : StateIsHeld state) (k : IsTaken Readi
         | inr ne ↦ ap (λ (y : Stream). y.received) (get_or-set_other state.streams t s x no_stream ne)
       ]
 
-  written_counts : (t : ℕ) (x : Turn) (code : Option ReturnCode) → t < length state.streams → (t ≡ s → x.stream.received ≡ received t state) → CountsIn (written_back state t x code).state.streams
+  written_counts : (t : ℕ) (x : Operated) (code : Option ReturnCode) → t < length state.streams → (t ≡ s → x.stream.received ≡ received t state) → CountsIn (written_back state t x code).state.streams
   written_counts t x (Some code) l h = set_counts t x.stream l h
   written_counts t x None l h = set_counts t x.stream l h
 

@@ -17,7 +17,7 @@ use Rattle.std.proofs.lemmas.List.Elements.{All-nil, All-push}
 use Rattle.strm_host_machine.specs.LastRecord.{KeepsRules, ReaderKeepsRules, SaysWhy, ReaderSaysWhy}
 use Rattle.strm_codes.specs.declared.codes.StreamResult.{StreamResult}
 use Rattle.strm_machine.specs.Moves.{with_owner}
-use Rattle.strm_machine.specs.Turns.{with_received}
+use Rattle.strm_machine.specs.Operating.{with_received}
 use Rattle.strm_codes.specs.declared.codes.StreamResult.TheVariants as results
 
 -- LISTS

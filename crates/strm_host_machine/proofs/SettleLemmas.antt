@@ -9,7 +9,7 @@ use Rattle.strm_machine.specs.State.{State, no_stream, stream_at, is_host}
 use Rattle.strm_machine.specs.Sides.{end_of, with_end}
 use Rattle.strm_machine.specs.Reactions.{Reaction, goes, with_stream_at, told, tells as tells_end}
 use Rattle.strm_machine.specs.Endings.{report_on, told_end, delivered}
-use Rattle.strm_machine.specs.Turns.{with_received}
+use Rattle.strm_machine.specs.Operating.{with_received}
 use Rattle.strm_machine.specs.declared.streams.Owner.{Owner}
 use Rattle.strm_machine.specs.declared.streams.Owner.TheVariants.{Host, Gone}
 use Rattle.strm_machine.specs.declared.streams.Side.{Side}

@@ -16,7 +16,7 @@ use Rattle.strm_buffers.specs.declared.answers.Answer.{Answer}
 use Rattle.strm_buffers.specs.declared.answers.Answer.TheVariants as answers
 use Rattle.strm_machine.specs.Sides.{opposite, same_side}
 use Rattle.strm_machine.specs.Meetings.{meeting_of}
-use Rattle.strm_machine.specs.Turns.{is_future}
+use Rattle.strm_machine.specs.Operating.{is_future}
 use Rattle.strm_machine.specs.declared.streams.Meeting.{Meeting}
 use Rattle.strm_machine.specs.declared.streams.Meeting.TheVariants.{BothComplete, WriteCompletes, ReadCompletes}
 use Rattle.strm_machine.specs.declared.streams.Side.{Side}

@@ -11,7 +11,7 @@ use Rattle.strm_codes.specs.declared.codes.StreamResult.TheVariants as results
 use Rattle.strm_buffers.specs.declared.answers.Answer.{Answer}
 use Rattle.strm_buffers.specs.declared.answers.Answer.TheVariants.{Pending, Completed, Cancelled, Dropped, Failed}
 use Rattle.strm_machine.specs.Sides.{opposite, with_operation}
-use Rattle.strm_machine.specs.Turns.{with_received}
+use Rattle.strm_machine.specs.Operating.{with_received}
 use Rattle.strm_machine.specs.Moves.{with_owner}
 use Rattle.strm_machine.specs.Endings.{report_on, delivered}
 use Rattle.strm_machine.specs.declared.streams.Owner.TheVariants.{Gone}

@@ -7,7 +7,7 @@ use Rattle.strm_machine.specs.declared.replies.Reply.{Reply}
 use Rattle.strm_machine.specs.declared.replies.Reply.TheVariants as replies
 use Rattle.strm_machine.specs.declared.steps.Step.TheVariants as steps
 use Rattle.strm_codes.specs.declared.refusals.Refusal.TheVariants as refusals
-use Rattle.strm_machine.specs.Turns.{turn}
+use Rattle.strm_machine.specs.Operating.{operate}
 use Rattle.strm_machine.specs.Endings.{delivered, dropped}
 use Rattle.strm_machine.specs.Making.{with_stream}
 use Rattle.strm_machine.specs.Reactions.{performs}
@@ -53,7 +53,7 @@ is_text = is_utf8-from_IsUtf8 _ (IsUtf8-from_ascii (0x6f ∷ 0x6f ∷ 0x70 ∷ [
     ascii (suc (suc (suc k))) = omega arith
 
 gives-told : AllGive start told
-unfolding performs with_stream turn delivered dropped decode_from encode_from items stored
+unfolding performs with_stream operate delivered dropped decode_from encode_from items stored
 gives-told = (is_text, (no_text 0xff _ (omega arith), (no_text 0xff _ (omega arith), (no_text 0xff _ (omega arith), tt))))
 
 -- its replies
@@ -76,5 +76,5 @@ told_replies =
     ∷ []
 
 replies_to-told : replies_to (steps_of told) ≡ told_replies
-unfolding performs with_stream turn delivered dropped decode_from encode_from items stored
+unfolding performs with_stream operate delivered dropped decode_from encode_from items stored
 replies_to-told = replies-by told gives-told

@@ -12,7 +12,7 @@ use Rattle.strm_machine.specs.declared.replies.Reply.TheVariants as replies
 use Rattle.strm_machine.specs.declared.steps.Step.TheVariants as steps
 use Rattle.strm_codes.specs.declared.codes.ReturnCode.TheVariants.{Blocked, Completed}
 use Rattle.strm_codes.specs.declared.refusals.Refusal.TheVariants as refusals
-use Rattle.strm_machine.specs.Turns.{turn}
+use Rattle.strm_machine.specs.Operating.{operate}
 use Rattle.strm_machine.specs.Endings.{delivered, dropped}
 use Rattle.strm_machine.specs.Making.{with_stream}
 use Rattle.strm_machine.specs.Reactions.{performs, reaction}
@@ -127,7 +127,7 @@ abbrev after_steps : ℕ → State
 after_steps n = last_state start (take n polled)
 
 gives-polled : AllGive start polled
-unfolding performs with_stream turn delivered dropped decode_from encode_from items stored
+unfolding performs with_stream operate delivered dropped decode_from encode_from items stored
 gives-polled = (
   none_ready (after_steps 5) refl refl refl,
   (
@@ -158,7 +158,7 @@ replies_to-polled : replies_to (steps_of polled) ≡
     ∷ replies.Done
     ∷ replies.Done
     ∷ []
-unfolding performs with_stream turn delivered dropped decode_from encode_from items stored
+unfolding performs with_stream operate delivered dropped decode_from encode_from items stored
 replies_to-polled = replies-by polled gives-polled
 
 -- the write's report is what the poll told
@@ -169,7 +169,7 @@ account-polled : account 0 (steps_of polled) ≡ record {
   taken = item 0 ∷ [];
   given = item 0 ∷ [];
 }
-unfolding performs with_stream turn delivered dropped decode_from encode_from items stored decoded handed all_handed
+unfolding performs with_stream operate delivered dropped decode_from encode_from items stored decoded handed all_handed
 account-polled = account-by 0 polled gives-polled
 
 -- ## An end that goes from set to set
@@ -221,7 +221,7 @@ abbrev regrouped_steps : ℕ → State
 regrouped_steps n = last_state start (take n regrouped)
 
 gives-regrouped : AllGive start regrouped
-unfolding performs with_stream turn delivered dropped decode_from encode_from items stored
+unfolding performs with_stream operate delivered dropped decode_from encode_from items stored
 gives-regrouped = (
   has_member-none (regrouped_steps 6) 0 0 moved,
   (
@@ -247,7 +247,7 @@ replies_to-regrouped : replies_to (steps_of regrouped) ≡
     ∷ replies.Done
     ∷ replies.Done
     ∷ []
-unfolding performs with_stream turn delivered dropped decode_from encode_from items stored
+unfolding performs with_stream operate delivered dropped decode_from encode_from items stored
 replies_to-regrouped = replies-by regrouped gives-regrouped
 
 -- ## Numbers and limits
@@ -275,7 +275,7 @@ replies_to-numbered : replies_to numbered ≡
     ∷ replies.Number 3
     ∷ replies.Refused refusals.UnknownGuest
     ∷ []
-unfolding reaction refusal performs with_stream turn delivered dropped
+unfolding reaction refusal performs with_stream operate delivered dropped
 replies_to-numbered = refl
 
 -- a set takes a handle, and a place

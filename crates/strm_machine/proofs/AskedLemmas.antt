@@ -6,11 +6,11 @@ use Rattle.std.proofs.lemmas.Bool.Decides.{eqb_tells}
 use Rattle.std.proofs.lemmas.List.{set-get_or}
 use Rattle.std.specs.Option.{option_map}
 use Rattle.strm_codes.specs.declared.codes.ReturnCode.{ReturnCode}
-use Rattle.strm_machine.specs.Words.{Guest, Payload, scalars_of, items_at, memory_in, with_memory, stored_at, no_stream, act_of, State, stream_at, end_of, opposite, same_side, carried, Turn, named, stream_named, Reaction, goes, operates, react, NamedEnd, Operate, OnEnd, Side, Writing, Reading, Operation, Stream, Step}
+use Rattle.strm_machine.specs.Words.{Guest, Payload, scalars_of, items_at, memory_in, with_memory, stored_at, no_stream, act_of, State, stream_at, end_of, opposite, same_side, carried, Operated, named, stream_named, Reaction, goes, operates, react, NamedEnd, Operate, OnEnd, Side, Writing, Reading, Operation, Stream, Step}
 use Rattle.strm_machine.specs.State.{is_gone}
 use Rattle.strm_machine.specs.Sides.{write_of, read_of}
 use Rattle.strm_machine.specs.Meetings.{meeting_of, begun}
-use Rattle.strm_machine.specs.Turns.{learns, waits, moves, completes_alone, rendezvous, rendezvous_by, finds, turn}
+use Rattle.strm_machine.specs.Operating.{learns, waits, moves, completes_alone, rendezvous, rendezvous_by, finds, operate}
 use Rattle.strm_machine.specs.Tests.{items_asked}
 use Rattle.strm_machine.specs.Refusals.{refusal}
 use Rattle.strm_machine.specs.Reactions.{written_back, on_stream, performs}
@@ -21,7 +21,7 @@ use Rattle.strm_machine.specs.declared.streams.Meeting.TheVariants.{BothComplete
 use Rattle.strm_machine.specs.declared.replies.Reply.TheVariants as replies
 use Rattle.strm_machine.proofs.CarryLemmas.{carried_none}
 use Rattle.strm_machine.proofs.ReactionLemmas.{reaction-by, reaction-trapped, reaction-performs, performs-on_end}
-use Rattle.strm_machine.proofs.Ways.{Standing, IsDone, Way, Turns, SetsOne, AddsOne, SetsNone}
+use Rattle.strm_machine.proofs.Ways.{Standing, IsDone, Way, OperatesOne, SetsOne, AddsOne, SetsNone}
 use Rattle.strm_machine.proofs.ShapeLemmas.{performs-known}
 
 -- ## Who completes
@@ -64,7 +64,7 @@ record MeetsBad (side : Side) (guests : List Guest) (stream : Stream) (mine : Op
   bad : items_at (scalars_of stream.payload) (memory_in guests (write_of side mine theirs).guest) (write_of side mine theirs).address (min mine.left theirs.left) ≡ None
 
 -- then there is no code, and guests and stream stay
-abbrev no_code : List Guest → Stream → Turn
+abbrev no_code : List Guest → Stream → Operated
 no_code guests stream = record { code = None; guests = guests; stream = stream }
 
 not_lifted : (guests : List Guest) (payload : Payload) (write read : Operation) (n : ℕ) → carried guests payload write read n ≡ None → items_at (scalars_of payload) (memory_in guests write.guest) write.address n ≡ None
@@ -75,9 +75,9 @@ not_lifted guests payload write read n = only_none (items_at (scalars_of payload
     only_none (Some xs) e = cc
 
 module _ (side : Side) (guests : List Guest) (stream : Stream) (mine : Operation) where
-  turn-bad : MeetsBad side guests stream mine → turn side guests stream mine ≡ no_code guests stream
-  unfolding turn
-  turn-bad h =
+  operate-bad : MeetsBad side guests stream mine → operate side guests stream mine ≡ no_code guests stream
+  unfolding operate
+  operate-bad h =
       let theirs = h.theirs in
       let n = min mine.left theirs.left in
       ap (λ b. cond b (learns side guests stream) (finds side guests stream mine (end_of (opposite side) stream).operation)) h.there
@@ -91,7 +91,7 @@ module _ (side : Side) (guests : List Guest) (stream : Stream) (mine : Operation
   not_carried theirs n (Some after) e = cc
 
   alone_answers : (who : Side) (theirs : Operation) → (completes_alone who side guests stream mine theirs).code ≡ None → ⊥
-  alone_answers who theirs = cond_both (same_side who side) _ _ (λ (t : Turn). t.code ≡ None → ⊥) (λ b e. cc) (λ b e. cc)
+  alone_answers who theirs = cond_both (same_side who side) _ _ (λ (t : Operated). t.code ≡ None → ⊥) (λ b e. cc) (λ b e. cc)
 
   module _ (there : is_gone (end_of (opposite side) stream).owner ≡ false) where
     bad-rendezvous : (theirs : Operation) → (end_of (opposite side) stream).operation ≡ Some theirs → theirs.is_open ≡ true → (m : Meeting) → meeting_at side mine theirs ≡ m → (rendezvous_by m side guests stream mine theirs).code ≡ None → MeetsBad side guests stream mine
@@ -105,14 +105,14 @@ module _ (side : Side) (guests : List Guest) (stream : Stream) (mine : Operation
     bad-finds : (o : Option Operation) → (end_of (opposite side) stream).operation ≡ o → (finds side guests stream mine o).code ≡ None → MeetsBad side guests stream mine
     bad-finds None w = λ e. cc
     bad-finds (Some theirs) w =
-        cond_both theirs.is_open _ _ (λ (t : Turn). t.code ≡ None → MeetsBad side guests stream mine)
+        cond_both theirs.is_open _ _ (λ (t : Operated). t.code ≡ None → MeetsBad side guests stream mine)
         (λ o. bad-rendezvous theirs w o _ refl)
         (λ o e. cc)
 
-  bad-turn : (turn side guests stream mine).code ≡ None → MeetsBad side guests stream mine
-  unfolding turn
+  bad-turn : (operate side guests stream mine).code ≡ None → MeetsBad side guests stream mine
+  unfolding operate
   bad-turn =
-      cond_both (is_gone (end_of (opposite side) stream).owner) _ _ (λ (t : Turn). t.code ≡ None → MeetsBad side guests stream mine)
+      cond_both (is_gone (end_of (opposite side) stream).owner) _ _ (λ (t : Operated). t.code ≡ None → MeetsBad side guests stream mine)
       (λ g e. cc)
       (λ g. bad-finds g (end_of (opposite side) stream).operation refl)
 
@@ -134,7 +134,7 @@ trapped_by state s = goes (replies.BadItem s) (record state { trapped = true })
 
 on_stream-bad : (state : State) (s : ℕ) (side : Side) (mine : Operation) → MeetsBad side state.guests (stream_at state s) mine → on_stream state s side mine ≡ trapped_by state s
 on_stream-bad state s side mine h =
-    ap (λ (t : Turn). written_back state s t t.code) (turn-bad side state.guests (stream_at state s) mine h)
+    ap (λ (t : Operated). written_back state s t t.code) (operate-bad side state.guests (stream_at state s) mine h)
     ∙ ap (λ streams. goes (replies.BadItem s) (record state { streams = streams; trapped = true })) (set-get_or state.streams s no_stream)
 
 pub bad-traps : (state : State) (step : Step) (s : ℕ) → state.trapped ≡ false → HasBadItem state step s → react state step ≡ trapped_by state s
@@ -155,8 +155,8 @@ module _ (P : Reaction → Type 0) (state : State) (step : Step) (bad : (s : ℕ
     abbrev mine : Operation
     mine = begun end.guest address (items_asked end.ty count)
 
-    abbrev t : Turn
-    t = turn side state.guests (stream_at state s) mine
+    abbrev t : Operated
+    t = operate side state.guests (stream_at state s) mine
 
     asked_bad : MeetsBad side state.guests (stream_at state s) mine → HasBadItem state step s
     asked_bad m = record {
@@ -174,7 +174,7 @@ module _ (P : Reaction → Type 0) (state : State) (step : Step) (bad : (s : ℕ
     operates-by = by_code t.code refl
 
   way-by : (r : Reaction) → Way state (act_of step) r → refusal state (act_of step) ≡ None → P r
-  way-by r (Turns side end address count does e) u = subst P (sym e) (operates-by side end address count does u)
+  way-by r (OperatesOne side end address count does e) u = subst P (sym e) (operates-by side end address count does u)
   way-by r (SetsOne s x d e h) u = done r (stands state r d)
   way-by r (AddsOne x d e h) u = done r (stands state r d)
   way-by r (SetsNone d e) u = done r (stands state r d)

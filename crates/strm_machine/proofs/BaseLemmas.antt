@@ -7,7 +7,7 @@ use Rattle.std.proofs.Math.ListN.{get_or-map}
 use Rattle.std.proofs.lemmas.Bool.{cond_both}
 use Rattle.strm_handles.specs.Handles.{inserted}
 use Rattle.strm_waitable_sets.specs.Sets.{handle_left}
-use Rattle.strm_machine.specs.Words.{Guest, Handles, Sets, no_handles, no_sets, Entry, removed, ReturnCode, TransmitIndex, Reaction, goes, operates, written_back, end_of, opposite, same_side, IsSound, State, guest_in, no_guest, sets_in, with_handles, with_memory, with_table, memory_in, scalars_of, stored_at, items_at, named, stream_named, Turn, Operation, Side, Reading, Writing, Stream, Act, Make}
+use Rattle.strm_machine.specs.Words.{Guest, Handles, Sets, no_handles, no_sets, Entry, removed, ReturnCode, TransmitIndex, Reaction, goes, operates, written_back, end_of, opposite, same_side, IsSound, State, guest_in, no_guest, sets_in, with_handles, with_memory, with_table, memory_in, scalars_of, stored_at, items_at, named, stream_named, Operated, Operation, Side, Reading, Writing, Stream, Act, Make}
 use Rattle.std.specs.Ptr.{Ptr}
 use Rattle.strm_machine.specs.Bases.{base_in, with_base, BasesStay}
 use Rattle.strm_machine.proofs.TurnLemmas.{GuestsKeep}
@@ -17,7 +17,7 @@ use Rattle.strm_codes.specs.declared.refusals.Refusal.{Refusal}
 use Rattle.strm_machine.specs.Refusals.{first_of, lower_context_reasons}
 use Rattle.strm_machine.specs.Reactions.{makes, reaction, shares_unless, lowers_context}
 use Rattle.strm_machine.specs.Sides.{read_of, write_of}
-use Rattle.strm_machine.specs.Turns.{completes_alone, finds, rendezvous_by, moves, turn}
+use Rattle.strm_machine.specs.Operating.{completes_alone, finds, rendezvous_by, moves, operate}
 use Rattle.strm_machine.specs.declared.acts.Making.TheVariants as makings
 use Rattle.strm_machine.specs.declared.streams.Meeting.{Meeting}
 use Rattle.strm_machine.specs.declared.streams.Meeting.TheVariants.{BothComplete, ReadCompletes, WriteCompletes}
@@ -60,7 +60,7 @@ base_in-behind (g ∷ guests) memory (suc k) = base_in-behind guests memory k
 -- ## A read or write
 
 module _ (side : Side) (guests : List Guest) (stream : Stream) (mine : Operation) where
-  abbrev Stay : Turn → Type 0
+  abbrev Stay : Operated → Type 0
   Stay t = BasesStay guests t.guests
 
   -- the guests with items that were lifted stored where a read is to have them
@@ -86,11 +86,11 @@ module _ (side : Side) (guests : List Guest) (stream : Stream) (mine : Operation
   finds_stay None = λ k. refl
   finds_stay (Some theirs) = cond_both theirs.is_open _ _ Stay (λ e. meets_stay _ theirs) (λ e k. refl)
 
-  turn_stay : Stay (turn side guests stream mine)
-  unfolding turn
+  turn_stay : Stay (operate side guests stream mine)
+  unfolding operate
   turn_stay = cond_both (is_gone (end_of (opposite side) stream).owner) _ _ Stay (λ e k. refl) (λ e. finds_stay (end_of (opposite side) stream).operation)
 
-back_stays : (state : State) (s : ℕ) (t : Turn) (code : Option ReturnCode) → BasesStay state.guests t.guests → BasesStay state.guests (written_back state s t code).state.guests
+back_stays : (state : State) (s : ℕ) (t : Operated) (code : Option ReturnCode) → BasesStay state.guests t.guests → BasesStay state.guests (written_back state s t code).state.guests
 back_stays state s t None h = h
 back_stays state s t (Some code) h = h
 

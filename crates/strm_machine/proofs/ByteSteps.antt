@@ -5,13 +5,13 @@ use Rattle.std.proofs.lemmas.List.Elements.{All-push, All-set}
 use Rattle.strm_memory.specs.Bytes.{IsBytes}
 use Rattle.strm_handles.specs.Handles.{inserted}
 use Rattle.strm_waitable_sets.specs.Sets.{handle_left}
-use Rattle.strm_machine.specs.Words.{Guest, ReturnCode, Handles, Sets, Entry, removed, State, guest_in, memory_in, sets_in, with_table, opposite, same_side, end_of, carried, Turn, named, stream_named, Reaction, written_back, IsSound, Act, Side, Writing, Reading, Operation, Stream}
+use Rattle.strm_machine.specs.Words.{Guest, ReturnCode, Handles, Sets, Entry, removed, State, guest_in, memory_in, sets_in, with_table, opposite, same_side, end_of, carried, Operated, named, stream_named, Reaction, written_back, IsSound, Act, Side, Writing, Reading, Operation, Stream}
 use Rattle.strm_machine.specs.Making.{end_entry, with_stream}
 use Rattle.strm_machine.specs.Moments.{PutsBytes}
 use Rattle.strm_machine.specs.Reactions.{reaction}
 use Rattle.strm_machine.specs.Sides.{write_of, read_of}
 use Rattle.strm_machine.specs.State.{is_gone}
-use Rattle.strm_machine.specs.Turns.{moves, completes_alone, rendezvous_by, finds, turn}
+use Rattle.strm_machine.specs.Operating.{moves, completes_alone, rendezvous_by, finds, operate}
 use Rattle.strm_machine.specs.declared.streams.Meeting.{Meeting}
 use Rattle.strm_machine.specs.declared.streams.Meeting.TheVariants.{BothComplete, WriteCompletes, ReadCompletes}
 use Rattle.strm_machine.proofs.ArrivalLemmas.{AreBytes, memory_bytes, AreBytes-with_memory, IsBytes-put_at, IsBytes-zeros, carried_bytes}
@@ -21,7 +21,7 @@ use Rattle.strm_machine.proofs.ShapeLemmas.{reaction-shape}
 -- ## A turn
 
 module _ (side : Side) (guests : List Guest) (stream : Stream) (mine : Operation) (h : AreBytes guests) where
-  abbrev TurnBytes : Turn → Type 0
+  abbrev TurnBytes : Operated → Type 0
   TurnBytes t = AreBytes t.guests
 
   moves_bytes : (theirs : Operation) (n : ℕ) (o : Option (List Guest)) → carried guests stream.payload (write_of side mine theirs) (read_of side mine theirs) n ≡ o → TurnBytes (moves side guests stream mine theirs n o)
@@ -40,8 +40,8 @@ module _ (side : Side) (guests : List Guest) (stream : Stream) (mine : Operation
   finds_bytes None = h
   finds_bytes (Some theirs) = cond_both theirs.is_open _ _ TurnBytes (λ e. meets_bytes _ theirs) (λ e. h)
 
-  turn_bytes : TurnBytes (turn side guests stream mine)
-  unfolding turn
+  turn_bytes : TurnBytes (operate side guests stream mine)
+  unfolding operate
   turn_bytes = cond_both (is_gone (end_of (opposite side) stream).owner) _ _ TurnBytes (λ e. h) (λ e. finds_bytes _)
 
 -- ## A step
@@ -57,7 +57,7 @@ AreBytes-given : (guests : List Guest) (entry : Entry) (o : Option ℕ) → AreB
 AreBytes-given guests entry None h = h
 AreBytes-given guests entry (Some g) h = AreBytes-with_table guests g (inserted (guest_in guests g).handles entry) (sets_in guests g) h
 
-back_bytes : (state : State) (s : ℕ) (t : Turn) (code : Option ReturnCode) → AreBytes t.guests → AreBytes (written_back state s t code).state.guests
+back_bytes : (state : State) (s : ℕ) (t : Operated) (code : Option ReturnCode) → AreBytes t.guests → AreBytes (written_back state s t code).state.guests
 back_bytes state s t (Some code) h = h
 back_bytes state s t None h = h
 

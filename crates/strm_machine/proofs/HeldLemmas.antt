@@ -2,7 +2,7 @@
 use Rattle.std.proofs.Common.{◌≡◌, ◌≢◌, ℕ, ◌<◌, true, false, List, [], ◌∷◌, ◌++◌, length, get_or, set, Option, Some, None, refl, sym, ap, ◌∙◌, subst, arith, ⊎_elim, length-set}
 use Rattle.std.proofs.lemmas.Bool.{cases_eq}
 use Rattle.std.proofs.lemmas.List.{get_or-set_same, get_or_push, get_or_past}
-use Rattle.strm_machine.specs.Words.{Guest, ReturnCode, TransmitIndex, Handles, removed, Entry, State, no_stream, Sets, guest_in, sets_in, with_handles, with_table, stream_at, end_of, with_end, Turn, Name, named, stream_named, Reaction, written_back, is_end, Act, Reply, Gone, Side, Writing, Reading, End, Stream, Owner, Held, Loose, with_owner, is_held, is_loose}
+use Rattle.strm_machine.specs.Words.{Guest, ReturnCode, TransmitIndex, Handles, removed, Entry, State, no_stream, Sets, guest_in, sets_in, with_handles, with_table, stream_at, end_of, with_end, Operated, Name, named, stream_named, Reaction, written_back, is_end, Act, Reply, Gone, Side, Writing, Reading, End, Stream, Owner, Held, Loose, with_owner, is_held, is_loose}
 use Rattle.strm_codes.specs.declared.codes.TransmitIndex.TheVariants as index
 use Rattle.strm_handles.specs.Handles.{handle_limit, entry_at, next_index, inserted, IsTable}
 use Rattle.strm_handles.specs.Lookups.{end_rep_in, end_rep_of}
@@ -107,7 +107,7 @@ module _ (guests : List Guest) (streams more : List Stream) (g : ℕ) where
 
 -- ## Reads and writes
 
-turn_held : (state : State) (s : ℕ) (t : Turn) (code : Option ReturnCode) → TurnKeeps state.guests (stream_at state s) t → StateIsHeld state → StateIsHeld (written_back state s t code).state
+turn_held : (state : State) (s : ℕ) (t : Operated) (code : Option ReturnCode) → TurnKeeps state.guests (stream_at state s) t → StateIsHeld state → StateIsHeld (written_back state s t code).state
 turn_held state s t code k h = both code
   where
     all : IsHeld t.guests (set state.streams s t.stream)

@@ -2,11 +2,11 @@
 use Rattle.std.proofs.Common.{◌≡◌, ℕ, ◌<◌, true, false, List, [], ◌∷◌, ◌++◌, length, get_or, set, Option, Some, None, refl, sym, ap, ◌∙◌, subst, inl, inr, arith}
 use Rattle.std.proofs.lemmas.Bool.{cases_eq, cases_lt, cond_both}
 use Rattle.std.proofs.lemmas.List.{get_or-set_same, get_or-set_other, get_or_past}
-use Rattle.strm_machine.specs.Words.{Guest, ReturnCode, TransmitIndex, State, no_stream, stream_at, end_of, opposite, with_end, Turn, named, stream_named, Reaction, written_back, is_end, NamedEnd, Act, Side, Writing, Reading, Operation, End, Stream, Owner, is_loose, IsSound}
+use Rattle.strm_machine.specs.Words.{Guest, ReturnCode, TransmitIndex, State, no_stream, stream_at, end_of, opposite, with_end, Operated, named, stream_named, Reaction, written_back, is_end, NamedEnd, Act, Side, Writing, Reading, Operation, End, Stream, Owner, is_loose, IsSound}
 use Rattle.strm_machine.specs.State.{host_limit, no_producer, no_consumer, producer_at, is_host, is_gone}
 use Rattle.strm_machine.specs.Hosting.{duty_of, is_piped, HostsHold}
 use Rattle.strm_machine.specs.Making.{made_stream, made_pair, with_stream}
-use Rattle.strm_machine.specs.Turns.{finds, turn}
+use Rattle.strm_machine.specs.Operating.{finds, operate}
 use Rattle.strm_machine.specs.Reactions.{reaction}
 use Rattle.strm_machine.specs.declared.streams.Duty.{Duty}
 use Rattle.strm_machine.specs.declared.streams.Duty.TheVariants.{Serves}
@@ -107,10 +107,10 @@ unhosted_named : (state : State) (g handle s : ℕ) (side : Side) → StateIsHel
 unhosted_named state g handle s side held e = ap is_host (held.agree.named g handle s side e)
 
 -- a read or write leaves an end on the other side without an operation so
-pub turn_idle : (side : Side) (guests : List Guest) (stream : Stream) (mine : Operation) → (end_of (opposite side) stream).operation ≡ None → (end_of (opposite side) (turn side guests stream mine).stream).operation ≡ None
-unfolding turn
+pub turn_idle : (side : Side) (guests : List Guest) (stream : Stream) (mine : Operation) → (end_of (opposite side) stream).operation ≡ None → (end_of (opposite side) (operate side guests stream mine).stream).operation ≡ None
+unfolding operate
 turn_idle side guests stream mine e =
-    cond_both (is_gone (end_of (opposite side) stream).owner) _ _ (λ (t : Turn). (end_of (opposite side) t.stream).operation ≡ None)
+    cond_both (is_gone (end_of (opposite side) stream).owner) _ _ (λ (t : Operated). (end_of (opposite side) t.stream).operation ≡ None)
     (λ g. other_kept side stream _ e)
     (λ g. subst (λ o. (end_of (opposite side) (finds side guests stream mine o).stream).operation ≡ None) (sym e) (other_kept side stream _ e))
   where
@@ -203,7 +203,7 @@ pair_stays state writer reader ty k =
 
 -- ## Every step
 
-written_hosts : (state : State) (s : ℕ) (t : Turn) (code : Option ReturnCode) → s < length state.streams → HostsStay (stream_at state s) t.stream → HostsHold state → HostsHold (written_back state s t code).state
+written_hosts : (state : State) (s : ℕ) (t : Operated) (code : Option ReturnCode) → s < length state.streams → HostsStay (stream_at state s) t.stream → HostsHold state → HostsHold (written_back state s t code).state
 written_hosts state s t None l k h = HostsHold-stays state (written_back state s t None).state (record { producers = refl; kept = refl; consumers = refl }) (stays_set state.streams s t.stream l k) h
 written_hosts state s t (Some code) l k h = HostsHold-stays state (written_back state s t (Some code)).state (record { producers = refl; kept = refl; consumers = refl }) (stays_set state.streams s t.stream l k) h
 

@@ -3,7 +3,7 @@ use Rattle.std.proofs.Common.{◌≡◌, ℕ, zero, suc, ◌+◌, ◌-◌, ◌^�
 use Rattle.std.specs.Prelude.{All, IsSome, ◌⊎◌, ◌==◌, ◌&&◌}
 use Rattle.std.proofs.lemmas.Bool.{cond-true, cases_eq, ne_eqb}
 use Rattle.std.proofs.lemmas.List.{get_or-set_same, set-get_or, get_or-set_other}
-use Rattle.strm_machine.specs.Words.{Guest, ReturnCode, TransmitIndex, State, no_stream, stream_at, opposite, same_side, end_of, with_end, Turn, named, stream_named, sizes_of, both_open, Reaction, goes, written_back, operates, Moment, names, as_report, report_in, accepted, k_of, items_in_memory, received, NamedEnd, Act, Make, Side, Writing, Reading, Operation, End, Stream, Reply, IsSound}
+use Rattle.strm_machine.specs.Words.{Guest, ReturnCode, TransmitIndex, State, no_stream, stream_at, opposite, same_side, end_of, with_end, Operated, named, stream_named, sizes_of, both_open, Reaction, goes, written_back, operates, Moment, names, as_report, report_in, accepted, k_of, items_in_memory, received, NamedEnd, Act, Make, Side, Writing, Reading, Operation, End, Stream, Reply, IsSound}
 use Rattle.strm_machine.specs.Making.{made_stream, made_pair, with_stream}
 use Rattle.strm_machine.specs.State.{with_bytes}
 use Rattle.strm_machine.specs.Reactions.{written, reaction, makes}
@@ -53,7 +53,7 @@ seen here r act reply before after guests others =
       got = items_in_memory before.payload others place.guest place.address (after.received - before.received);
     }
 
-module _ (end : NamedEnd) (address count : ℕ) (code : ReturnCode) (before after : Stream) (guests : List Guest) (t : Turn) where
+module _ (end : NamedEnd) (address count : ℕ) (code : ReturnCode) (before after : Stream) (guests : List Guest) (t : Operated) where
   abbrev seen_as : Side → Bool → Bool → Scene
   seen_as side here r = seen here r (operating side end address count) (replies.Code code) before after guests t.guests
 
@@ -61,7 +61,7 @@ module _ (end : NamedEnd) (address count : ℕ) (code : ReturnCode) (before afte
   operation_seen Writing other here r e f h = rw (e, f, h) refl
   operation_seen Reading other here r e f h = rw (e, f, h) refl
 
-module _ (state : State) (side : Side) (end : NamedEnd) (address count : ℕ) (t : Turn)
+module _ (state : State) (side : Side) (end : NamedEnd) (address count : ℕ) (t : Operated)
     (found : IsFound state (operating side end address count) end.guest end.handle (stream_named (named state end)) side) where
   abbrev k : ℕ
   k = stream_named (named state end)

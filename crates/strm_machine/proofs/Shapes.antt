@@ -1,6 +1,6 @@
 -- What a step does by its shape: the few ways in which steps change a state, and what is known of each.
 use Rattle.std.proofs.Common.{◌≡◌, ℕ, ◌<◌, true, false, List, [], length, set, Option, Some, None}
-use Rattle.strm_machine.specs.Words.{Guest, kind_of, ReturnCode, TransmitIndex, Handles, Entry, removed, Sets, State, guest_in, sets_in, with_handles, with_table, end_named, HoldsSets, stream_at, is_end, end_of, with_end, Turn, named, stream_named, has_ended, Reaction, goes, operates, sizes_of, IsSound, IsPlaced, StreamIsPlaced, accepted, NamedEnd, Operate, Act, Make, OnEnd, Reply, Side, Operation, End, Stream, Owner, Held, is_held, is_loose, with_owner}
+use Rattle.strm_machine.specs.Words.{Guest, kind_of, ReturnCode, TransmitIndex, Handles, Entry, removed, Sets, State, guest_in, sets_in, with_handles, with_table, end_named, HoldsSets, stream_at, is_end, end_of, with_end, Operated, named, stream_named, has_ended, Reaction, goes, operates, sizes_of, IsSound, IsPlaced, StreamIsPlaced, accepted, NamedEnd, Operate, Act, Make, OnEnd, Reply, Side, Operation, End, Stream, Owner, Held, is_held, is_loose, with_owner}
 use Rattle.strm_handles.specs.Handles.{handle_limit, next_index, inserted}
 use Rattle.strm_handles.specs.Lookups.{end_rep_of}
 use Rattle.strm_machine.specs.Meetings.{begun}
@@ -10,7 +10,7 @@ use Rattle.strm_memory.specs.Bytes.{IsBytes}
 use Rattle.strm_error_contexts.specs.Contexts.{Contexts}
 use Rattle.strm_machine.specs.State.{is_host, with_bytes}
 use Rattle.strm_machine.specs.Soundness.{type_of, types_of, AreNamed, HoldsContexts}
-use Rattle.strm_machine.specs.Turns.{turn}
+use Rattle.strm_machine.specs.Operating.{operate}
 use Rattle.strm_machine.specs.Tests.{items_asked}
 use Rattle.strm_machine.specs.Refusals.{refusal}
 use Rattle.strm_machine.specs.Reactions.{makes}
@@ -33,8 +33,8 @@ stream_on state end = stream_at state (stream_named (named state end))
 abbrev pub begun_on : NamedEnd → ℕ → ℕ → Operation
 begun_on end address count = begun end.guest address (items_asked end.ty count)
 
-abbrev pub turn_on : State → Side → NamedEnd → ℕ → ℕ → Turn
-turn_on state side end address count = turn side state.guests (stream_on state end) (begun_on end address count)
+abbrev pub turn_on : State → Side → NamedEnd → ℕ → ℕ → Operated
+turn_on state side end address count = operate side state.guests (stream_on state end) (begun_on end address count)
 
 -- where nothing refuses it
 pub record Operates (state : State) (side : Side) (end : NamedEnd) (address count : ℕ) : Type 0 where

@@ -7,7 +7,7 @@ use Rattle.std.proofs.lemmas.Bool.{cases_lt}
 use Rattle.std.proofs.lemmas.List.{get_or_past, length-map, map-append, get_or_append_left, map-set, get_or_push}
 use Rattle.std.proofs.lemmas.List.Elements.{All-set, All-push, All-weaker, All-get_or, All-nil}
 use Rattle.std.proofs.lemmas.List.Sums.{sum_by-append}
-use Rattle.strm_machine.specs.Words.{Guest, TransmitIndex, Payload, kind_of, payload_of, Handles, removed, no_handles, Entry, Sets, no_sets, State, no_guest, no_stream, guest_in, sets_in, with_handles, with_table, without_handle, end_named, HoldsSets, HoldSets, stream_at, Turn, ReturnCode, end_of, with_end, End, Writing, Reading, Side, sizes_of, IsPlaced, OperationIsPlaced, StreamIsPlaced, IsSound, Operation, Stream}
+use Rattle.strm_machine.specs.Words.{Guest, TransmitIndex, Payload, kind_of, payload_of, Handles, removed, no_handles, Entry, Sets, no_sets, State, no_guest, no_stream, guest_in, sets_in, with_handles, with_table, without_handle, end_named, HoldsSets, HoldSets, stream_at, Operated, ReturnCode, end_of, with_end, End, Writing, Reading, Side, sizes_of, IsPlaced, OperationIsPlaced, StreamIsPlaced, IsSound, Operation, Stream}
 use Rattle.strm_codes.specs.declared.codes.TransmitIndex.TheVariants as index
 use Rattle.strm_codes.specs.declared.payloads.Payload.TheVariants.{Nothing}
 use Rattle.strm_handles.specs.Handles.{handle_limit, entry_at, next_index, inserted, inserted_in, entries_with}
@@ -51,7 +51,7 @@ IsSound-stream state s stream e p h = record {
 }
 
 -- a turn, written back
-pub IsSound-turn : (state : State) (s : ℕ) (t : Turn) → TurnKeeps state.guests (stream_at state s) t → IsSound state → IsSound (record state { guests = t.guests; streams = set state.streams s t.stream })
+pub IsSound-turn : (state : State) (s : ℕ) (t : Operated) → TurnKeeps state.guests (stream_at state s) t → IsSound state → IsSound (record state { guests = t.guests; streams = set state.streams s t.stream })
 IsSound-turn state s t k h =
     IsSound-guests (record state { streams = set state.streams s t.stream }) t.guests k.guests
     (IsSound-stream state s t.stream (type_of-same t.stream (stream_at state s) k.stream.payload k.stream.kind) k.stream.placed h)

@@ -3,7 +3,7 @@ use Rattle.std.proofs.Common.{◌≡◌, ℕ, arith, List, [], ◌∷◌, ◌++�
 use Rattle.std.specs.Prelude.{replicate, sum}
 use Rattle.std.proofs.lemmas.List.{length-replicate}
 use Rattle.std.proofs.lemmas.List.Sums.{sum-map}
-use Rattle.strm_machine.specs.Words.{Guest, ReturnCode, no_handles, no_sets, put_at, State, memory_in, with_memory, stream_at, Turn, named, stream_named, Reaction, written_back, sizes_of, IsSound, NamedEnd, Act, Make, Side}
+use Rattle.strm_machine.specs.Words.{Guest, ReturnCode, no_handles, no_sets, put_at, State, memory_in, with_memory, stream_at, Operated, named, stream_named, Reaction, written_back, sizes_of, IsSound, NamedEnd, Act, Make, Side}
 use Rattle.strm_machine.specs.State.{bytes_in_use}
 use Rattle.strm_machine.specs.Refusals.{refusal}
 use Rattle.strm_machine.specs.Reactions.{makes, on_set, on_context, reaction}
@@ -17,16 +17,16 @@ use Rattle.strm_machine.proofs.BoundLemmas.{length-poked}
 use Rattle.strm_machine.proofs.RefusalLemmas.{GuestFits, BytesFit}
 use Rattle.strm_machine.proofs.SoundLemmas.{IsSound-guest, IsSound-guests, IsSound-turn, IsSound-with_stream, IsSound-table, IsSound-set}
 use Rattle.strm_machine.proofs.MoveLemmas.{IsSound-owned}
-use Rattle.strm_machine.proofs.TurnLemmas.{GuestsKeep, TurnKeeps, turn-keeps, with_memory-keeps}
+use Rattle.strm_machine.proofs.TurnLemmas.{GuestsKeep, TurnKeeps, operated-keeps, with_memory-keeps}
 use Rattle.strm_machine.proofs.Shapes.{stream_on, begun_on, turn_on, Operates, Shape, ByTurn, BySetting, ByOwner, ByTable, ByPair, ByGuest, ByPut, ByRest}
 use Rattle.strm_machine.proofs.SetStepLemmas.{set_fits, set_new-shape, set-known}
 use Rattle.strm_machine.proofs.ContextStepLemmas.{context_fits, context_new-shape, context-known}
 use Rattle.strm_machine.proofs.ShapeLemmas.{reaction-shape}
 
 pub operate-keeps : (state : State) (side : Side) (end : NamedEnd) (address count : ℕ) → Operates state side end address count → TurnKeeps state.guests (stream_on state end) (turn_on state side end address count)
-operate-keeps state side end address count o = turn-keeps side state.guests (stream_on state end) (begun_on end address count) o.streams o.placed
+operate-keeps state side end address count o = operated-keeps side state.guests (stream_on state end) (begun_on end address count) o.streams o.placed
 
-written-sound : (state : State) (s : ℕ) (t : Turn) (code : Option ReturnCode) → TurnKeeps state.guests (stream_at state s) t → IsSound state → IsSound (written_back state s t code).state
+written-sound : (state : State) (s : ℕ) (t : Operated) (code : Option ReturnCode) → TurnKeeps state.guests (stream_at state s) t → IsSound state → IsSound (written_back state s t code).state
 written-sound state s t (Some code) k h = IsSound-turn state s t k h
 written-sound state s t None k h =
     let sound = IsSound-turn state s t k h in record { named = sound.named; placed = sound.placed; small = sound.small; sets = sound.sets; contexts = sound.contexts }

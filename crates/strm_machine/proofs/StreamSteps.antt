@@ -3,11 +3,11 @@
 use Rattle.std.proofs.Common.{◌≡◌, ℕ, zero, suc, ◌+◌, ◌-◌, ◌^◌, ◌<◌, ◌≤◌, true, min, List, [], ◌∷◌, ◌++◌, length, get_or, set, Option, Some, None, refl, ap, ⊎_elim, arith, length-append}
 use Rattle.std.proofs.lemmas.Bool.{cond_both}
 use Rattle.std.proofs.lemmas.List.{length-set, get_or_append_left}
-use Rattle.strm_machine.specs.Words.{Guest, ReturnCode, State, no_stream, stream_at, opposite, same_side, end_of, with_end, with_operation, with_received, advanced, Turn, named, stream_named, written_back, Reaction, Act, Side, Writing, Reading, Operation, End, Stream, IsSound}
+use Rattle.strm_machine.specs.Words.{Guest, ReturnCode, State, no_stream, stream_at, opposite, same_side, end_of, with_end, with_operation, with_received, advanced, Operated, named, stream_named, written_back, Reaction, Act, Side, Writing, Reading, Operation, End, Stream, IsSound}
 use Rattle.strm_machine.specs.State.{is_gone}
 use Rattle.strm_machine.specs.Making.{made_stream, made_pair, with_stream}
 use Rattle.strm_machine.specs.Reactions.{reaction}
-use Rattle.strm_machine.specs.Turns.{moves, completes_alone, rendezvous_by, finds, turn}
+use Rattle.strm_machine.specs.Operating.{moves, completes_alone, rendezvous_by, finds, operate}
 use Rattle.strm_machine.specs.declared.streams.Meeting.{Meeting}
 use Rattle.strm_machine.specs.declared.streams.Meeting.TheVariants.{BothComplete, WriteCompletes, ReadCompletes}
 use Rattle.strm_machine.proofs.EndLemmas.{with_end-replaces, with_operation-count}
@@ -25,7 +25,7 @@ pub most_of : (r n : ℕ) → n < 2 ^ 28 → min (r + n) (2 ^ 128 - 1) ≤ r + 2
 most_of r n l = omega arith
 
 module _ (side : Side) (guests : List Guest) (stream : Stream) (mine : Operation) (small : mine.left < 2 ^ 28) where
-  abbrev Few : Turn → Type 0
+  abbrev Few : Operated → Type 0
   Few t = t.stream.received ≤ stream.received + 2 ^ 28
 
   moves_few : (theirs : Operation) (n : ℕ) (o : Option (List Guest)) → n < 2 ^ 28 → Few (moves side guests stream mine theirs n o)
@@ -48,8 +48,8 @@ module _ (side : Side) (guests : List Guest) (stream : Stream) (mine : Operation
   finds_few (Some theirs) =
       cond_both theirs.is_open _ _ Few (λ e. meets_few _ theirs) (λ e. omega (arith, with_operation-count side stream mine))
 
-  turn_few : Few (turn side guests stream mine)
-  unfolding turn
+  turn_few : Few (operate side guests stream mine)
+  unfolding operate
   turn_few =
       cond_both (is_gone (end_of (opposite side) stream).owner) _ _ Few
       (λ e. omega (arith, (with_end-replaces side stream (record (end_of side stream) { told = true })).count))
@@ -111,7 +111,7 @@ stay_push streams x none = record {
 
 -- ## A step
 
-back_stay : (state : State) (k : ℕ) (t : Turn) (code : Option ReturnCode) → StreamStays (stream_at state k) t.stream → StreamsStay state.streams (written_back state k t code).state.streams
+back_stay : (state : State) (k : ℕ) (t : Operated) (code : Option ReturnCode) → StreamStays (stream_at state k) t.stream → StreamsStay state.streams (written_back state k t code).state.streams
 back_stay state k t (Some code) h = stay_set state.streams k t.stream h
 back_stay state k t None h = stay_set state.streams k t.stream h
 

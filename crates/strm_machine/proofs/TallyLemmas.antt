@@ -10,7 +10,7 @@ use Rattle.strm_codes.specs.declared.codes.StreamResult.TheVariants.{Completed}
 use Rattle.strm_codes.specs.declared.codes.TransmitIndex.TheVariants as index
 use Rattle.strm_machine.specs.Endings.{asked_to_finish}
 use Rattle.strm_machine.specs.Meetings.{begun}
-use Rattle.strm_machine.specs.Turns.{is_future}
+use Rattle.strm_machine.specs.Operating.{is_future}
 use Rattle.strm_machine.specs.Tests.{items_asked}
 use Rattle.strm_machine.specs.Soundness.{IsUnmoved, is_opened}
 use Rattle.strm_machine.proofs.EndLemmas.{each_side, IsLeft, left_by}

@@ -5,12 +5,12 @@ use Rattle.std.proofs.lemmas.Bool.{cond_both, eqb-true, le-ltb}
 use Rattle.std.proofs.lemmas.List.{length-map}
 use Rattle.std.proofs.lemmas.List.Elements.{All-nil}
 use Rattle.strm_codes.specs.Codes.{completed_code}
-use Rattle.strm_machine.specs.Words.{Guest, scalars_of, ReturnCode, TransmitKind, AStream, Future, Payload, opposite, same_side, end_of, with_end, with_operation, advanced, carried, Turn, with_received, sizes_of, IsPlaced, OperationIsPlaced, Side, Writing, Reading, Operation, Stream, Call, as_report, count_reported, k_of, items_in_memory, both_open}
+use Rattle.strm_machine.specs.Words.{Guest, scalars_of, ReturnCode, TransmitKind, AStream, Future, Payload, opposite, same_side, end_of, with_end, with_operation, advanced, carried, Operated, with_received, sizes_of, IsPlaced, OperationIsPlaced, Side, Writing, Reading, Operation, Stream, Call, as_report, count_reported, k_of, items_in_memory, both_open}
 use Rattle.strm_codes.specs.declared.codes.ReturnCode.TheVariants as codes
 use Rattle.strm_machine.specs.Endings.{asked_to_finish}
 use Rattle.strm_machine.specs.State.{is_gone}
 use Rattle.strm_machine.specs.Sides.{write_of, read_of}
-use Rattle.strm_machine.specs.Turns.{answers, waits, moves, completes_alone, rendezvous_by, rendezvous, finds, turn}
+use Rattle.strm_machine.specs.Operating.{answers, waits, moves, completes_alone, rendezvous_by, rendezvous, finds, operate}
 use Rattle.strm_machine.specs.declared.streams.Meeting.{Meeting}
 use Rattle.strm_machine.proofs.SideLemmas.{read_of-placed}
 use Rattle.strm_machine.specs.Moments.{MemoryPlace, place_of}
@@ -35,11 +35,11 @@ abbrev pub place_by : Side → Stream → Operation → MemoryPlace
 place_by Writing stream mine = place_of stream.reader.operation
 place_by Reading stream mine = record { guest = mine.guest; address = mine.address }
 
-abbrev pub got_by : Side → Stream → Operation → Turn → List (Option (List ℤ))
+abbrev pub got_by : Side → Stream → Operation → Operated → List (Option (List ℤ))
 got_by side stream mine t =
     items_in_memory stream.payload t.guests (place_by side stream mine).guest (place_by side stream mine).address (t.stream.received - stream.received)
 
-abbrev pub scene_of : Side → Side → List Guest → Stream → Operation → ReturnCode → Turn → Scene
+abbrev pub scene_of : Side → Side → List Guest → Stream → Operation → ReturnCode → Operated → Scene
 scene_of side other guests stream mine code t = record {
   before = stream;
   after = t.stream;
@@ -49,7 +49,7 @@ scene_of side other guests stream mine code t = record {
   got = got_by side stream mine t;
 }
 
-pub record Does (side : Side) (guests : List Guest) (stream : Stream) (mine : Operation) (code : ReturnCode) (t : Turn) : Type 0 where
+pub record Does (side : Side) (guests : List Guest) (stream : Stream) (mine : Operation) (code : ReturnCode) (t : Operated) : Type 0 where
   pub change : (other : Side) → Change other (scene_of side other guests stream mine code t)
   pub whole : All IsSome (got_by side stream mine t)
   pub most : t.stream.received ≤ stream.received + 2 ^ 28
@@ -57,7 +57,7 @@ pub record Does (side : Side) (guests : List Guest) (stream : Stream) (mine : Op
   pub tallies : Tallies t.stream
 
 -- a turn that answers a code does this, and one that finds a bad item leaves the stream
-abbrev pub DoesBy : Side → List Guest → Stream → Operation → Turn → Option ReturnCode → Type 0
+abbrev pub DoesBy : Side → List Guest → Stream → Operation → Operated → Option ReturnCode → Type 0
 DoesBy side guests stream mine t None = t.stream ≡ stream
 DoesBy side guests stream mine t (Some code) = Does side guests stream mine code t
 
@@ -131,7 +131,7 @@ got_at : (payload : Payload) (guests : List Guest) (o : Option Operation) (p : O
 got_at payload guests o p k n e f = rw (e, f) refl
 
 -- items are received where the read of the two has its own
-module _ (stream : Stream) (mine theirs : Operation) (t : Turn) (n : ℕ) (rise : t.stream.received - stream.received ≡ n) where
+module _ (stream : Stream) (mine theirs : Operation) (t : Operated) (n : ℕ) (rise : t.stream.received - stream.received ≡ n) where
   got_moved : (side : Side) → (end_of (opposite side) stream).operation ≡ Some theirs → got_by side stream mine t ≡ items_in_memory stream.payload t.guests (read_of side mine theirs).guest (read_of side mine theirs).address n
   got_moved Writing is = got_at stream.payload t.guests stream.reader.operation theirs (t.stream.received - stream.received) n is rise
   got_moved Reading is = ap (λ j. items_in_memory stream.payload t.guests mine.guest mine.address j) rise
@@ -175,7 +175,7 @@ module _ (side : Side) (guests : List Guest) (stream : Stream) (mine : Operation
   found = (end_of (opposite side) stream).operation
 
   -- what is to be shown of a turn
-  abbrev DoesTurn : Turn → Type 0
+  abbrev DoesTurn : Operated → Type 0
   DoesTurn t = DoesBy side guests stream mine t t.code
 
   -- the guests after n items were carried
@@ -357,8 +357,8 @@ module _ (side : Side) (guests : List Guest) (stream : Stream) (mine : Operation
       (λ e. waits_still (ap is_opened is ∙ e))
 
   -- whichever of the two it is, where its end has no operation yet
-  pub turn_does : OperationIsPlaced (sizes_of guests) stream.payload found → DoesTurn (turn side guests stream mine)
-  unfolding turn
+  pub turn_does : OperationIsPlaced (sizes_of guests) stream.payload found → DoesTurn (operate side guests stream mine)
+  unfolding operate
   turn_does held =
       let end = record (end_of side stream) { told = true } in
       cond_both (is_gone (end_of (opposite side) stream).owner) _ _ DoesTurn

@@ -5,11 +5,11 @@ use Rattle.std.proofs.Math.Seq.{map-set_same}
 use Rattle.std.proofs.Math.ListN.{get_or-map}
 use Rattle.std.proofs.lemmas.Bool.{cond_both}
 use Rattle.std.specs.Option.{option_map}
-use Rattle.strm_machine.specs.Words.{Guest, Sets, Payload, Scalar, scalars_of, items_at, stored_at, no_guest, guest_in, memory_in, with_memory, opposite, same_side, end_of, with_operation, advanced, carried, Turn, with_received, sizes_of, IsPlaced, OperationIsPlaced, StreamIsPlaced, Side, Writing, Reading, Operation, Stream}
+use Rattle.strm_machine.specs.Words.{Guest, Sets, Payload, Scalar, scalars_of, items_at, stored_at, no_guest, guest_in, memory_in, with_memory, opposite, same_side, end_of, with_operation, advanced, carried, Operated, with_received, sizes_of, IsPlaced, OperationIsPlaced, StreamIsPlaced, Side, Writing, Reading, Operation, Stream}
 use Rattle.strm_memory.specs.Region.{is_out_of_bounds}
 use Rattle.strm_machine.specs.State.{is_gone}
 use Rattle.strm_machine.specs.Sides.{write_of, read_of}
-use Rattle.strm_machine.specs.Turns.{waits, moves, completes_alone, rendezvous_by, finds, turn}
+use Rattle.strm_machine.specs.Operating.{waits, moves, completes_alone, rendezvous_by, finds, operate}
 use Rattle.strm_machine.specs.Soundness.{handles_of}
 use Rattle.strm_machine.specs.declared.streams.Meeting.{Meeting}
 use Rattle.strm_machine.specs.declared.streams.Meeting.TheVariants.{BothComplete, WriteCompletes, ReadCompletes}
@@ -25,7 +25,7 @@ pub record GuestsKeep (old new : List Guest) : Type 0 where
   pub handles : handles_of new ≡ handles_of old
   pub sets : sets_of new ≡ sets_of old
 
-pub record TurnKeeps (before : List Guest) (old : Stream) (t : Turn) : Type 0 where
+pub record TurnKeeps (before : List Guest) (old : Stream) (t : Operated) : Type 0 where
   pub guests : GuestsKeep before t.guests
   pub stream : StreamKeeps (sizes_of before) old t.stream
 
@@ -120,9 +120,9 @@ module _ (side : Side) (guests : List Guest) (stream : Stream) (mine : Operation
       (λ e. waits-keeps side guests stream mine h p)
 
 -- a read or write of n items that lie in memory
-pub turn-keeps : (side : Side) (guests : List Guest) (stream : Stream) (mine : Operation) → StreamIsPlaced (sizes_of guests) stream → IsPlaced (sizes_of guests) stream.payload mine → TurnKeeps guests stream (turn side guests stream mine)
-unfolding turn
-turn-keeps side guests stream mine h p =
+pub operated-keeps : (side : Side) (guests : List Guest) (stream : Stream) (mine : Operation) → StreamIsPlaced (sizes_of guests) stream → IsPlaced (sizes_of guests) stream.payload mine → TurnKeeps guests stream (operate side guests stream mine)
+unfolding operate
+operated-keeps side guests stream mine h p =
     cond_both (is_gone (end_of (opposite side) stream).owner) _ _ (TurnKeeps guests stream)
     (λ e. record {
       guests = all_kept guests;

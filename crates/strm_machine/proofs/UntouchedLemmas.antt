@@ -2,7 +2,7 @@
 use Rattle.std.proofs.Common.{Bool, List, None, Option, Some, [], ap, arith, cond, drop, false, get_or, inl, inr, length, length-append, length-set, min, refl, set, subst, suc, sym, take, zero, ℕ, ℤ, ◌*◌, ◌++◌, ◌+◌, ◌-◌, ◌<◌, ◌^◌, ◌∙◌, ◌∷◌, ◌≡◌, ◌≤◌, ◌⊎◌}
 use Rattle.std.proofs.lemmas.Bool.{cases_eq, cases_lt, cond_both}
 use Rattle.std.proofs.lemmas.List.{append_assoc, get_or-set_same, get_or_append_left, length-map, take-append-drop}
-use Rattle.strm_machine.specs.Words.{Guest, item_size, scalars_of, ReturnCode, TransmitIndex, Payload, Scalar, Handles, Sets, no_handles, no_sets, Moment, names, received, advanced, carried, Reaction, goes, operates, written_back, end_of, opposite, same_side, with_operation, IsPlaced, IsSound, OperationIsPlaced, sizes_of, State, guest_in, memory_in, no_guest, no_stream, sets_in, stream_at, with_handles, with_memory, with_table, named, stream_named, Turn, with_received, Operation, Side, Reading, Writing, Stream, put_at, items_at, stored_at, NamedEnd, Act, Make, Reply}
+use Rattle.strm_machine.specs.Words.{Guest, item_size, scalars_of, ReturnCode, TransmitIndex, Payload, Scalar, Handles, Sets, no_handles, no_sets, Moment, names, received, advanced, carried, Reaction, goes, operates, written_back, end_of, opposite, same_side, with_operation, IsPlaced, IsSound, OperationIsPlaced, sizes_of, State, guest_in, memory_in, no_guest, no_stream, sets_in, stream_at, with_handles, with_memory, with_table, named, stream_named, Operated, with_received, Operation, Side, Reading, Writing, Stream, put_at, items_at, stored_at, NamedEnd, Act, Make, Reply}
 use Rattle.strm_handles.specs.Handles.{inserted}
 use Rattle.strm_machine.proofs.EndLemmas.{read_fits, with_operation-count}
 use Rattle.strm_machine.proofs.Lawful.{HasRoom, as_moment}
@@ -23,7 +23,7 @@ use Rattle.strm_machine.specs.Making.{read_entry, with_stream}
 use Rattle.strm_machine.specs.Reactions.{makes, reaction}
 use Rattle.strm_machine.specs.Sides.{read_of, write_of}
 use Rattle.strm_machine.specs.State.{is_gone, with_bytes}
-use Rattle.strm_machine.specs.Turns.{completes_alone, finds, rendezvous_by, moves, turn}
+use Rattle.strm_machine.specs.Operating.{completes_alone, finds, rendezvous_by, moves, operate}
 use Rattle.strm_machine.specs.declared.streams.Meeting.{Meeting}
 use Rattle.strm_machine.specs.declared.streams.Meeting.TheVariants.{BothComplete, ReadCompletes, WriteCompletes}
 use Rattle.strm_memory.proofs.CopyLemmas.{option_map_some}
@@ -132,7 +132,7 @@ region_same : (p q : MemoryPlace) (a b : ℕ) → p ≡ q → a ≡ b → ◌≡
 region_same p q a b e f = rw (e, f) refl
 
 -- where items are received in the turn of a call
-abbrev region_by : Side → Stream → Operation → Turn → Region
+abbrev region_by : Side → Stream → Operation → Operated → Region
 region_by side stream mine t = record { place = place_by side stream mine; size = item_size (scalars_of stream.payload) * (t.stream.received - stream.received) }
 
 place_by-read : (side : Side) (stream : Stream) (mine theirs : Operation) → (end_of (opposite side) stream).operation ≡ Some theirs → place_by side stream mine ≡ place_of (Some (read_of side mine theirs))
@@ -140,7 +140,7 @@ place_by-read Writing stream mine theirs e = ap place_of e
 place_by-read Reading stream mine theirs e = refl
 
 module _ (side : Side) (guests : List Guest) (stream : Stream) (mine : Operation) (room : stream.received + 2 ^ 28 < 2 ^ 128) (placed : IsPlaced (sizes_of guests) stream.payload mine) where
-  abbrev Stays : Turn → Type 0
+  abbrev Stays : Operated → Type 0
   Stays t = BytesStay guests t.guests (region_by side stream mine t)
 
   -- the guests after n items were carried
@@ -174,8 +174,8 @@ module _ (side : Side) (guests : List Guest) (stream : Stream) (mine : Operation
       (λ e. meets_stay _ theirs is held)
       (λ e r l apart. refl)
 
-  pub turn_stays : OperationIsPlaced (sizes_of guests) stream.payload (end_of (opposite side) stream).operation → Stays (turn side guests stream mine)
-  unfolding turn
+  pub turn_stays : OperationIsPlaced (sizes_of guests) stream.payload (end_of (opposite side) stream).operation → Stays (operate side guests stream mine)
+  unfolding operate
   turn_stays held =
       cond_both (is_gone (end_of (opposite side) stream).owner) _ _ Stays
       (λ e r l apart. refl)
@@ -186,19 +186,19 @@ target_by : (side : Side) (b : Bool) (end : NamedEnd) (address count : ℕ) (str
 target_by Writing b end address count stream e = rw e refl
 target_by Reading b end address count stream e = rw e refl
 
-back_guests : (state : State) (s : ℕ) (t : Turn) (code : Option ReturnCode) → (written_back state s t code).state.guests ≡ t.guests
+back_guests : (state : State) (s : ℕ) (t : Operated) (code : Option ReturnCode) → (written_back state s t code).state.guests ≡ t.guests
 back_guests state s t None = refl
 back_guests state s t (Some code) = refl
 
-back_stream : (state : State) (s : ℕ) (t : Turn) (code : Option ReturnCode) → s < length state.streams → stream_at (written_back state s t code).state s ≡ t.stream
+back_stream : (state : State) (s : ℕ) (t : Operated) (code : Option ReturnCode) → s < length state.streams → stream_at (written_back state s t code).state s ≡ t.stream
 back_stream state s t None l = get_or-set_same state.streams s t.stream no_stream l
 back_stream state s t (Some code) l = get_or-set_same state.streams s t.stream no_stream l
 
 -- a write that finds no read changes no memory
-unread_guests : (guests : List Guest) (stream : Stream) (mine : Operation) → stream.reader.operation ≡ None → (turn Writing guests stream mine).guests ≡ guests
-unfolding turn
+unread_guests : (guests : List Guest) (stream : Stream) (mine : Operation) → stream.reader.operation ≡ None → (operate Writing guests stream mine).guests ≡ guests
+unfolding operate
 unread_guests guests stream mine o =
-    cond_both (is_gone stream.reader.owner) _ _ (λ (t : Turn). t.guests ≡ guests)
+    cond_both (is_gone stream.reader.owner) _ _ (λ (t : Operated). t.guests ≡ guests)
     (λ g. refl)
     (λ g. subst (λ p. (finds Writing guests stream mine p).guests ≡ guests) (sym o) refl)
 

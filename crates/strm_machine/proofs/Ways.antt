@@ -8,7 +8,7 @@ use Rattle.strm_machine.specs.State.{State, Guest, no_stream, stream_at, is_gone
 use Rattle.strm_machine.specs.Sides.{opposite, same_side, end_of, with_operation}
 use Rattle.strm_machine.specs.Meetings.{begun, advanced}
 use Rattle.strm_machine.specs.Moves.{with_owner}
-use Rattle.strm_machine.specs.Turns.{Turn, with_received, moves, completes_alone, rendezvous_by, learns, finds, turn}
+use Rattle.strm_machine.specs.Operating.{Operated, with_received, moves, completes_alone, rendezvous_by, learns, finds, operate}
 use Rattle.strm_machine.specs.Endings.{delivered, dropped}
 use Rattle.strm_machine.specs.Tests.{named, stream_named, items_asked}
 use Rattle.strm_machine.specs.Reactions.{Reaction, goes, written_back, on_stream, operates}
@@ -58,7 +58,7 @@ learns-stays Reading guests stream = record { owner = refl; payload = refl }
 
 module _ (side : Side) (guests : List Guest) (stream : Stream) (mine : Operation) where
   -- this turn leaves writer and payload
-  abbrev Leaves : Turn → Type 0
+  abbrev Leaves : Operated → Type 0
   Leaves t = WriterStays stream t.stream
 
   moves-stays : (theirs : Operation) (n : ℕ) (o : Option (List Guest)) → Leaves (moves side guests stream mine theirs n o)
@@ -87,9 +87,9 @@ module _ (side : Side) (guests : List Guest) (stream : Stream) (mine : Operation
       (λ e. rendezvous-stays _ theirs)
       (λ e. with_operation-stays side stream mine)
 
-  turn-stays : Leaves (turn side guests stream mine)
-  unfolding turn
-  turn-stays =
+  operate-stays : Leaves (operate side guests stream mine)
+  unfolding operate
+  operate-stays =
       cond_both (is_gone (end_of (opposite side) stream).owner) _ _ Leaves
       (λ e. learns-stays side guests stream)
       (λ e. finds-stays _)
@@ -132,14 +132,14 @@ push-from [] x h (suc k) n e = (e, refl)
 push-from (y ∷ ys) x h zero n e = (e, refl)
 push-from (y ∷ ys) x h (suc k) n e = push-from ys x h k n e
 
-written_back-from : (state : State) (s : ℕ) (t : Turn) (code : Option ReturnCode) → HostsFrom (stream_at state s) t.stream → HostsFromIn state.streams (written_back state s t code).state.streams
+written_back-from : (state : State) (s : ℕ) (t : Operated) (code : Option ReturnCode) → HostsFrom (stream_at state s) t.stream → HostsFromIn state.streams (written_back state s t code).state.streams
 written_back-from state s t (Some code) h = set-from state.streams s t.stream h
 written_back-from state s t None h = set-from state.streams s t.stream h
 
 on_stream-from : (state : State) (s : ℕ) (side : Side) (mine : Operation) → HostsFromIn state.streams (on_stream state s side mine).state.streams
 on_stream-from state s side mine =
-    let t = turn side state.guests (stream_at state s) mine in
-    written_back-from state s t t.code (same_writer (stream_at state s) t.stream (turn-stays side state.guests (stream_at state s) mine))
+    let t = operate side state.guests (stream_at state s) mine in
+    written_back-from state s t t.code (same_writer (stream_at state s) t.stream (operate-stays side state.guests (stream_at state s) mine))
 
 -- ## All ways
 
@@ -165,22 +165,22 @@ IsDone state r = standing r ≡ standing (goes replies.Done state)
 
 -- a read or write, or it proceeds: one stream becomes another, one stands behind the others, or they stay
 pub data Way (state : State) (act : Act) (r : Reaction) : Type 0 where
-  Turns : (side : Side) (end : NamedEnd) (address count : ℕ) → act ≡ OnEnd side end (Operate address count) → r ≡ operates state side end address count → Way state act r
+  OperatesOne : (side : Side) (end : NamedEnd) (address count : ℕ) → act ≡ OnEnd side end (Operate address count) → r ≡ operates state side end address count → Way state act r
   SetsOne : (s : ℕ) (x : Stream) → IsDone state r → r.state.streams ≡ set state.streams s x → HostsFrom (stream_at state s) x → Way state act r
   AddsOne : (x : Stream) → IsDone state r → r.state.streams ≡ state.streams ++ x ∷ [] → ((n : ℕ) → x.writer.owner ≡ Host n → ⊥) → Way state act r
   SetsNone : IsDone state r → r.state.streams ≡ state.streams → Way state act r
 
-written_back-kept : (state : State) (s : ℕ) (t : Turn) (code : Option ReturnCode) → kept_in (written_back state s t code).state ≡ kept_in state
+written_back-kept : (state : State) (s : ℕ) (t : Operated) (code : Option ReturnCode) → kept_in (written_back state s t code).state ≡ kept_in state
 written_back-kept state s t (Some code) = refl
 written_back-kept state s t None = refl
 
 operates-kept : (state : State) (s : ℕ) (side : Side) (mine : Operation) → kept_in (on_stream state s side mine).state ≡ kept_in state
 operates-kept state s side mine =
-    let t = turn side state.guests (stream_at state s) mine in written_back-kept state s t t.code
+    let t = operate side state.guests (stream_at state s) mine in written_back-kept state s t t.code
 
 -- what is kept of host ends stays
 pub way-kept : (state : State) (act : Act) (r : Reaction) → Way state act r → kept_in r.state ≡ kept_in state
-way-kept state act r (Turns side end address count a e) =
+way-kept state act r (OperatesOne side end address count a e) =
     ap (λ (x : Reaction). kept_in x.state) e
     ∙ operates-kept state (stream_named (named state end)) side (begun end.guest address (items_asked end.ty count))
 way-kept state act r (SetsOne s x p e h) = ap (λ (k : Standing). k.kept) p
@@ -189,7 +189,7 @@ way-kept state act r (SetsNone p e) = ap (λ (k : Standing). k.kept) p
 
 -- no host writer gets the write end of a stream
 pub way-from : (state : State) (act : Act) (r : Reaction) → Way state act r → HostsFromIn state.streams r.state.streams
-way-from state act r (Turns side end address count a e) =
+way-from state act r (OperatesOne side end address count a e) =
     subst (λ (x : Reaction). HostsFromIn state.streams x.state.streams) (sym e)
     (on_stream-from state (stream_named (named state end)) side (begun end.guest address (items_asked end.ty count)))
 way-from state act r (SetsOne s x p e h) = subst (HostsFromIn state.streams) (sym e) (set-from state.streams s x h)

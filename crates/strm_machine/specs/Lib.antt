@@ -3,7 +3,7 @@ pub mod State
 pub mod Bases
 pub mod Sides
 pub mod Meetings
-pub mod Turns
+pub mod Operating
 pub mod Endings
 pub mod Tests
 pub mod Refusals

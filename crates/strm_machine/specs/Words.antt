@@ -20,7 +20,7 @@ pub use Rattle.strm_machine.specs.Sides.{end_of, opposite, same_side, with_end, 
 pub use Rattle.strm_machine.specs.Soundness.{HoldSets, HoldsSets, IsPlaced, IsSound, OperationIsPlaced, StreamIsPlaced, both_open, sizes_of}
 pub use Rattle.strm_machine.specs.State.{Guest, State, empty, guest_in, is_held, is_loose, memory_in, no_guest, no_stream, sets_in, stream_at, with_handles, with_memory, with_sets, with_table}
 pub use Rattle.strm_machine.specs.Tests.{Name, end_named, has_ended, named, stream_named}
-pub use Rattle.strm_machine.specs.Turns.{Turn, with_received}
+pub use Rattle.strm_machine.specs.Operating.{Operated, with_received}
 pub use Rattle.strm_machine.specs.declared.acts.Act.{Act}
 pub use Rattle.strm_machine.specs.declared.acts.Act.TheVariants.{Make, OnEnd, OnLoose, OnMemory}
 pub use Rattle.strm_machine.specs.declared.acts.EndAct.TheVariants.{Operate}

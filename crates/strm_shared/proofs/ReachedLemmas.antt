@@ -14,7 +14,7 @@ use Rattle.strm_handles.specs.Handles.{no_handles}
 use Rattle.strm_handles.specs.Lookups.{end_rep_of}
 use Rattle.strm_machine.specs.State.{State, Guest, empty, no_guest, no_stream, no_producer, no_consumer, stream_at, is_gone, is_host, host_limit}
 use Rattle.strm_machine.specs.Sides.{opposite, same_side, end_of, with_end, with_operation}
-use Rattle.strm_machine.specs.Turns.{Turn, moves, completes_alone, rendezvous_by, finds, turn}
+use Rattle.strm_machine.specs.Operating.{Operated, moves, completes_alone, rendezvous_by, finds, operate}
 use Rattle.strm_machine.specs.Tests.{Name, named, end_named, stream_named, is_busy}
 use Rattle.strm_machine.specs.Moments.{is_end}
 use Rattle.std.specs.Prelude.{IfSome, not}
@@ -137,7 +137,7 @@ waits_on state p act h busy out clear =
 
 module _ (side : Side) (guests : List Guest) (stream : Stream) (mine : Operation) where
   -- where it answers Blocked it is open
-  abbrev Opens : Turn → Type 0
+  abbrev Opens : Operated → Type 0
   Opens t = t.code ≡ Some codes.Blocked → is_busy side t.stream ≡ true
 
   opened : (x : Stream) (o : Operation) → is_busy side (with_operation side x o) ≡ true
@@ -173,9 +173,9 @@ module _ (side : Side) (guests : List Guest) (stream : Stream) (mine : Operation
       (λ e. rendezvous-opens _ theirs)
       (λ e k. opened stream mine) b
 
-  turn-opens : Opens (turn side guests stream mine)
-  unfolding turn
-  turn-opens =
+  operate-opens : Opens (operate side guests stream mine)
+  unfolding operate
+  operate-opens =
       cond_both (is_gone (end_of (opposite side) stream).owner) _ _ Opens
       (λ e b. cc)
       (λ e. finds-opens _)
@@ -215,7 +215,7 @@ operates-begins state on end address count h o = by (turn_on state on end addres
             named = after.agree.held end.guest end.handle t on
                 (owner-set_stays state.streams t tn.stream t on (record { writer = k.stream.writer; reader = k.stream.reader })
                 ∙ h.held.agree.named end.guest end.handle t on o.found.held);
-            operates = ap (is_busy on) (get_or-set_same state.streams t tn.stream no_stream o.found.made) ∙ turn-opens on state.guests stream (begun_on end address count) c;
+            operates = ap (is_busy on) (get_or-set_same state.streams t tn.stream no_stream o.found.made) ∙ operate-opens on state.guests stream (begun_on end address count) c;
           };
           out = λ out. out-same state.guests tn.guests end.guest end.handle (sets-same state.guests tn.guests end.guest k.guests.sets) out;
         }

@@ -12,7 +12,7 @@ use Rattle.strm_machine.specs.State.{State, Guest, guest_in, sets_in, no_guest, 
 use Rattle.strm_machine.specs.Sides.{opposite, same_side, end_of, with_end, with_operation}
 use Rattle.strm_machine.specs.Meetings.{advanced}
 use Rattle.strm_machine.specs.Moves.{without_handle}
-use Rattle.strm_machine.specs.Turns.{Turn, with_received, moves, completes_alone, rendezvous_by, learns, finds, turn}
+use Rattle.strm_machine.specs.Operating.{Operated, with_received, moves, completes_alone, rendezvous_by, learns, finds, operate}
 use Rattle.strm_machine.specs.Tests.{named, end_named, stream_named, side_named, is_busy}
 use Rattle.strm_machine.specs.Moments.{is_end}
 use Rattle.strm_machine.specs.Soundness.{IsSound}
@@ -102,7 +102,7 @@ set_either P (y ∷ ys) (suc n) (suc k) x d f p = set_either P ys n k x d (λ e.
 
 module _ (side : Side) (guests : List Guest) (stream : Stream) (mine : Operation) where
   -- the opposite end is busy as before
-  abbrev Leaves : Turn → Type 0
+  abbrev Leaves : Operated → Type 0
   Leaves t = is_busy (opposite side) stream ≡ true → is_busy (opposite side) t.stream ≡ true
 
   busy_beside : (x : Stream) (o : Operation) → is_busy (opposite side) x ≡ true → is_busy (opposite side) (with_operation side x o) ≡ true
@@ -149,9 +149,9 @@ module _ (side : Side) (guests : List Guest) (stream : Stream) (mine : Operation
       (λ e. rendezvous-leaves _ theirs)
       (λ e. busy_beside stream mine)
 
-  pub turn-leaves : Leaves (turn side guests stream mine)
-  unfolding turn
-  turn-leaves =
+  pub operate-leaves : Leaves (operate side guests stream mine)
+  unfolding operate
+  operate-leaves =
       cond_both (is_gone (end_of (opposite side) stream).owner) _ _ Leaves
       (λ e. learns-leaves)
       (λ e. finds-leaves _)
@@ -265,7 +265,7 @@ module _ (state : State) (p : Place) (s : ℕ) (side : Side) (held : StateIsHeld
   IsOutOf guests = IsNone (sets_in guests p.guest) p.handle
 
   -- what a read or write writes back
-  back-stays : (on : Side) (end : NamedEnd) (address count t : ℕ) (tn : Turn) (code : Option ReturnCode)
+  back-stays : (on : Side) (end : NamedEnd) (address count t : ℕ) (tn : Operated) (code : Option ReturnCode)
       → EndStays side (stream_at state s) (get_or (set state.streams t tn.stream) s no_stream) → IsOutOf tn.guests
       → Stay (OnEnd on end (Operate address count)) (written_back state t tn code)
   back-stays on end address count t tn None e out = record { end = e; out = out; untold = λ q. cc }
@@ -284,7 +284,7 @@ module _ (state : State) (p : Place) (s : ℕ) (side : Side) (held : StateIsHeld
       (λ q. subst (λ x. EndStays side (stream_at state x) tn.stream) (sym q)
       (record {
         owner = owner_stays side stream tn.stream (record { writer = k.stream.writer; reader = k.stream.reader });
-        busy = subst (λ a. is_busy a stream ≡ true → is_busy a tn.stream ≡ true) (sym (opposite_is on side (apart q))) (turn-leaves on state.guests stream mine);
+        busy = subst (λ a. is_busy a stream ≡ true → is_busy a tn.stream ≡ true) (sym (opposite_is on side (apart q))) (operate-leaves on state.guests stream mine);
       }))
       (stays_itself side (stream_at state s)) in
       let out : IsNone (sets_in tn.guests p.guest) p.handle = out-same state.guests tn.guests p.guest p.handle (sets-same state.guests tn.guests p.guest k.guests.sets) w.out in

@@ -14,7 +14,7 @@ use Rattle.strm_buffers.specs.declared.answers.ReaderSaid.{ReaderSaid}
 use Rattle.strm_buffers.specs.Said.{WriterSaid}
 use Rattle.strm_buffers.specs.HostRules.{breaks_as_writer, breaks_as_reader}
 use Rattle.strm_machine.specs.Meetings.{begun}
-use Rattle.strm_machine.specs.Turns.{with_received}
+use Rattle.strm_machine.specs.Operating.{with_received}
 use Rattle.strm_machine.specs.Tests.{named, stream_named, items_asked}
 use Rattle.strm_machine.specs.State.{producer_at, consumer_at, is_host, no_stream}
 use Rattle.strm_machine.specs.Acts.{act_of}

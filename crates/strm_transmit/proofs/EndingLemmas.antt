@@ -13,7 +13,7 @@ use Rattle.strm_handles.specs.declared.entries.TransmitLocalState.TheVariants as
 use Rattle.strm_handles.specs.declared.errors.HandleError.{HandleError}
 use Rattle.strm_machine.specs.State as machine
 use Rattle.strm_machine.specs.State.{State, guest_in, stream_at}
-use Rattle.strm_machine.specs.Turns.{Turn}
+use Rattle.strm_machine.specs.Operating.{Operated}
 use Rattle.strm_machine.specs.Moments.{is_end}
 use Rattle.strm_machine.specs.Tests.{Name, named, named_by, end_named, stream_named, side_named, side_of}
 use Rattle.strm_machine.specs.declared.acts.NamedEnd.{NamedEnd}
@@ -47,7 +47,7 @@ pub record SetsStream (old new : Inside) (s : ℕ) (stream : Stream) : Type 0 wh
   pub retold : Retells (guests_of old.guests.items) stream old.ready.items new.ready.items
 
 -- the turn of a stream that became another, with all guests as they were
-abbrev set_turn : List machine.Guest → Stream → Turn
+abbrev set_turn : List machine.Guest → Stream → Operated
 set_turn guests stream = record { code = None; guests = guests; stream = stream }
 
 -- a stream has the type and the owners of the one before it, and its operations lie in memory as theirs

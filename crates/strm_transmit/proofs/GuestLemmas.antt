@@ -3,7 +3,7 @@ use Rattle.std.proofs.Common.{◌≡◌, ℕ, ◌<◌, true, false, List, [], le
 use Rattle.std.specs.Prelude.{Bool, if◌then◌else◌}
 use Rattle.std.proofs.lemmas.Bool.{cases_eq}
 use Rattle.std.proofs.lemmas.List.{get_or-set_same, get_or-set_other, get_or_past}
-use Rattle.strm_machine.specs.Words.{ReturnCode, TransmitIndex, State, no_stream, stream_at, end_of, with_end, Turn, named, stream_named, Reaction, written_back}
+use Rattle.strm_machine.specs.Words.{ReturnCode, TransmitIndex, State, no_stream, stream_at, end_of, with_end, Operated, named, stream_named, Reaction, written_back}
 use Rattle.strm_machine.specs.State.{empty, is_host}
 use Rattle.strm_machine.specs.Sides.{opposite}
 use Rattle.strm_machine.specs.Making.{made_stream, made_pair, with_stream}
@@ -66,7 +66,7 @@ pair-unhosted state writer reader ty u k side =
       | inr e ↦ subst (OnUnhosted side) (sym e.1) (made-unhosted ty writer pair.write reader pair.read side)
     ]
 
-written-unhosted : (state : State) (s : ℕ) (t : Turn) (code : Option ReturnCode) → s < length state.streams → IsUnhosted t.stream → AreUnhosted state.streams → AreUnhosted (written_back state s t code).state.streams
+written-unhosted : (state : State) (s : ℕ) (t : Operated) (code : Option ReturnCode) → s < length state.streams → IsUnhosted t.stream → AreUnhosted state.streams → AreUnhosted (written_back state s t code).state.streams
 written-unhosted state s t None l k u = set-unhosted state.streams s t.stream l k u
 written-unhosted state s t (Some code) l k u = set-unhosted state.streams s t.stream l k u
 

@@ -7,7 +7,7 @@ use Rattle.strm_buffers.specs.Listing.{Item}
 use Rattle.strm_buffers.specs.Tells.{WriterTells, ReaderTells, Tells, KeepsReader}
 use Rattle.strm_machine.specs.State.{State}
 use Rattle.strm_machine.specs.Sides.{end_of}
-use Rattle.strm_machine.specs.Turns.{with_received}
+use Rattle.strm_machine.specs.Operating.{with_received}
 use Rattle.strm_machine.specs.declared.streams.Consumer.{Consumer}
 use Rattle.strm_machine.specs.declared.streams.Side.{Side}
 use Rattle.strm_machine.specs.declared.streams.Side.TheVariants.{Writing, Reading}

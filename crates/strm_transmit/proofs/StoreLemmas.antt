@@ -5,7 +5,7 @@ use Rattle.std.proofs.Math.Seq.{map-set_same}
 use Rattle.std.proofs.lemmas.List.{map-append, length-map, length-replicate, length-set, get_or_default, get_or-set_same}
 use Rattle.std.proofs.lemmas.List.Sums.{sum_by_push, sum_by-set, sum-map}
 use Rattle.std.proofs.lemmas.Simd.{map-map}
-use Rattle.strm_machine.specs.Turns.{Turn}
+use Rattle.strm_machine.specs.Operating.{Operated}
 use Rattle.strm_machine.specs.declared.streams.Producer.{Producer}
 use Rattle.strm_machine.specs.declared.streams.Consumer.{Consumer}
 use Rattle.strm_machine.specs.declared.streams.Stream.{Stream}
@@ -336,7 +336,7 @@ IsStore-poke old new g address bytes h e s =
 -- ## One stream that is another, and guests
 
 -- guests and one stream as a turn left them
-pub record TakesTurn (old new : Inside) (s : ℕ) (t : Turn) : Type 0 where
+pub record TakesTurn (old new : Inside) (s : ℕ) (t : Operated) : Type 0 where
   pub tag : new.tag ≡ old.tag
   pub limits : new.limits ≡ old.limits
   pub producers : new.producers ≡ old.producers
@@ -362,7 +362,7 @@ pub live_sum : (streams : List Stream) (s : ℕ) (stream : Stream) → s < lengt
 live_sum streams s stream l = sum_by-set live_weight streams s stream no_stream l
 
 -- what is known of the ends of the stream is as the turn left them
-agrees_turned : (old new : Inside) (s : ℕ) (t : Turn) → s < length old.streams.items → TurnKeeps (guests_of old.guests.items) (stream_at (state_of old) s) t → TakesTurn old new s t → IsStore old → Agrees new
+agrees_turned : (old new : Inside) (s : ℕ) (t : Operated) → s < length old.streams.items → TurnKeeps (guests_of old.guests.items) (stream_at (state_of old) s) t → TakesTurn old new s t → IsStore old → Agrees new
 agrees_turned old new s t l keeps h i =
     let before = guests_of old.guests.items in
     let held : IsHeld t.guests (set old.streams.items s t.stream) = IsHeld-same before t.guests old.streams.items (set old.streams.items s t.stream)
@@ -377,7 +377,7 @@ agrees_turned old new s t l keeps h i =
     }
 
 -- guests and one stream as a turn left them, which keeps handles, memory lengths, type and owners
-pub IsStore-turn : (old new : Inside) (s : ℕ) (t : Turn) → s < length old.streams.items → TurnKeeps (guests_of old.guests.items) (stream_at (state_of old) s) t → TakesTurn old new s t → IsStore old → IsStore new
+pub IsStore-turn : (old new : Inside) (s : ℕ) (t : Operated) → s < length old.streams.items → TurnKeeps (guests_of old.guests.items) (stream_at (state_of old) s) t → TakesTurn old new s t → IsStore old → IsStore new
 IsStore-turn old new s t l keeps h i =
     let before = stream_at (state_of old) s in
     let owners : is_live t.stream ≡ is_live before = rw (keeps.stream.writer, keeps.stream.reader) refl in

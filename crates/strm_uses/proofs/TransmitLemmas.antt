@@ -10,7 +10,7 @@ use Rattle.strm_memory.specs.Bytes.{IsBytes}
 use Rattle.strm_memory.specs.Items.{decode_from, encode_from, items, stored}
 use Rattle.strm_machine.specs.Acts.{act_of}
 use Rattle.strm_machine.specs.State.{State, empty, memory_in, stream_at}
-use Rattle.strm_machine.specs.Turns.{turn}
+use Rattle.strm_machine.specs.Operating.{operate}
 use Rattle.strm_machine.specs.Endings.{delivered}
 use Rattle.strm_machine.specs.Refusals.{refusal}
 use Rattle.strm_machine.specs.Making.{with_stream}
@@ -89,19 +89,19 @@ unfolding reaction refusal performs with_stream
 written_alone x y z = refl
 
 read_alone : (x y z : ℕ) → touches (lone (written (x ∷ y ∷ z ∷ [])).state) (act_of (steps.Read 1 bytes_type 1 0 3)) ≡ false
-unfolding reaction refusal performs with_stream turn decode_from encode_from items stored
+unfolding reaction refusal performs with_stream operate decode_from encode_from items stored
 read_alone x y z = refl
 
 read_is : (x y z : ℕ) → code_in (read (x ∷ y ∷ z ∷ [])).reply ≡ Completed 3
-unfolding reaction refusal performs with_stream turn decode_from encode_from items stored
+unfolding reaction refusal performs with_stream operate decode_from encode_from items stored
 read_is x y z = refl
 
 told_is : (x y z : ℕ) → event_in (told (x ∷ y ∷ z ∷ [])).reply ≡ Some (Completed 3)
-unfolding reaction refusal performs with_stream turn delivered decode_from encode_from items stored
+unfolding reaction refusal performs with_stream operate delivered decode_from encode_from items stored
 told_is x y z = refl
 
 moved_is : (x y z : ℕ) → (stream_at (told (x ∷ y ∷ z ∷ [])).state 0).received ≡ 3
-unfolding reaction refusal performs with_stream turn delivered decode_from encode_from items stored
+unfolding reaction refusal performs with_stream operate delivered decode_from encode_from items stored
 moved_is x y z = refl
 
 in_byte : ℕ → ℕ
@@ -112,7 +112,7 @@ unfolding in_byte
 byte_is x h = omega (arith, h)
 
 memory_is : (x y z : ℕ) → x < 256 → y < 256 → z < 256 → take 3 (memory_in (told (x ∷ y ∷ z ∷ [])).state.guests 1) ≡ x ∷ y ∷ z ∷ []
-unfolding reaction refusal performs with_stream turn delivered decode_from encode_from items stored in_byte
+unfolding reaction refusal performs with_stream operate delivered decode_from encode_from items stored in_byte
 memory_is x y z a b c =
     let raw : take 3 (memory_in (told (x ∷ y ∷ z ∷ [])).state.guests 1) ≡ in_byte x ∷ in_byte y ∷ in_byte z ∷ [] = refl in
     raw ∙ ap (λ n. n ∷ in_byte y ∷ in_byte z ∷ []) (byte_is x a) ∙ ap (λ n. x ∷ n ∷ in_byte z ∷ []) (byte_is y b) ∙ ap (λ n. x ∷ y ∷ n ∷ []) (byte_is z c)

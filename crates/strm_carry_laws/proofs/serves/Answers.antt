@@ -3,13 +3,13 @@ use Rattle.std.proofs.lemmas.Bool.{le-ltb, lt-ltb, lt-leb, ne_eqb}
 use Rattle.std.proofs.lemmas.List.{length-take-le, get_or-take, get_or-drop, get_or_default}
 use Rattle.strm_machine.specs.Reactions.{reaction, performs}
 use Rattle.strm_machine.specs.Refusals.{refusal}
-use Rattle.strm_machine.specs.Turns.{turn}
+use Rattle.strm_machine.specs.Operating.{operate}
 use Rattle.strm_machine.specs.Making.{with_stream}
 use Rattle.strm_memory.proofs.AppendLemmas.{items-bytes, stored-bytes}
 use Rattle.strm_carry_laws.proofs.serves.Goals as goal
 
 pub returns : goal.returns
-unfolding reaction performs refusal turn with_stream
+unfolding reaction performs refusal operate with_stream
 returns c = λ m0 m1 n a i j r met t h g u p q x y.
     let few : r < 268435456 = omega arith in
     let fits : 0 + 1 * r ≤ length m1 = omega arith in

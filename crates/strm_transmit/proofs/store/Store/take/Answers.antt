@@ -1,7 +1,7 @@
 use Rattle.std.proofs.Common.{ap, sym, refl, ◌∙◌, set, subst, arith}
 use Rattle.std.proofs.lemmas.Grind.{common_steps}
-use Rattle.strm_machine.specs.Turns.{Turn, turn}
-use Rattle.strm_machine.proofs.TurnLemmas.{turn-keeps}
+use Rattle.strm_machine.specs.Operating.{Operated, operate}
+use Rattle.strm_machine.proofs.TurnLemmas.{operated-keeps}
 use Rattle.strm_machine.proofs.SoundLemmas.{placed_at}
 use Rattle.strm_channels.specs.Guests.{guests_of}
 use Rattle.strm_transmit.specs.Inside.{state_of}
@@ -11,10 +11,10 @@ use Rattle.strm_transmit.proofs.store.Store.take.Goals as goal
 
 pub invariant_of-self : goal.invariant_of-self
 invariant_of-self c =
-    let e = ap (λ s. turn c.args.side (guests_of c.self.inside.guests.items) s c.args.mine) (stream_at-there c.self.inside c.args.stream c.index_mut-meeting.result.now (rw (← c.self.view_is) at c.requires.there) c.index_mut-meeting.ensures.value) ∙ c.meet_or_wait-taken.ensures in
+    let e = ap (λ s. operate c.args.side (guests_of c.self.inside.guests.items) s c.args.mine) (stream_at-there c.self.inside c.args.stream c.index_mut-meeting.result.now (rw (← c.self.view_is) at c.requires.there) c.index_mut-meeting.ensures.value) ∙ c.meet_or_wait-taken.ensures in
     let there = rw (← c.self.view_is) at c.requires.there in
     IsStore-turn c.self.inside _ c.args.stream _ there
-    (turn-keeps c.args.side _ _ c.args.mine (placed_at (state_of c.self.inside) c.args.stream there c.self.invariant.sound) (rw (← c.self.view_is) at c.requires.mine))
+    (operated-keeps c.args.side _ _ c.args.mine (placed_at (state_of c.self.inside) c.args.stream there c.self.invariant.sound) (rw (← c.self.view_is) at c.requires.mine))
     (record {
       tag = refl;
       limits = refl;
@@ -26,18 +26,18 @@ invariant_of-self c =
       live_streams = refl;
       live_sets = refl;
       bytes = refl;
-      guests = sym (ap (λ (t : Turn). t.guests) e);
-      streams = sym (ap (λ (t : Turn). set c.self.inside.streams.items c.args.stream t.stream) e);
-      retold = subst (λ (t : Turn). Retells t.guests t.stream c.self.inside.ready.items c.retell.new.ready.items) (sym e) c.retell.ensures;
+      guests = sym (ap (λ (t : Operated). t.guests) e);
+      streams = sym (ap (λ (t : Operated). set c.self.inside.streams.items c.args.stream t.stream) e);
+      retold = subst (λ (t : Operated). Retells t.guests t.stream c.self.inside.ready.items c.retell.new.ready.items) (sym e) c.retell.ensures;
     })
     c.self.invariant
 
 pub invariant_of-self-in-Err : goal.invariant_of-self-in-Err
 invariant_of-self-in-Err c =
-    let e = ap (λ s. turn c.args.side (guests_of c.self.inside.guests.items) s c.args.mine) (stream_at-there c.self.inside c.args.stream c.index_mut-meeting.result.now (rw (← c.self.view_is) at c.requires.there) c.index_mut-meeting.ensures.value) ∙ c.meet_or_wait-taken.ensures in
+    let e = ap (λ s. operate c.args.side (guests_of c.self.inside.guests.items) s c.args.mine) (stream_at-there c.self.inside c.args.stream c.index_mut-meeting.result.now (rw (← c.self.view_is) at c.requires.there) c.index_mut-meeting.ensures.value) ∙ c.meet_or_wait-taken.ensures in
     let there = rw (← c.self.view_is) at c.requires.there in
     IsStore-turn c.self.inside _ c.args.stream _ there
-    (turn-keeps c.args.side _ _ c.args.mine (placed_at (state_of c.self.inside) c.args.stream there c.self.invariant.sound) (rw (← c.self.view_is) at c.requires.mine))
+    (operated-keeps c.args.side _ _ c.args.mine (placed_at (state_of c.self.inside) c.args.stream there c.self.invariant.sound) (rw (← c.self.view_is) at c.requires.mine))
     (record {
       tag = refl;
       limits = refl;
@@ -49,9 +49,9 @@ invariant_of-self-in-Err c =
       live_streams = refl;
       live_sets = refl;
       bytes = refl;
-      guests = sym (ap (λ (t : Turn). t.guests) e);
-      streams = sym (ap (λ (t : Turn). set c.self.inside.streams.items c.args.stream t.stream) e);
-      retold = subst (λ (t : Turn). Retells t.guests t.stream c.self.inside.ready.items c.retell.new.ready.items) (sym e) c.retell.ensures;
+      guests = sym (ap (λ (t : Operated). t.guests) e);
+      streams = sym (ap (λ (t : Operated). set c.self.inside.streams.items c.args.stream t.stream) e);
+      retold = subst (λ (t : Operated). Retells t.guests t.stream c.self.inside.ready.items c.retell.new.ready.items) (sym e) c.retell.ensures;
     })
     c.self.invariant
 
