@@ -2,3 +2,4 @@ pub mod TransmitLemmas
 pub mod BufferLemmas
 pub mod LaneFacts
 pub mod RunFacts
+pub mod TapeFacts

@@ -11,4 +11,5 @@ pub mod lanes;
 pub mod memory;
 pub mod resources;
 pub mod session;
+pub mod tape;
 pub mod transmit;
