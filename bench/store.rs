@@ -1,5 +1,6 @@
 //! A store of streams in plain Rust, without proofs, with the same tests of each call as that of
-//! `strm_transmit`: reads, writes and events of two ends.
+//! `strm_transmit`: reads, writes and events of two ends, which are made and dropped. Handles and places that
+//! are free stand in lists, and are given again.
 //!
 //! `rounds.rs`, `shared.rs` and `embed/bench` use it.
 
@@ -111,13 +112,20 @@ pub struct Handle {
 pub struct Guest {
     pub memory: Vec<u8>,
     pub handles: Vec<Option<Handle>>,
+    pub freed: Vec<u32>,
 }
 
 pub struct Store {
     pub guests: Vec<Guest>,
     pub streams: Vec<Stream>,
+    pub gone: Vec<u32>,
+    pub live_handles: usize,
     pub is_trapped: bool,
 }
+
+// The most live handles, and the most streams that are there.
+const HANDLES: usize = 1_000_000;
+const STREAMS: usize = 1_000_000 / 3;
 
 #[derive(Clone, Copy, Debug)]
 pub enum Refusal {
@@ -131,6 +139,11 @@ pub enum Refusal {
     Concurrent,
     Ended,
     IntraComponent,
+    WrongEnd,
+    Busy,
+    WithoutValue,
+    HandleLimit,
+    Full,
     Trapped,
     BadItem,
 }
@@ -169,24 +182,95 @@ fn is_char(bytes: &[u8]) -> bool {
 
 impl Store {
     pub fn new() -> Store {
-        Store { guests: Vec::new(), streams: Vec::new(), is_trapped: false }
+        Store { guests: Vec::new(), streams: Vec::new(), gone: Vec::new(), live_handles: 0, is_trapped: false }
     }
 
     pub fn add_guest(&mut self, size: usize) -> u32 {
-        self.guests.push(Guest { memory: vec![0; size], handles: Vec::new() });
+        self.guests.push(Guest { memory: vec![0; size], handles: Vec::new(), freed: Vec::new() });
         self.guests.len() as u32 - 1
     }
 
+    #[allow(dead_code)]
+    pub fn may_make(&self, writer: u32, reader: u32) -> Result<(), Refusal> {
+        if self.is_trapped {
+            return Err(Refusal::Trapped);
+        }
+        if writer.max(reader) as usize >= self.guests.len() {
+            return Err(Refusal::UnknownGuest);
+        }
+        if self.live_handles + 2 > HANDLES {
+            return Err(Refusal::HandleLimit);
+        }
+        if self.streams.len() - self.gone.len() >= STREAMS {
+            return Err(Refusal::Full);
+        }
+        Ok(())
+    }
+
     pub fn new_between(&mut self, writer: u32, reader: u32, kind: Kind, payload: Payload) -> (u32, u32) {
-        let stream = self.streams.len() as u32;
         let idle = End { is_gone: false, told: false, operation: None };
-        self.streams.push(Stream { kind, payload, passed: false, ends: [idle; 2], received: 0 });
+        let made = Stream { kind, payload, passed: false, ends: [idle; 2], received: 0 };
+        let stream = match self.gone.pop() {
+            Some(stream) => {
+                self.streams[stream as usize] = made;
+                stream
+            }
+            None => {
+                self.streams.push(made);
+                self.streams.len() as u32 - 1
+            }
+        };
+        self.live_handles += 2;
         let mut insert = |guest: u32, side| {
-            let handles = &mut self.guests[guest as usize].handles;
-            handles.push(Some(Handle { kind, payload, side, stream }));
-            handles.len() as u32
+            let Guest { handles, freed, .. } = &mut self.guests[guest as usize];
+            let entry = Some(Handle { kind, payload, side, stream });
+            match freed.pop() {
+                Some(handle) => {
+                    handles[handle as usize - 1] = entry;
+                    handle
+                }
+                None => {
+                    handles.push(entry);
+                    handles.len() as u32
+                }
+            }
         };
         (insert(reader, Side::Reading), insert(writer, Side::Writing))
+    }
+
+    #[allow(dead_code)]
+    pub fn drop_end(&mut self, side: Side, guest: u32, kind: Kind, payload: Payload, handle: u32) -> Result<(), Refusal> {
+        if self.is_trapped {
+            return Err(Refusal::Trapped);
+        }
+        let Some(holder) = self.guests.get_mut(guest as usize) else { return Err(Refusal::UnknownGuest) };
+        let Some(slot) = holder.handles.get_mut((handle as usize).wrapping_sub(1)) else { return Err(Refusal::UnknownHandle) };
+        let Some(found) = slot else { return Err(Refusal::UnknownHandle) };
+        if found.kind != kind {
+            return Err(Refusal::WrongKind);
+        }
+        if found.payload != payload {
+            return Err(Refusal::WrongType);
+        }
+        if found.side != side {
+            return Err(Refusal::WrongEnd);
+        }
+        let (number, stream) = (found.stream, &mut self.streams[found.stream as usize]);
+        let end = &mut stream.ends[side as usize];
+        if end.operation.is_some() {
+            return Err(Refusal::Busy);
+        }
+        if kind == Kind::Future && side == Side::Writing && !stream.passed && !end.told {
+            return Err(Refusal::WithoutValue);
+        }
+        end.is_gone = true;
+        if stream.ends[1 - side as usize].is_gone {
+            self.gone.push(number);
+        }
+        *slot = None;
+        holder.freed.push(handle);
+        self.live_handles -= 1;
+        Ok(())
     }
 
     pub fn find(&self, side: Side, guest: u32, kind: Kind, payload: &Payload, handle: u32, address: u32, count: u32) -> Result<u32, Refusal> {

@@ -110,7 +110,9 @@ enum {
     /* No stream has the number, or none of which an end is there. */
     STRM_UNKNOWN_STREAM = 68,
     /* The handle is of no store: it is {NULL}. */
-    STRM_NO_STORE = 69
+    STRM_NO_STORE = 69,
+    /* A guest that is there would get more than its limits allow. It is told before any refusal. */
+    STRM_GUEST_LIMIT = 72
 };
 
 /* A code, of a read, a write, a cancel or an event: STRM_BLOCKED where it waits, STRM_NO_EVENT where there is
@@ -132,6 +134,28 @@ enum { STRM_NOTHING, STRM_BOOL, STRM_S8, STRM_U8, STRM_S16, STRM_U16, STRM_S32, 
 typedef uint64_t strm_type;
 #define STRM_FUTURE ((strm_type)1 << 33)
 
+/* What a strm_handle tells by numbers: its `kind`, its `side`, and who has the `other` end. */
+enum {
+    /* The handle is of an end of a stream or future. */
+    STRM_KIND_END = 1,
+    /* The handle is of a waitable set. */
+    STRM_KIND_WAITABLE_SET = 2,
+    /* The handle is of an error context. */
+    STRM_KIND_ERROR_CONTEXT = 3,
+    /* The handle is of something that no call makes. */
+    STRM_KIND_OTHER = 4,
+    /* The end is the write end. */
+    STRM_SIDE_WRITING = 1,
+    /* The end is the read end. */
+    STRM_SIDE_READING = 2,
+    /* A guest has the other end. */
+    STRM_OTHER_GUEST = 1,
+    /* The other end is loose: it was lifted, and not lowered since. */
+    STRM_OTHER_LOOSE = 2,
+    /* The other end is gone: it was dropped or closed. */
+    STRM_OTHER_GONE = 3
+};
+
 /* A count of 128 bits: low + 2^64 * high. */
 typedef struct {
     uint64_t low;
@@ -144,8 +168,42 @@ typedef struct {
     uint32_t code;
 } strm_member;
 
+/* A handle of a guest, and what it is of. What is not told is 0, and an event STRM_NO_EVENT. */
+typedef struct {
+    /* Of an end, the type of its stream or future. */
+    strm_type type;
+    /* The handle's number; 0 where there is none. */
+    uint32_t handle;
+    /* What it is of, by its kind; 0 where there is no handle. */
+    uint32_t kind;
+    /* Of an end, which of the two it is. */
+    uint32_t side;
+    /* Of an end, the number of its stream or future. */
+    uint32_t stream;
+    /* Of an end, the code that it is to be told, and still is; else STRM_NO_EVENT. */
+    uint32_t event;
+    /* Of an end, who has the other one. */
+    uint32_t other;
+    /* The guest that has the other end, if one has. */
+    uint32_t other_guest;
+    /* The handle under which that guest has it. */
+    uint32_t other_handle;
+} strm_handle;
+
+/* How much a guest may have at once. UINT32_MAX handles or ends and UINT64_MAX bytes are no bound,
+   and hold of a guest until its limits are set. */
+typedef struct {
+    /* Bytes that the store keeps for it: 4,096 for each handle of an error context, the longest that a
+       message can be. */
+    uint64_t bytes;
+    /* Handles, of whatever kind. */
+    uint32_t handles;
+    /* Ends of streams and futures among them, so it is at that many streams and futures at most. */
+    uint32_t ends;
+} strm_limits;
+
 /* The handles of a new stream's or future's two ends, each in the table of the guest that has it, and
-   the number of the stream or future: they are numbered from 0, and no number is given again. */
+   the number of the stream or future, which no other has until both its ends are gone. */
 typedef struct {
     uint32_t read;
     uint32_t write;
@@ -169,14 +227,17 @@ uint64_t strm_tag(strm_store *store);
    changes it; not so of {NULL}. */
 bool strm_trapped(strm_store *store);
 
-/* How many streams and futures were made so far; 0 of {NULL}. */
+/* The numbers that streams and futures got so far are below this; 0 of {NULL}. One is given again
+   once both ends of its stream are gone, so it never passes a third of `places`: a store keeps room
+   for no more streams than that, and no making is refused since streams were made and dropped before. */
 uint32_t strm_streams(strm_store *store);
 
-/* Puts at `out` how many items were received on a stream so far. STRM_UNKNOWN_STREAM where it was
-   never made. */
+/* Puts at `out` how many items were received so far on the stream that got this number last.
+   STRM_UNKNOWN_STREAM where none got it. */
 strm_status strm_moved(strm_store *store, uint32_t stream, strm_count *out);
 
-/* Puts at `out` the type of a stream of which an end is there. STRM_UNKNOWN_STREAM of any other. */
+/* Puts at `out` the type of the stream that has this number, while an end of it is there.
+   STRM_UNKNOWN_STREAM of any other. */
 strm_status strm_transmit_index(strm_store *store, uint32_t stream, strm_type *out);
 
 /* GUESTS AND THEIR MEMORIES */
@@ -204,8 +265,9 @@ strm_status strm_memory_at(strm_store *store, uint32_t guest, uint8_t **out, siz
 /* STREAMS */
 
 /* Makes a stream whose two ends the guest gets, and puts their handles and the stream's number at
-   `out`. `canon stream.new`. Refused: STRM_UNKNOWN_GUEST, STRM_INDEX_OVERFLOW, STRM_HANDLE_LIMIT,
-   STRM_FULL. STRM_OUT_OF_MEMORY, STRM_UNKNOWN_PAYLOAD. */
+   `out`, which may be that of a stream both of whose ends are gone. `canon stream.new`. Refused:
+   STRM_UNKNOWN_GUEST, STRM_INDEX_OVERFLOW, STRM_HANDLE_LIMIT, STRM_FULL. STRM_GUEST_LIMIT,
+   STRM_OUT_OF_MEMORY, STRM_UNKNOWN_PAYLOAD. */
 strm_status strm_stream_new(strm_store *store, uint32_t guest, strm_payload payload, strm_pair *out);
 
 /* Writes `count` items that lie from `address` of the guest's memory on, and puts the code at `out`.
@@ -256,8 +318,9 @@ strm_status strm_take_event(strm_store *store, uint32_t guest, uint32_t handle, 
 /* FUTURES, AS STREAMS OF ONE VALUE */
 
 /* Makes a future whose two ends the guest gets, and puts their handles and the future's number at
-   `out`. `canon future.new`. Refused: STRM_UNKNOWN_GUEST, STRM_INDEX_OVERFLOW, STRM_HANDLE_LIMIT,
-   STRM_FULL. STRM_OUT_OF_MEMORY, STRM_UNKNOWN_PAYLOAD. */
+   `out`, as strm_stream_new does. `canon future.new`. Refused: STRM_UNKNOWN_GUEST,
+   STRM_INDEX_OVERFLOW, STRM_HANDLE_LIMIT, STRM_FULL. STRM_GUEST_LIMIT, STRM_OUT_OF_MEMORY,
+   STRM_UNKNOWN_PAYLOAD. */
 strm_status strm_future_new(strm_store *store, uint32_t guest, strm_payload payload, strm_pair *out);
 
 /* Writes the value that lies at `address` of the guest's memory, and puts the code at `out`. `canon
@@ -300,35 +363,36 @@ strm_status strm_future_drop_readable(
 /* ENDS FROM GUEST TO GUEST */
 
 /* Makes a stream or future from one guest to another, which may be the same, and puts the handles of
-   its ends and its number at `out`. Refused: STRM_UNKNOWN_GUEST, STRM_INDEX_OVERFLOW,
-   STRM_HANDLE_LIMIT, STRM_FULL. STRM_OUT_OF_MEMORY, STRM_UNKNOWN_PAYLOAD. */
+   its ends and its number at `out`, as strm_stream_new does. Refused: STRM_UNKNOWN_GUEST,
+   STRM_INDEX_OVERFLOW, STRM_HANDLE_LIMIT, STRM_FULL. STRM_GUEST_LIMIT, STRM_OUT_OF_MEMORY,
+   STRM_UNKNOWN_PAYLOAD. */
 strm_status strm_new_between(
     strm_store *store, uint32_t writer, uint32_t reader, strm_type type, strm_pair *out);
 
 /* Moves an end of a stream, read or write, to the guest `to`, which may be the same, and puts its
    handle there at `out`. Refused: STRM_UNKNOWN_GUEST, STRM_UNKNOWN_HANDLE, STRM_WRONG_KIND,
    STRM_WRONG_TYPE, STRM_BUSY, STRM_LIFT_DROPPED, STRM_LIFT_IN_SET, STRM_INDEX_OVERFLOW.
-   STRM_OUT_OF_MEMORY, where the two guests differ; STRM_UNKNOWN_PAYLOAD. */
+   STRM_GUEST_LIMIT, STRM_OUT_OF_MEMORY, where the two guests differ; STRM_UNKNOWN_PAYLOAD. */
 strm_status strm_stream_transfer(
     strm_store *store, uint32_t guest, strm_payload payload, uint32_t handle, uint32_t to, uint32_t *out);
 
 /* Moves an end of a future, read or write, to the guest `to`, which may be the same, and puts its
    handle there at `out`. Refused: STRM_UNKNOWN_GUEST, STRM_UNKNOWN_HANDLE, STRM_WRONG_KIND,
    STRM_WRONG_TYPE, STRM_BUSY, STRM_LIFT_DROPPED, STRM_LIFT_IN_SET, STRM_INDEX_OVERFLOW.
-   STRM_OUT_OF_MEMORY, where the two guests differ; STRM_UNKNOWN_PAYLOAD. */
+   STRM_GUEST_LIMIT, STRM_OUT_OF_MEMORY, where the two guests differ; STRM_UNKNOWN_PAYLOAD. */
 strm_status strm_future_transfer(
     strm_store *store, uint32_t guest, strm_payload payload, uint32_t handle, uint32_t to, uint32_t *out);
 
 /* Takes a read end out of a guest, and puts the number of its stream at `out`, by which strm_lower
-   and strm_close name it. Refused: STRM_UNKNOWN_GUEST, STRM_UNKNOWN_HANDLE, STRM_WRONG_KIND,
-   STRM_WRONG_TYPE, STRM_WRONG_END, STRM_BUSY, STRM_LIFT_DROPPED, STRM_LIFT_IN_SET.
-   STRM_UNKNOWN_PAYLOAD. */
+   and strm_close name it: while the end is loose no other stream gets that number. Refused:
+   STRM_UNKNOWN_GUEST, STRM_UNKNOWN_HANDLE, STRM_WRONG_KIND, STRM_WRONG_TYPE, STRM_WRONG_END,
+   STRM_BUSY, STRM_LIFT_DROPPED, STRM_LIFT_IN_SET. STRM_UNKNOWN_PAYLOAD. */
 strm_status strm_lift(
     strm_store *store, uint32_t guest, strm_type type, uint32_t handle, uint32_t *out);
 
 /* Gives a guest the loose read end of a stream, and puts its handle at `out`. Refused:
    STRM_UNKNOWN_GUEST, STRM_UNKNOWN_READER, STRM_WRONG_KIND, STRM_WRONG_TYPE, STRM_INDEX_OVERFLOW,
-   STRM_HANDLE_LIMIT. STRM_OUT_OF_MEMORY, STRM_UNKNOWN_PAYLOAD. */
+   STRM_HANDLE_LIMIT. STRM_GUEST_LIMIT, STRM_OUT_OF_MEMORY, STRM_UNKNOWN_PAYLOAD. */
 strm_status strm_lower(
     strm_store *store, uint32_t reader, uint32_t guest, strm_type type, uint32_t *out);
 
@@ -338,7 +402,8 @@ strm_status strm_close(strm_store *store, uint32_t reader);
 /* WAITABLE SETS */
 
 /* Makes a waitable set, and puts its handle at `out`. `canon waitable-set.new`. Refused:
-   STRM_UNKNOWN_GUEST, STRM_INDEX_OVERFLOW, STRM_HANDLE_LIMIT, STRM_FULL. STRM_OUT_OF_MEMORY. */
+   STRM_UNKNOWN_GUEST, STRM_INDEX_OVERFLOW, STRM_HANDLE_LIMIT, STRM_FULL. STRM_GUEST_LIMIT,
+   STRM_OUT_OF_MEMORY. */
 strm_status strm_set_new(strm_store *store, uint32_t guest, uint32_t *out);
 
 /* An end joins a set, and leaves the one that it was in; of set 0 it leaves that alone. `canon
@@ -360,7 +425,7 @@ strm_status strm_set_drop(strm_store *store, uint32_t guest, uint32_t set);
 /* Makes an error context of `len` bytes from `address` of the guest's memory on, its message, and
    puts its handle at `out`. `canon error-context.new`. Refused: STRM_UNKNOWN_GUEST,
    STRM_MESSAGE_TOO_LONG, STRM_OUT_OF_BOUNDS, STRM_BAD_TEXT, STRM_INDEX_OVERFLOW, STRM_HANDLE_LIMIT,
-   STRM_FULL. STRM_OUT_OF_MEMORY. */
+   STRM_FULL. STRM_GUEST_LIMIT, STRM_OUT_OF_MEMORY. */
 strm_status strm_error_context_new(
     strm_store *store, uint32_t guest, uint32_t address, uint32_t len, uint32_t *out);
 
@@ -372,7 +437,7 @@ strm_status strm_error_context_message(
 
 /* Gives the guest `to` a handle to an error context, and puts it at `out`; the first guest keeps its
    own. Refused: STRM_UNKNOWN_GUEST, STRM_UNKNOWN_HANDLE, STRM_WRONG_KIND, STRM_INDEX_OVERFLOW,
-   STRM_HANDLE_LIMIT. STRM_OUT_OF_MEMORY. */
+   STRM_HANDLE_LIMIT. STRM_GUEST_LIMIT, STRM_OUT_OF_MEMORY. */
 strm_status strm_error_context_transfer(
     strm_store *store, uint32_t guest, uint32_t handle, uint32_t to, uint32_t *out);
 
@@ -381,13 +446,43 @@ strm_status strm_error_context_transfer(
 strm_status strm_error_context_rep(strm_store *store, uint32_t guest, uint32_t handle, uint32_t *out);
 
 /* Gives a guest a handle to the error context of a number, and puts it at `out`. Refused:
-   STRM_UNKNOWN_GUEST, STRM_UNKNOWN_HANDLE, STRM_INDEX_OVERFLOW, STRM_HANDLE_LIMIT.
+   STRM_UNKNOWN_GUEST, STRM_UNKNOWN_HANDLE, STRM_INDEX_OVERFLOW, STRM_HANDLE_LIMIT. STRM_GUEST_LIMIT,
    STRM_OUT_OF_MEMORY. */
 strm_status strm_error_context_lower(strm_store *store, uint32_t rep, uint32_t guest, uint32_t *out);
 
 /* Gives up a handle of an error context, and the context with the last. `canon error-context.drop`.
    Refused: STRM_UNKNOWN_GUEST, STRM_UNKNOWN_HANDLE, STRM_WRONG_KIND. */
 strm_status strm_error_context_drop(strm_store *store, uint32_t guest, uint32_t handle);
+
+/* WHAT IS ASKED OF A GUEST'S HANDLES */
+
+/* Puts at `out` what a handle of a guest is of, and of an end all that a runtime asks of it. Nothing
+   is taken of what it is to be told; also of a store that was trapped. Refused: STRM_UNKNOWN_GUEST,
+   STRM_UNKNOWN_HANDLE. */
+strm_status strm_handle_info(strm_store *store, uint32_t guest, uint32_t handle, strm_handle *out);
+
+/* Puts at `out` the least handle of a guest above `after`, and what it is of, as strm_handle_info
+   does; where no handle is above it, its number and kind are 0. From 0 on, and then from each handle,
+   it tells all of them, and goes over the guest's table once; also of a store that was trapped.
+   Refused: STRM_UNKNOWN_GUEST. */
+strm_status strm_next_handle(strm_store *store, uint32_t guest, uint32_t after, strm_handle *out);
+
+/* Puts at `out` how many handles a guest has, and looks at none of them; also of a store that was
+   trapped. Refused: STRM_UNKNOWN_GUEST. */
+strm_status strm_handle_count(strm_store *store, uint32_t guest, uint32_t *out);
+
+/* HOW MUCH EACH GUEST MAY HAVE AT ONCE */
+
+/* Sets how much a guest may have at once: handles of whatever kind, ends of streams and futures among
+   them, and bytes that the store keeps for it, 4,096 for each handle of an error context. What it has
+   stays, also where that is more; it only gets no more of it. Also of a store that was trapped. It
+   takes 16 bytes for each guest up to this one. Refused: STRM_UNKNOWN_GUEST. STRM_OUT_OF_MEMORY. */
+strm_status strm_set_guest_limits(
+    strm_store *store, uint32_t guest, uint32_t handles, uint32_t ends, uint64_t bytes);
+
+/* Puts at `out` how much a guest may have at once; also of a store that was trapped. Refused:
+   STRM_UNKNOWN_GUEST. */
+strm_status strm_guest_limits(strm_store *store, uint32_t guest, strm_limits *out);
 
 #ifdef __cplusplus
 }

@@ -20,7 +20,7 @@ pub enum Answer {
 const MOST_ITEMS: u64 = u32::MAX as u64 - 1;
 
 /// How a host writer goes about it.
-#[derive(Debug)]
+#[derive(Clone, Debug)]
 enum Writing {
     /// It gives what it was fed.
     Queue { fed: Items, is_ended: bool },
@@ -31,7 +31,7 @@ enum Writing {
 }
 
 /// A host writer.
-#[derive(Debug)]
+#[derive(Clone, Debug)]
 pub struct HostWriter {
     pub ty: TransmitIndex,
     writing: Writing,
@@ -160,7 +160,7 @@ fn poll_queue(
 }
 
 /// How a host reader goes about it.
-#[derive(Debug)]
+#[derive(Clone, Debug)]
 enum Reading {
     /// It takes as many items as it was granted.
     Credit { credit: u64, is_ended: bool },
@@ -169,7 +169,7 @@ enum Reading {
 }
 
 /// A host reader.
-#[derive(Debug)]
+#[derive(Clone, Debug)]
 pub struct HostReader {
     pub ty: TransmitIndex,
     reading: Reading,
@@ -263,7 +263,7 @@ fn answer_of_credit(
 }
 
 /// The host ends that a run has.
-#[derive(Debug, Default)]
+#[derive(Clone, Debug, Default)]
 pub struct Hosts {
     pub writers: Vec<HostWriter>,
     pub readers: Vec<HostReader>,

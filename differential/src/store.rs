@@ -26,11 +26,21 @@ const MOST_MEMORY: usize = 1 << 28;
 const MOST_GUESTS: usize = 1 << 20;
 
 /// The most live handles, and the most places: three for a stream, one for a set or an error context.
-const HANDLE_LIMIT: u32 = 1_000_000;
-const PLACE_LIMIT: u32 = 1_000_000;
+#[derive(Clone, Copy, Debug)]
+pub struct Limits {
+    pub handles: u64,
+    pub places: u64,
+}
+
+impl Default for Limits {
+    /// Those of the program.
+    fn default() -> Limits {
+        Limits { handles: 1_000_000, places: 1_000_000 }
+    }
+}
 
 /// A guest.
-#[derive(Debug, Default)]
+#[derive(Clone, Debug, Default)]
 pub struct Guest {
     pub memory: Vec<u8>,
     pub table: Table,
@@ -51,16 +61,17 @@ pub enum Reply<'a> {
 }
 
 /// Guests, streams and host ends.
-#[derive(Debug, Default)]
+#[derive(Clone, Debug, Default)]
 pub struct Store {
     pub guests: Vec<Guest>,
     /// All that were made, those that are gone too.
     pub streams: Vec<Stream>,
     pub hosts: Hosts,
     contexts: Contexts,
+    limits: Limits,
     memory: usize,
-    handles: u32,
-    places: u32,
+    handles: u64,
+    places: u64,
 }
 
 // Whether bytes of a region lie past the end of a memory; no bytes lie nowhere.
@@ -71,6 +82,11 @@ fn is_out_of_bounds(memory: &[u8], address: u32, len: u64) -> bool {
 impl Store {
     pub fn new(hosts: Hosts) -> Store {
         Store { hosts, ..Store::default() }
+    }
+
+    /// A store without host ends.
+    pub fn with_limits(limits: Limits) -> Store {
+        Store { limits, ..Store::default() }
     }
 
     fn guest(&self, guest: u32) -> Result<&Guest, Refusal> {
@@ -107,11 +123,11 @@ impl Store {
     }
 
     // Whether so many handles and places more are within the limits.
-    fn has_room(&self, handles: u32, places: u32) -> Result<(), Refusal> {
-        if self.handles + handles > HANDLE_LIMIT {
+    fn has_room(&self, handles: u64, places: u64) -> Result<(), Refusal> {
+        if self.handles + handles > self.limits.handles {
             return Err(Refusal::HandleLimit);
         }
-        if self.places + places > PLACE_LIMIT {
+        if self.places + places > self.limits.places {
             return Err(Refusal::Full);
         }
         Ok(())
@@ -127,7 +143,7 @@ impl Store {
         self.guests[guest as usize].table.remove(handle);
     }
 
-    fn add_guest(&mut self, size: u32) -> Result<u32, Refusal> {
+    pub fn add_guest(&mut self, size: u32) -> Result<u32, Refusal> {
         if self.memory + size as usize > MOST_MEMORY {
             return Err(Refusal::MemoryTooBig);
         }
@@ -146,33 +162,52 @@ impl Store {
     }
 
     fn new_between(&mut self, writer: u32, reader: u32, ty: TransmitIndex) -> Result<Reply<'_>, Refusal> {
-        self.guest(writer)?;
-        self.guest(reader)?;
-        self.has_room(2, 3)?;
-        let stream = self.add_stream(Stream::new(ty, Owner::Gone, Owner::Gone));
-        let read = self.insert(reader, Entry::End { stream, side: Side::Read });
-        let write = self.insert(writer, Entry::End { stream, side: Side::Write });
-        let made = &mut self.streams[stream as usize];
-        made[Side::Read].owner = Owner::Guest { guest: reader, handle: read };
-        made[Side::Write].owner = Owner::Guest { guest: writer, handle: write };
-        Ok(Reply::Pair { read, write, stream })
+        self.may_make(writer, reader)?;
+        Ok(self.make_at(self.streams.len() as u32, writer, reader, ty))
     }
 
-    fn poke(&mut self, guest: u32, address: u32, bytes: &[u8]) -> Result<Reply<'_>, Refusal> {
+    /// Whether a stream or future may be made between two guests.
+    pub fn may_make(&self, writer: u32, reader: u32) -> Result<(), Refusal> {
+        self.guest(writer)?;
+        self.guest(reader)?;
+        self.has_room(2, 3)
+    }
+
+    /// Makes one that may be made, under the number behind the last or that of one whose ends are gone.
+    pub fn make_at(&mut self, stream: u32, writer: u32, reader: u32, ty: TransmitIndex) -> Reply<'static> {
+        let read = self.insert(reader, Entry::End { stream, side: Side::Read });
+        let write = self.insert(writer, Entry::End { stream, side: Side::Write });
+        let writer = Owner::Guest { guest: writer, handle: write };
+        let made = Stream::new(ty, writer, Owner::Guest { guest: reader, handle: read });
+        match self.streams.get_mut(stream as usize) {
+            Some(gone) => {
+                *gone = made;
+                self.places += 3;
+            }
+            None => {
+                self.add_stream(made);
+            }
+        }
+        Reply::Pair { read, write, stream }
+    }
+
+    pub fn poke(&mut self, guest: u32, address: u32, bytes: &[u8]) -> Result<Reply<'_>, Refusal> {
         let memory = &mut self.guest_mut(guest)?.memory;
         if is_out_of_bounds(memory, address, bytes.len() as u64) {
             return Err(Refusal::OutOfBounds);
         }
-        memory[address as usize..][..bytes.len()].copy_from_slice(bytes);
+        if !bytes.is_empty() {
+            memory[address as usize..][..bytes.len()].copy_from_slice(bytes);
+        }
         Ok(Reply::Done)
     }
 
-    fn dump(&self, guest: u32, address: u32, len: u32) -> Result<Reply<'_>, Refusal> {
+    pub fn dump(&self, guest: u32, address: u32, len: u32) -> Result<Reply<'_>, Refusal> {
         let memory = &self.guest(guest)?.memory;
         if is_out_of_bounds(memory, address, u64::from(len)) {
             return Err(Refusal::OutOfBounds);
         }
-        Ok(Reply::Bytes(&memory[address as usize..][..len as usize]))
+        Ok(Reply::Bytes(if len == 0 { &[] } else { &memory[address as usize..][..len as usize] }))
     }
 
     fn feed(&mut self, host: u32, bytes: &[u8]) -> Result<Reply<'_>, Refusal> {

@@ -102,6 +102,11 @@ impl Stream {
         Stream { ty, passed: false, moved: 0, ends: [End::of(write), End::of(read)] }
     }
 
+    /// Whether an end is there.
+    pub fn is_live(&self) -> bool {
+        !(self[Side::Write].is_gone() && self[Side::Read].is_gone())
+    }
+
     /// The operation of an end, if it can meet another.
     pub fn open(&mut self, side: Side) -> Option<&mut Operation> {
         self[side].operation.as_mut().filter(|operation| operation.is_open)

@@ -28,6 +28,15 @@ impl Table {
         *self.entries.get((handle as usize).wrapping_sub(1))?
     }
 
+    /// How many handles were ever there at once: none is above that.
+    pub fn len(&self) -> u32 {
+        self.entries.len() as u32
+    }
+
+    pub fn is_empty(&self) -> bool {
+        self.entries.is_empty()
+    }
+
     pub fn insert(&mut self, entry: Entry) -> u32 {
         let freed = if planted(Fault::GivesOldestHandle) && !self.freed.is_empty() {
             Some(self.freed.remove(0))

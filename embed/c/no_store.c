@@ -101,6 +101,22 @@ static void tell_contexts_of_none(strm_store store) {
     expect(out == 7, "error contexts write nothing");
 }
 
+static void ask_handles_of_none(strm_store store) {
+    strm_handle told = {.type = 7, .handle = 7, .event = 7};
+    uint32_t out = 7;
+    HAS_NO_STORE(strm_handle_info(&store, 0, 1, &told));
+    HAS_NO_STORE(strm_next_handle(&store, 0, 0, &told));
+    HAS_NO_STORE(strm_handle_count(&store, 0, &out));
+    expect(told.type == 7 && told.handle == 7 && told.event == 7 && out == 7, "queries of handles write nothing");
+}
+
+static void limit_guests_of_none(strm_store store) {
+    strm_limits limits = {7, 7, 7};
+    HAS_NO_STORE(strm_set_guest_limits(&store, 0, 1, 2, 3));
+    HAS_NO_STORE(strm_guest_limits(&store, 0, &limits));
+    expect(limits.bytes == 7 && limits.handles == 7 && limits.ends == 7, "limits write nothing");
+}
+
 int main(void) {
     strm_store store = {NULL};
     strm_store_free(&store);
@@ -112,6 +128,8 @@ int main(void) {
     move_ends_of_none(store);
     join_sets_of_none(store);
     tell_contexts_of_none(store);
+    ask_handles_of_none(store);
+    limit_guests_of_none(store);
     expect(strm_store_new(&store, 7, 10, 10) == STRM_DONE && strm_tag(&store) == 7, "a store is made");
     strm_store_free(&store);
     strm_store_free(&store);

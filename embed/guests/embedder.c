@@ -1,7 +1,6 @@
 #include "embedder.h"
 
 #include <stdlib.h>
-#include <string.h>
 #include <wasm-rt-impl.h>
 
 /* It imports all of them, so what stands below is held to be what guests call. */
@@ -20,35 +19,21 @@ static void must(struct Z_canon_instance_t *guest, strm_status status) {
     wasm_rt_trap(WASM_RT_TRAP_UNREACHABLE);
 }
 
-void guest_has_end(struct Z_canon_instance_t *guest, uint32_t handle, uint32_t event) {
-    if (handle >= guest->known) {
-        uint32_t known = handle * 2 + 16;
-        uint8_t *events = realloc(guest->events, known);
-        if (events == NULL) abort();
-        memset(events + guest->known, 0, known - guest->known);
-        guest->events = events;
-        guest->known = known;
-    }
-    guest->events[handle] = event;
-}
-
-static uint64_t made(struct Z_canon_instance_t *guest, strm_status status, strm_pair pair, uint32_t read, uint32_t write) {
+static uint64_t made(struct Z_canon_instance_t *guest, strm_status status, strm_pair pair) {
     must(guest, status);
-    guest_has_end(guest, pair.read, read);
-    guest_has_end(guest, pair.write, write);
     return pair.read | (uint64_t)pair.write << 32;
 }
 
 u64 Z_canonZ_streamZ2Enew(struct Z_canon_instance_t *g) {
     strm_pair pair = {0, 0, 0};
     strm_status status = strm_stream_new(g->store, g->number, STRM_U8, &pair);
-    return made(g, status, pair, EVENT_STREAM_READ, EVENT_STREAM_WRITE);
+    return made(g, status, pair);
 }
 
 u64 Z_canonZ_futureZ2Enew(struct Z_canon_instance_t *g) {
     strm_pair pair = {0, 0, 0};
     strm_status status = strm_future_new(g->store, g->number, STRM_U32, &pair);
-    return made(g, status, pair, EVENT_FUTURE_READ, EVENT_FUTURE_WRITE);
+    return made(g, status, pair);
 }
 
 /* A built-in that answers a code: the call's own arguments stand between the payload and `&code`. */
@@ -107,12 +92,21 @@ void Z_canonZ_waitableZ2DsetZ2Edrop(struct Z_canon_instance_t *g, u32 set) {
     must(g, strm_set_drop(g->store, g->number, set));
 }
 
+/* The event that tells of an end of the guest, which the store is asked: no table of ends is kept here. */
+static uint32_t event_of(struct Z_canon_instance_t *g, uint32_t handle) {
+    strm_handle end;
+    if (strm_handle_info(g->store, g->number, handle, &end) != STRM_DONE) abort();
+    bool reads = end.side == STRM_SIDE_READING;
+    if (end.type & STRM_FUTURE) return reads ? EVENT_FUTURE_READ : EVENT_FUTURE_WRITE;
+    return reads ? EVENT_STREAM_READ : EVENT_STREAM_WRITE;
+}
+
 /* The event of a set: its code, and where there is one the end's handle and what it is told. */
 static strm_status poll(struct Z_canon_instance_t *g, uint32_t set, uint32_t *event, uint32_t told[2]) {
     strm_member member = {0, STRM_NO_EVENT};
     strm_status status = strm_set_poll(g->store, g->number, set, &member);
     bool is_event = status == STRM_DONE && member.code != STRM_NO_EVENT;
-    *event = is_event ? g->events[member.handle] : EVENT_NONE;
+    *event = is_event ? event_of(g, member.handle) : EVENT_NONE;
     told[0] = is_event ? member.handle : 0;
     told[1] = is_event ? member.code : 0;
     return status;
@@ -163,7 +157,6 @@ guest *guest_new(strm_store *store, const program *program) {
 
 void guest_free(guest *guest) {
     guest->program->unmake(guest->instance);
-    free(guest->canon.events);
     free(guest);
 }
 
@@ -179,8 +172,6 @@ static void enter(guest *guest, bool begins, uint32_t a, uint32_t b, uint32_t c)
 }
 
 void guest_run(guest *guest, uint32_t in, uint32_t out, uint32_t size) {
-    guest_has_end(&guest->canon, in, EVENT_STREAM_READ);
-    guest_has_end(&guest->canon, out, EVENT_STREAM_WRITE);
     enter(guest, true, in, out, size);
 }
 

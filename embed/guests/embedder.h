@@ -19,9 +19,6 @@
 struct Z_canon_instance_t {
     strm_store *store;
     uint32_t number;
-    /* The event that tells of an end, by its handle. */
-    uint8_t *events;
-    uint32_t known;
     /* Why the guest trapped, if a refusal did it. */
     strm_status refused;
 };
@@ -51,9 +48,6 @@ typedef struct {
 /* Adds a guest to a store; NULL where there is no memory for it. */
 guest *guest_new(strm_store *store, const program *program);
 void guest_free(guest *guest);
-
-/* Tells the guest's embedder that the guest was given an end: of a stream to read, of one to write .. */
-void guest_has_end(struct Z_canon_instance_t *canon, uint32_t handle, uint32_t event);
 
 /* Calls `run`, with an end to read and one to write, 0 for none. */
 void guest_run(guest *guest, uint32_t in, uint32_t out, uint32_t size);

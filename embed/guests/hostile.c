@@ -1,5 +1,6 @@
 /* Calls one import after the other, or has its memory grow, at random, with arguments at random. Each call of
-   `attack` is one such call; what is refused traps the guest there. */
+   `attack` is one such call; what is refused traps the guest there. `flood` makes and drops streams, as many as
+   it is let. */
 #include "canon.h"
 
 static uint32_t seed = 1;
@@ -57,3 +58,11 @@ EXPORT("attack") void attack(void) {
 }
 
 EXPORT("wrong") uint32_t get_wrong(void) { return wrong; }
+
+EXPORT("flood") void flood(uint32_t rounds) {
+    for (; rounds > 0; rounds--) {
+        uint64_t ends = stream_new();
+        stream_drop_writable((uint32_t)(ends >> 32));
+        stream_drop_readable((uint32_t)ends);
+    }
+}

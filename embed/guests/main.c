@@ -158,6 +158,25 @@ static bool attack(guest *guest) {
     return true;
 }
 
+/* Whether the hostile guest makes and drops so many streams. */
+static bool flood(guest *guest, uint32_t rounds) {
+    if (wasm_rt_impl_try() != WASM_RT_TRAP_NONE) return false;
+    Z_hostileZ_flood(guest->instance, rounds);
+    return true;
+}
+
+/* In a store of ten handles and ten places, whatever memory the process may have. */
+static void run_flood(uint32_t rounds) {
+    strm_store store = {NULL};
+    must(strm_store_new(&store, 1, 10, 10) == STRM_DONE, "no store");
+    guest *enemy = guest_new(&store, &hostile);
+    must(enemy != NULL, "no guest");
+    must(flood(enemy, rounds), "the hostile guest was refused a stream");
+    printf("flood: %u streams made and dropped\n", rounds);
+    guest_free(enemy);
+    strm_store_free(&store);
+}
+
 /* Whether a guest's memory is still the store's memory of it, as long as it was. */
 static bool has_its_memory(line *line, const guest *guest) {
     uint8_t *at = NULL;
@@ -192,7 +211,8 @@ static void run_hostile(uint32_t size, uint32_t calls) {
     finish(&line, "hostile", size);
 }
 
-/* `guests BYTES`: all four. `guests pipe BYTES`: the second alone, which is timed. */
+/* `guests BYTES`: all four. `guests pipe BYTES`: the second alone, which is timed. `guests flood STREAMS`: the
+   hostile guest alone, which makes and drops so many. */
 int main(int count, char **words) {
     uint32_t size = count > 1 ? (uint32_t)strtoul(words[count - 1], NULL, 10) : 67108864;
     wasm_rt_init();
@@ -201,7 +221,7 @@ int main(int count, char **words) {
     Z_sink_init_module();
     Z_hostile_init_module();
     if (count > 2) {
-        run_pipe(size);
+        (strcmp(words[1], "flood") == 0 ? run_flood : run_pipe)(size);
         return 0;
     }
     run_text();

@@ -142,6 +142,13 @@ strm_status strm_set_poll(strm_store *store, uint32_t number, uint32_t set, strm
     return STRM_DONE;
 }
 
+strm_status strm_handle_info(strm_store *store, uint32_t number, uint32_t handle, strm_handle *out) {
+    uint8_t side = ((plain *)store->at)->guests[number].handles[handle].side;
+    out->type = STRM_U8;
+    out->side = side == READING ? STRM_SIDE_READING : STRM_SIDE_WRITING;
+    return STRM_DONE;
+}
+
 static strm_status drop(plain *plain, int side, uint32_t number, uint32_t handle) {
     plain->streams[plain->guests[number].handles[handle].stream].ends[side].gone = true;
     plain->guests[number].handles[handle].set = 0;

@@ -10,9 +10,15 @@ use std::alloc::Global;
 use std::io;
 use std::process::ExitCode;
 use strm_input_output::ports::{Sink, Source};
-use strm_input_output::standard::{StdinSource, StdoutSink};
-use strm_input_output::words::{process_args, words_behind};
+use strm_input_output::processes::Process;
 use strm_mux::serving::{OUT_OF_MEMORY, mux_serve};
+
+fn main(rt: HostRuntime) -> io::Result<ExitCode> {
+    match Process::begin(&rt) {
+        Ok(mut own) => Ok(served(rt.alloc(), &own.words, &mut own.source, &mut own.sink)),
+        Err(_) => Ok(ExitCode::from(OUT_OF_MEMORY)),
+    }
+}
 
 // Serves a source and a sink. The program's status is that of `mux_serve`, and with it goes what that
 // writes.
@@ -36,17 +42,4 @@ fn served<S: Source, K: Sink>(
 {
     let status = mux_serve(alloc, words, source, sink);
     ExitCode::from(status)
-}
-
-fn main(rt: HostRuntime) -> io::Result<ExitCode> {
-    let alloc = rt.alloc();
-    let Ok(args) = process_args(&rt) else {
-        return Ok(ExitCode::from(OUT_OF_MEMORY));
-    };
-    let Ok(words) = words_behind(alloc, args) else {
-        return Ok(ExitCode::from(OUT_OF_MEMORY));
-    };
-    let mut source = StdinSource::new(rt.stdin());
-    let mut sink = StdoutSink::new(rt.stdout());
-    Ok(served(alloc, &words, &mut source, &mut sink))
 }

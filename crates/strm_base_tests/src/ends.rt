@@ -7,7 +7,6 @@ ghost use Rattle.strm_codes.specs.declared.scalars.Scalar.TheVariants.{U8};
 ghost use Rattle.strm_program_ends.specs.Scripts.{scripted_tells, unpolled_writer};
 
 use crate::answers::{is, memory};
-use crate::silent::SilentWriter;
 use std::alloc::Global;
 use std::process::Abort;
 use strm_buffers::answers::{Answer, HostTurn, StreamResult, Turn};
@@ -59,6 +58,11 @@ fn of_three_bytes(rt: &impl Abort, alloc: Global) -> ScriptedWriter
     ScriptedWriter::new(alloc, TransmitKind::Stream, BYTES, turns)
 }
 
+// A writer that never has items.
+fn without_turns(alloc: Global, kind: TransmitKind) -> ScriptedWriter {
+    ScriptedWriter::new(alloc, kind, BYTES, Vec::new(alloc))
+}
+
 #[test]
 fn what_a_window_has_no_room_for_is_held(rt: HostRuntime) {
     let mut writer = of_three_bytes(&rt, rt.alloc());
@@ -105,7 +109,7 @@ fn a_boxed_writer_is_fed(rt: HostRuntime) {
 
 #[test]
 fn a_boxed_writer_is_polled(rt: HostRuntime) {
-    let silent = SilentWriter::new(rt.alloc(), TransmitKind::Stream, BYTES);
+    let silent = without_turns(rt.alloc(), TransmitKind::Stream);
     let mut silent: Box<dyn HostWriter> = Box::new(rt.alloc(), silent).expect(&rt, "memory");
     poll(&rt, rt.alloc(), &mut silent, Turn::Pending, 0);
     close_writer(&mut silent);
@@ -115,7 +119,7 @@ fn a_boxed_writer_is_polled(rt: HostRuntime) {
 
 #[test]
 fn host_writers_are_named_by_their_place(rt: HostRuntime) {
-    let silent = SilentWriter::new(rt.alloc(), TransmitKind::Future, BYTES);
+    let silent = without_turns(rt.alloc(), TransmitKind::Future);
     let silent: Box<dyn HostWriter> = Box::new(rt.alloc(), silent).expect(&rt, "memory");
     let queue = QueueWriter::new(rt.alloc(), TransmitKind::Stream, BYTES);
     let queue: Box<dyn HostWriter> = Box::new(rt.alloc(), queue).expect(&rt, "memory");

@@ -1,6 +1,6 @@
 //! What no clause of the base crates says: worked cases of codes, payloads, ids, memories, reports,
 //! waitable sets, error contexts, both tables, buffers and the program's host ends, and each of their calls
-//! once with ample memory; and a small host end that meets its trait: a writer that never has items.
+//! once with ample memory.
 //!
 //! Public calls alone, so that the crates below are not proved once more for them.
 #![tactic(auto)]
@@ -37,7 +37,6 @@ mod reports;
 mod resources;
 #[cfg(test)]
 mod sets;
-mod silent;
 mod untyped;
 #[cfg(test)]
 mod windows;

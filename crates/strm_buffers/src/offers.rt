@@ -104,13 +104,7 @@ impl Offer {
         ensures memory { IsMemoryOf self.source result.0 }
         ensures taken { result.1 ≡ self.taken }
     {
-        let Offer {
-            payload: _,
-            source,
-            since: _,
-            taken,
-            bad: _,
-        } = self;
+        let Offer { source, taken, .. } = self;
         match source {
             Source::Region { memory, .. } => (memory, taken),
             Source::Listed { .. } => unreachable!(),
@@ -123,13 +117,7 @@ impl Offer {
         ensures items { IsItemsOf self.source result.0 }
         ensures taken { result.1 ≡ self.taken }
     {
-        let Offer {
-            payload: _,
-            source,
-            since: _,
-            taken,
-            bad: _,
-        } = self;
+        let Offer { source, taken, .. } = self;
         match source {
             Source::Listed { items } => (items, taken),
             Source::Region { .. } => unreachable!(),

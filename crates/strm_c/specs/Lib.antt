@@ -5,3 +5,5 @@ pub mod Lent
 pub mod Pairs
 pub mod Members
 pub mod Queries
+pub mod Making
+pub mod Limits

@@ -2,9 +2,11 @@
 
 mod contexts;
 mod futures;
+mod limits;
 mod memories;
 mod moves;
 mod pairs;
+mod queries;
 mod sets;
 mod stores;
 mod streams;

@@ -1,10 +1,11 @@
 //! What C holds of a store.
 
-ghost use Rattle.std.specs.Prelude.{◌≡◌, true, false, Option, Some, None, IsSome, IfSome};
+ghost use Rattle.std.specs.Prelude.{◌≡◌, true, false, List, Option, Some, None, IsSome, IfSome};
 ghost use Rattle.strm_machine.specs.State.{State};
 ghost use Rattle.std.specs.Coded.{codes};
 ghost use Rattle.strm_error_contexts.specs.Contexts.{contexts_code};
 ghost use Rattle.strm_waitable_sets.specs.Sets.{sets_code};
+ghost use Rattle.strm_guest_store.specs.declared.guest_limits.GuestLimits.{GuestLimits};
 
 mod lends;
 
@@ -12,27 +13,29 @@ use crate::loose::Loose;
 use std::alloc::Global;
 use std::marker::Model;
 use std::{mem, ptr};
-use strm_guest_store::guest_store::GuestStore;
+use strm_guest_store::limited_store::LimitedStore;
 
-/// One word, which C holds and only this library reads: a store, or none.
+/// One word, which C holds and only this library reads: a store with the limits of its guests, or none.
 #[repr(C)]
 #[derive(Drop)]
 pub struct StoreHandle {
     at: *mut (),
     alloc: Global,
     ghost state: { Option State } by { Prim.hlevel (codes, sets_code, contexts_code) },
+    ghost limits: { List GuestLimits },
 }
 
 impl Model for StoreHandle {
     ghost use Rattle.strm_c.specs.Owned.{owned};
 
-    ghost also_owns = { λ h. owned h.alloc h.at h.state };
+    ghost also_owns = { λ h. owned h.alloc h.at h.state h.limits };
 }
 
 impl StoreHandle {
     // The box that holds the store, without its type.
-    fn lower(loose: Loose<GuestStore, Global>) -> StoreHandle
-        ensures { result.state ≡ Some loose.value }
+    fn lower(loose: Loose<LimitedStore, Global>) -> StoreHandle
+        ensures { (result.state ≡ Some loose.value.store)
+            × (result.limits ≡ loose.value.limits) }
     {
         let Loose { at, alloc } = loose;
         StoreHandle {
@@ -42,13 +45,13 @@ impl StoreHandle {
     }
 
     // The same with its type.
-    fn raise(self) -> Loose<GuestStore, Global>
+    fn raise(self) -> Loose<LimitedStore, Global>
         requires { IsSome self.state }
-        ensures { self.state ≡ Some result.value }
+        ensures { self.state ≡ Some result.value.store }
     {
         let StoreHandle { at, alloc } = self;
         Loose {
-            at: at as *mut GuestStore,
+            at: at as *mut LimitedStore,
             alloc,
         }
     }
@@ -73,23 +76,24 @@ impl StoreHandle {
     }
 
     /// A handle of a store.
-    pub(crate) fn of(store: Box<GuestStore>) -> StoreHandle
-        ensures { result.state ≡ Some store.value }
+    pub(crate) fn of(store: Box<LimitedStore>) -> StoreHandle
+        ensures { (result.state ≡ Some store.value.store)
+            × (result.limits ≡ store.value.limits) }
     {
         StoreHandle::lower(Loose::of(store))
     }
 
     // The store.
-    fn into_box(self) -> Box<GuestStore>
+    fn into_box(self) -> Box<LimitedStore>
         requires { IsSome self.state }
-        ensures { self.state ≡ Some result.value }
+        ensures { self.state ≡ Some result.value.store }
     {
         self.raise().into_box()
     }
 
     /// Takes the store out, if it is of one, and leaves none.
-    pub(crate) fn take(&mut self, alloc: Global) -> Option<Box<GuestStore>>
-        ensures taken { IfSome result (λ taken. self.old.state ≡ Some taken.value) }
+    pub(crate) fn take(&mut self, alloc: Global) -> Option<Box<LimitedStore>>
+        ensures taken { IfSome result (λ taken. self.old.state ≡ Some taken.value.store) }
         ensures none { result ≡ None → self.old.state ≡ None }
         ensures empty { self.new.state ≡ None }
         ensures nothing { self.old.state ≡ None → self.new ≡ self.old }

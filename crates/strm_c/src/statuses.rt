@@ -31,6 +31,9 @@ pub const UNKNOWN_STREAM: Status = 68;
 /// The handle is of no store: it is {NULL}.
 pub const NO_STORE: Status = 69;
 
+/// A guest that is there would get more than its limits allow. It is told before any refusal.
+pub const GUEST_LIMIT: Status = 72;
+
 /// The word of no event, which no code has.
 pub const NO_EVENT: u32 = 3;
 

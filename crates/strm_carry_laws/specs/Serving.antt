@@ -4,15 +4,16 @@ use Rattle.std.specs.Prelude.{◌≡◌, ℕ, ◌+◌, ◌<◌, Bool, true, fals
 use Rattle.strm_codes.specs.declared.codes.StreamResult.TheVariants.{Completed}
 use Rattle.strm_memory.specs.Bytes.{IsBytes}
 use Rattle.strm_machine.specs.State.{State, no_guest, stream_at}
+use Rattle.strm_laws.specs.Starts.{run_start}
 use Rattle.strm_machine.specs.declared.steps.Step.{Step}
 use Rattle.strm_machine.specs.declared.steps.Step.TheVariants as steps
 use Rattle.strm_laws.specs.Conservation.{state_after_steps, moments, replies_of, got}
-use Rattle.strm_carry_laws.specs.OneStream.{new_store, carried_type, bytes_as_items, dumped, AreSettled}
+use Rattle.strm_carry_laws.specs.OneStream.{carried_type, bytes_as_items, dumped, AreSettled}
 
 -- both guests and the stream are made
 abbrev pub carry_made : State
 carry_made =
-    state_after_steps new_store
+    state_after_steps run_start
     (steps.Guest 64 ∷ steps.Guest 64 ∷ steps.Between 0 1 carried_type ∷ [])
 
 -- both ends are at rest, with these memories, after so many bytes

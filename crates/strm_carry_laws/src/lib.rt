@@ -7,11 +7,12 @@ ghost use Rattle.std.specs.Prelude.{◌≡◌, ◌≤◌, ◌<◌, ◌∷◌, �
 ghost use Rattle.strm_codes.specs.declared.codes.ReturnCode.TheVariants as codes;
 ghost use Rattle.strm_laws.specs.Conservation.{got, moments, state_after_steps, replies_of};
 ghost use Rattle.strm_machine.specs.Moments.{moment_of, got_in};
+ghost use Rattle.strm_laws.specs.Starts.{run_start};
 ghost use Rattle.strm_machine.specs.Reactions.{react};
 ghost use Rattle.strm_machine.specs.declared.replies.Reply.TheVariants as replies;
 ghost use Rattle.strm_machine.specs.declared.steps.Step.TheVariants as steps;
 ghost use Rattle.strm_memory.specs.Bytes.{IsBytes, put_at};
-ghost use Rattle.strm_carry_laws.specs.OneStream.{new_store, carried_type, reads_of, piece_of, piece_steps, script_of, CanCarry, bytes_as_items, dumped, AreSettled};
+ghost use Rattle.strm_carry_laws.specs.OneStream.{carried_type, reads_of, piece_of, piece_steps, script_of, CanCarry, bytes_as_items, dumped, AreSettled};
 ghost use Rattle.strm_carry_laws.specs.Serving.{rests, serving, Drains, Brings};
 
 // Bytes are put into the writer's memory.
@@ -130,14 +131,14 @@ fn brings_all()
 #[tactic(none)]
 pub fn carries()
     ensures got { (w r : ℕ) (bytes : List ℕ) → CanCarry w r bytes →
-        got 0 (moments new_store (script_of w r bytes)) ≡ bytes_as_items bytes }
+        got 0 (moments run_start (script_of w r bytes)) ≡ bytes_as_items bytes }
     ensures received { (w r : ℕ) (bytes : List ℕ) → CanCarry w r bytes →
-        map (λ s. s.received) (state_after_steps new_store (script_of w r bytes)).streams
+        map (λ s. s.received) (state_after_steps run_start (script_of w r bytes)).streams
         ≡ length bytes ∷ [] }
     ensures dumped { (w r : ℕ) (bytes : List ℕ) → CanCarry w r bytes →
-        dumped (replies_of (moments new_store (script_of w r bytes))) ≡ bytes }
+        dumped (replies_of (moments run_start (script_of w r bytes))) ≡ bytes }
     ensures settled { (w r : ℕ) (bytes : List ℕ) → CanCarry w r bytes →
-        AreSettled (replies_of (moments new_store (script_of w r bytes))) }
+        AreSettled (replies_of (moments run_start (script_of w r bytes))) }
 {
     brings_all();
 }

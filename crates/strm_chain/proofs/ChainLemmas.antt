@@ -5,6 +5,7 @@ use Rattle.std.proofs.Math.ListN.{get_or-map}
 use Rattle.std.proofs.lemmas.Bool.{cases_eq}
 use Rattle.std.proofs.lemmas.List.{ext_get_or, take-map, drop-map, length-map, take-append-le, take_all}
 use Rattle.strm_machine.specs.Plays.{play, Ends}
+use Rattle.strm_laws.specs.Starts.{run_start}
 use Rattle.strm_machine.specs.State.{empty, memory_in}
 use Rattle.strm_machine.specs.Moments.{received}
 use Rattle.strm_machine.specs.declared.limits.Limits.{Limits}
@@ -17,7 +18,7 @@ use Rattle.strm_chain.specs.declared.workers.Worker.{Worker}
 use Rattle.strm_chain.specs.declared.stages.Stage.TheVariants.{Copy}
 use Rattle.strm_chain.specs.declared.workers.ChainTurn.{ChainTurn}
 use Rattle.strm_chain.specs.Stages.{composed}
-use Rattle.strm_chain.specs.Playing.{chain_start, ChainPlay, IsChainPlayed}
+use Rattle.strm_chain.specs.Playing.{ChainPlay, IsChainPlayed}
 use Rattle.strm_chain.specs.Flowing.{got_on, Flows}
 use Rattle.strm_chain.specs.Reporting.{is_told}
 use Rattle.strm_chain.specs.Running.{guests_made, streams_made, AreTurns, AreSomeTurns, IsChainRun}

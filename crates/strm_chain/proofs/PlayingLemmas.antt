@@ -3,6 +3,7 @@ use Rattle.std.proofs.Common.{◌≡◌, ◌<◌, true, false, List, [], ◌∷�
 use Rattle.std.proofs.lemmas.List.{length_push, append-nil}
 use Rattle.std.proofs.lemmas.List.Elements.{All-nil, All-push}
 use Rattle.strm_machine.specs.State.{State}
+use Rattle.strm_laws.specs.Starts.{run_start}
 use Rattle.strm_machine.specs.Acts.{act_of}
 use Rattle.strm_machine.specs.Reactions.{Reaction, react, goes}
 use Rattle.strm_machine.specs.Plays.{Played, after_step, play, Ends, is_settled}
@@ -17,7 +18,7 @@ use Rattle.strm_transmit.specs.Meets.{is_done}
 use Rattle.strm_transmit.specs.Guests.{nobody, Unhosted, is_of_guests}
 use Rattle.strm_transmit.proofs.GuestLemmas.{reaction-unhosted, empty-unhosted, touches-none}
 use Rattle.strm_laws.specs.Laws.{StepHasBytes}
-use Rattle.strm_chain.specs.Playing.{chain_start, Follows}
+use Rattle.strm_chain.specs.Playing.{Follows}
 
 after-goes : (told : List Reply) (reply : Reply) (state : State) (next : List Reply → State → Played) → is_settled reply ≡ true → after_step told reply state next ≡ next (told ++ reply ∷ []) state
 after-goes told (replies.BadItem s) state next h = cc
@@ -35,7 +36,7 @@ stays_running : (state : State) (step : Step) → state.trapped ≡ false → is
 stays_running state step t =
     react-by (λ r. is_settled r.reply ≡ true → r.state.trapped ≡ false) state step (λ s h e. cc) (λ r g e. g.trapped ∙ t) t
 
-pub follows_start : Fits chain_start nobody → Follows [] [] chain_start
+pub follows_start : Fits run_start nobody → Follows [] [] run_start
 follows_start fits = record {
   led = λ more. refl;
   running = refl;
@@ -62,7 +63,7 @@ module _ (steps : List Step) (replies : List Reply) (state : State) (step : Step
       let told : (react state step).reply ≡ reply = ap (λ (r : Reaction). r.reply) e in
       record {
         led = λ more.
-            ap (play [] chain_start) (append_assoc steps (step ∷ []) more) ∙ f.led (step ∷ more)
+            ap (play [] run_start) (append_assoc steps (step ∷ []) more) ∙ f.led (step ∷ more)
             ∙ play-goes replies state next step more reply settled e;
         running = subst (λ (s : State). s.trapped ≡ false) after (stays_running state step f.running (ap is_settled told ∙ settled));
         unhosted = subst Unhosted after (reaction-unhosted state (act_of step) f.unhosted);
@@ -72,5 +73,5 @@ module _ (steps : List Step) (replies : List Reply) (state : State) (step : Step
       }
 
 -- the replies are those of the machine's play
-pub follows_plays : (steps : List Step) (replies : List Reply) (state : State) → Follows steps replies state → play [] chain_start steps ≡ Ends replies state
-follows_plays steps replies state f = ap (play [] chain_start) (sym (append-nil steps)) ∙ f.led []
+pub follows_plays : (steps : List Step) (replies : List Reply) (state : State) → Follows steps replies state → play [] run_start steps ≡ Ends replies state
+follows_plays steps replies state f = ap (play [] run_start) (sym (append-nil steps)) ∙ f.led []

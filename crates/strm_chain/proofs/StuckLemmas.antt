@@ -6,6 +6,7 @@ use Rattle.std.proofs.lemmas.Bool.{cases_eq}
 use Rattle.strm_codes.specs.declared.codes.TransmitKind.TheVariants.{Stream as AStream}
 use Rattle.strm_events.specs.Reports.{report_of, outcome_code}
 use Rattle.strm_machine.specs.State.{State, stream_at, is_gone}
+use Rattle.strm_laws.specs.Starts.{run_start}
 use Rattle.strm_machine.specs.Sides.{opposite, end_of}
 use Rattle.strm_machine.specs.Endings.{report_on, pending_of}
 use Rattle.strm_machine.specs.Soundness.{is_opened, both_open}
@@ -16,7 +17,7 @@ use Rattle.strm_machine.specs.declared.streams.Stream.{Stream}
 use Rattle.strm_laws.proofs.LawfulRuns.{apart}
 use Rattle.strm_chain.specs.declared.workers.Worker.{Worker}
 use Rattle.strm_chain.specs.declared.workers.Doing.TheVariants.{Reading}
-use Rattle.strm_chain.specs.Playing.{chain_start, ChainPlay}
+use Rattle.strm_chain.specs.Playing.{ChainPlay}
 use Rattle.strm_chain.specs.Keeping.{IsPlain, ArePlain, worker_at, sink_of, IsJoined}
 use Rattle.strm_chain.specs.Measuring.{IsStuck, AtEnd, InRead, InWrite}
 use Rattle.strm_chain.proofs.MomentLemmas.{IsRunOf}
@@ -48,7 +49,7 @@ unmet side stream k p some e =
 module _ (p : ChainPlay) (ws : List Worker) (j : IsJoined p ws) (run : IsRunOf p) (all : (g : ℕ) → g < length ws → IsStuck g (worker_at ws g) p.state) where
   not_both : (k : ℕ) → is_opened (stream_at p.state k).writer.operation ≡ true → is_opened (stream_at p.state k).reader.operation ≡ true → ⊥
   not_both k a b =
-      let never : both_open (stream_at p.state k) ≡ false = ap (λ (s : State). both_open (stream_at s k)) run.last_is ∙ apart chain_start.tag chain_start.limits p.steps k run.are in
+      let never : both_open (stream_at p.state k) ≡ false = ap (λ (s : State). both_open (stream_at s k)) run.last_is ∙ apart run_start.tag run_start.limits p.steps k run.are in
       let both : both_open (stream_at p.state k) ≡ true = ap (λ x. x && is_opened (stream_at p.state k).reader.operation) a ∙ b in
       let wrong : false ≡ true = sym never ∙ both in cc
 

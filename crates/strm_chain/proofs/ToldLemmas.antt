@@ -7,6 +7,7 @@ use Rattle.strm_codes.specs.declared.codes.ReturnCode.{ReturnCode}
 use Rattle.strm_codes.specs.declared.codes.ReturnCode.TheVariants as codes
 use Rattle.strm_events.specs.Reports.{is_dropped}
 use Rattle.strm_machine.specs.State.{State}
+use Rattle.strm_laws.specs.Starts.{run_start}
 use Rattle.strm_machine.specs.Reactions.{react}
 use Rattle.strm_machine.specs.Moments.{code_told, as_report}
 use Rattle.strm_machine.specs.declared.steps.Step.{Step}
@@ -16,7 +17,7 @@ use Rattle.strm_laws.specs.Conservation.{moments, replies_of}
 use Rattle.strm_laws.proofs.Replies.{play-ends}
 use Rattle.strm_chain.specs.declared.workers.Worker.{Worker}
 use Rattle.strm_chain.specs.declared.workers.ChainTurn.{ChainTurn}
-use Rattle.strm_chain.specs.Playing.{chain_start, ChainPlay, IsChainPlayed, Adds}
+use Rattle.strm_chain.specs.Playing.{ChainPlay, IsChainPlayed, Adds}
 use Rattle.strm_chain.specs.Reporting.{report_if, report_to, last_report, tells_end, is_told}
 use Rattle.strm_chain.specs.Turned.{Turned, Rests, Waits, ReadOpens, ReadServes, ReadSettles, WriteOpens, WriteServes, WriteSettles, Ends}
 use Rattle.strm_chain.proofs.PlayingLemmas.{follows_plays}
@@ -44,8 +45,8 @@ many_replies state (step ∷ more) = ap suc (many_replies (react state step).sta
 
 pub even_of : (p : ChainPlay) → IsChainPlayed p → AreEven p
 even_of p f =
-    sym (many_replies chain_start p.steps)
-    ∙ ap length (sym (play-ends [] chain_start p.steps p.replies p.state (follows_plays p.steps p.replies p.state f)).1)
+    sym (many_replies run_start p.steps)
+    ∙ ap length (sym (play-ends [] run_start p.steps p.replies p.state (follows_plays p.steps p.replies p.state f)).1)
 
 pub even_adds : (p q : ChainPlay) (step : Step) (reply : Reply) → Adds p q step reply → AreEven p → AreEven q
 even_adds p q step reply a e =

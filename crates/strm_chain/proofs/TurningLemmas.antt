@@ -5,8 +5,9 @@ use Rattle.std.proofs.lemmas.List.{take_more, map_push}
 use Rattle.strm_machine.specs.declared.steps.Step.{Step}
 use Rattle.strm_machine.specs.declared.replies.Reply.{Reply}
 use Rattle.strm_machine.specs.Plays.{play, Ends}
+use Rattle.strm_laws.specs.Starts.{run_start}
 use Rattle.strm_chain.specs.declared.workers.ChainTurn.{ChainTurn}
-use Rattle.strm_chain.specs.Playing.{chain_start, ChainPlay}
+use Rattle.strm_chain.specs.Playing.{ChainPlay}
 use Rattle.strm_chain.specs.Turning.{Turns}
 use Rattle.strm_chain.specs.Running.{making_of, AreTurns, AreSomeTurns, IsChainRun}
 
@@ -55,7 +56,7 @@ module _ (sink sink' chunk chunk' : ℕ) (a b c : ChainPlay) (e : sink' ≡ sink
 
 -- what was made first, and then turns
 module _ (n chunk : ℕ) (whos : List ℕ) (a b : ChainPlay) (steps : List Step) (told : List Reply) where
-  pub run_of : a.steps ≡ making_of n → play [] chain_start a.steps ≡ Ends a.replies a.state → AreTurns (n + 1) chunk whos a b → steps ≡ b.steps → told ≡ b.replies → play [] chain_start steps ≡ Ends told b.state → IsChainRun n chunk whos steps told
+  pub run_of : a.steps ≡ making_of n → play [] run_start a.steps ≡ Ends a.replies a.state → AreTurns (n + 1) chunk whos a b → steps ≡ b.steps → told ≡ b.replies → play [] run_start steps ≡ Ends told b.state → IsChainRun n chunk whos steps told
   run_of made plays turns steps_are replies_are all = record {
     first = a;
     last = b;

@@ -1,12 +1,13 @@
 -- What a turn makes of a chain, and what a chain has come to. Ours.
 use Rattle.std.specs.Prelude.{◌≡◌, ℕ, ◌+◌, ◌-◌, ◌≤◌, Bool, true, false, List, [], length}
 use Rattle.strm_machine.specs.Plays.{play, Ends}
+use Rattle.strm_laws.specs.Starts.{run_start}
 use Rattle.strm_machine.specs.declared.steps.Step.{Step}
 use Rattle.strm_machine.specs.declared.replies.Reply.{Reply}
 use Rattle.strm_chain.specs.declared.workers.Worker.{Worker}
 use Rattle.strm_chain.specs.declared.workers.ChainTurn.{ChainTurn}
 use Rattle.strm_chain.specs.Stages.{composed}
-use Rattle.strm_chain.specs.Playing.{chain_start, ChainPlay}
+use Rattle.strm_chain.specs.Playing.{ChainPlay}
 use Rattle.strm_chain.specs.Reporting.{is_told}
 use Rattle.strm_chain.specs.Turning.{Turns}
 use Rattle.strm_chain.specs.Flowing.{Flows}
@@ -37,7 +38,7 @@ pub record ComesTo (played : ChainPlay) (workers : List Worker) (output : List �
     (made : List Step) (told : List Reply) : Type 0 where
   pub steps_are : made ≡ played.steps
   pub replies_are : told ≡ played.replies
-  pub plays : play [] chain_start made ≡ Ends told played.state
+  pub plays : play [] run_start made ≡ Ends told played.state
   pub ended : over ≡ is_told (length workers - 1) made told
   pub flows : Flows (stages_of workers) (input_of workers) output made
   pub whole : over ≡ true → output ≡ composed (stages_of workers) (input_of workers)

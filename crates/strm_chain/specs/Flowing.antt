@@ -5,7 +5,7 @@ use Rattle.strm_laws.specs.Conservation.{moments, got}
 use Rattle.strm_chain.specs.declared.stages.Stage.{Stage}
 use Rattle.strm_chain.specs.declared.stages.Stage.TheVariants.{Copy}
 use Rattle.strm_chain.specs.Stages.{of}
-use Rattle.strm_chain.specs.Playing.{chain_start}
+use Rattle.strm_laws.specs.Starts.{run_start}
 
 -- bytes as they are received on a stream of bytes
 abbrev pub as_items : List ℕ → List (Option (List ℤ))
@@ -13,7 +13,7 @@ as_items bytes = map (λ b. Some (pos b ∷ [])) bytes
 
 -- what was received on stream i in the run of these steps
 abbrev pub got_on : List Step → ℕ → List (Option (List ℤ))
-got_on steps i = got i (moments chain_start steps)
+got_on steps i = got i (moments run_start steps)
 
 -- one list is the front of another
 abbrev pub IsFront : List ℕ → List ℕ → Type 0

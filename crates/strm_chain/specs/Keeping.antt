@@ -1,6 +1,7 @@
 -- What a chain keeps from turn to turn: how its guests stand to the store. Ours.
 use Rattle.std.specs.Prelude.{◌≡◌, ◌≢◌, ℕ, ◌+◌, ◌-◌, ◌≤◌, ◌<◌, ℤ, Bool, true, false, List, [], length, map, take, drop, slice_index_or, IsSome, Option, Some, None}
 use Rattle.strm_machine.specs.Plays.{play, Ends}
+use Rattle.strm_laws.specs.Starts.{run_start}
 use Rattle.strm_machine.specs.State.{State, memory_in, stream_at, is_gone}
 use Rattle.strm_machine.specs.Soundness.{type_of}
 use Rattle.strm_codes.specs.declared.codes.StreamResult.TheVariants.{Completed}
@@ -12,7 +13,7 @@ use Rattle.strm_chain.specs.declared.stages.Stage.TheVariants.{Copy}
 use Rattle.strm_chain.specs.declared.workers.Worker.{Worker}
 use Rattle.strm_chain.specs.declared.workers.Doing.TheVariants.{Nothing, Reading, Writing, Ended}
 use Rattle.strm_chain.specs.Stages.{work_begun}
-use Rattle.strm_chain.specs.Playing.{chain_start, ChainPlay, IsChainPlayed, bytes_type}
+use Rattle.strm_chain.specs.Playing.{ChainPlay, IsChainPlayed, bytes_type}
 use Rattle.strm_chain.specs.Flowing.{got_on}
 use Rattle.strm_chain.specs.Linking.{Sends, Takes}
 use Rattle.strm_chain.specs.Reporting.{is_told}
@@ -164,7 +165,7 @@ pub record BeginsChain (stages : List Stage) (input : List ℕ)
   pub input_is : input_of chain.workers ≡ input
   pub chunk_is : chain.chunk ≡ chunk
   pub steps_are : chain.play.steps ≡ making_of (length stages)
-  pub plays : play [] chain_start chain.play.steps ≡ Ends chain.play.replies chain.play.state
+  pub plays : play [] run_start chain.play.steps ≡ Ends chain.play.replies chain.play.state
   pub runs : chain.failed ≡ false
 
 -- from turn to turn, a chain has as many guests of the same stages, the same input and the same chunk

@@ -3,6 +3,7 @@ use Rattle.std.specs.Prelude.{◌≡◌, ℕ, ◌+◌, ◌-◌, ◌*◌, ◌<◌
 use Rattle.strm_handles.specs.Handles.{Handles}
 use Rattle.strm_error_contexts.specs.Contexts.{len as contexts_there}
 use Rattle.strm_machine.specs.State.{State, guest_in, memory_in, stream_at, bytes_in_use, handles_in_use, sets_in_use}
+use Rattle.strm_laws.specs.Starts.{run_start}
 use Rattle.strm_machine.specs.Making.{made_stream}
 use Rattle.strm_machine.specs.declared.replies.Pair.{Pair}
 use Rattle.strm_chain.specs.declared.stages.Stage.{Stage}
@@ -11,7 +12,7 @@ use Rattle.strm_chain.specs.declared.workers.Worker.{Worker}
 use Rattle.strm_chain.specs.declared.workers.Doing.TheVariants.{Nothing}
 use Rattle.strm_chain.specs.Reporting.{last_report}
 use Rattle.strm_chain.specs.Running.{guests_made, streams_made}
-use Rattle.strm_chain.specs.Playing.{chain_start, ChainPlay, bytes_type}
+use Rattle.strm_chain.specs.Playing.{ChainPlay, bytes_type}
 use Rattle.strm_chain.specs.Keeping.{new_worker, worker_at}
 
 -- a table that has given no number back, and so many at most
@@ -22,7 +23,7 @@ pub record IsShort (n : ℕ) (handles : Handles) : Type 0 where
 -- what so many guests and streams take of what a chain's store limits: each guest 8,192 bytes, each stream
 -- two handles
 pub record TakesLittle (guests streams : ℕ) (state : State) : Type 0 where
-  pub limits : state.limits ≡ chain_start.limits
+  pub limits : state.limits ≡ run_start.limits
   pub bytes : bytes_in_use state ≡ 8192 * guests
   pub handles : handles_in_use state ≤ 2 * streams
   pub tables : (g : ℕ) → IsShort (2 * streams) (guest_in state.guests g).handles

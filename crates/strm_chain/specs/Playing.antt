@@ -4,7 +4,8 @@ use Rattle.strm_codes.specs.declared.codes.TransmitIndex.{TransmitIndex}
 use Rattle.strm_codes.specs.declared.codes.TransmitIndex.TheVariants as index
 use Rattle.strm_codes.specs.declared.payloads.Payload.TheVariants.{One}
 use Rattle.strm_codes.specs.declared.scalars.Scalar.TheVariants.{U8}
-use Rattle.strm_machine.specs.State.{State, empty}
+use Rattle.strm_machine.specs.State.{State}
+use Rattle.strm_laws.specs.Starts.{run_start}
 use Rattle.strm_machine.specs.Reactions.{react, goes}
 use Rattle.strm_machine.specs.Plays.{play}
 use Rattle.strm_machine.specs.declared.steps.Step.{Step}
@@ -17,17 +18,13 @@ use Rattle.strm_host_machine.specs.Does.{Fits}
 use Rattle.strm_transmit.specs.Meets.{is_done}
 use Rattle.strm_transmit.specs.Guests.{nobody, Unhosted}
 
--- a chain begins with a store without guests, named 0, under these limits
-abbrev pub chain_start : State
-chain_start = empty 0 (record { handles = 1000000; places = 1000000 })
-
 -- the streams of a chain are of bytes
 abbrev pub bytes_type : TransmitIndex
 bytes_type = index.Stream (One U8)
 
 -- these steps were answered so, and led from a new store to this one, which goes on and needs no host end
 pub record Follows (steps : List Step) (replies : List Reply) (state : State) : Type 0 where
-  pub led : (more : List Step) → play [] chain_start (steps ++ more) ≡ play replies state more
+  pub led : (more : List Step) → play [] run_start (steps ++ more) ≡ play replies state more
   pub running : state.trapped ≡ false
   pub unhosted : Unhosted state
   pub fits : Fits state nobody
@@ -52,7 +49,7 @@ pub record ChainPlay : Type 0 where
 
 -- nothing yet
 abbrev pub no_play : ChainPlay
-no_play = record { steps = []; replies = []; state = chain_start }
+no_play = record { steps = []; replies = []; state = run_start }
 
 -- the steps of a play were answered so, and led to its state
 abbrev pub IsChainPlayed : ChainPlay → Type 0

@@ -4,8 +4,9 @@ use Rattle.strm_machine.specs.declared.steps.Step.{Step}
 use Rattle.strm_machine.specs.declared.steps.Step.TheVariants as steps
 use Rattle.strm_machine.specs.declared.replies.Reply.{Reply}
 use Rattle.strm_machine.specs.Plays.{play, Ends}
+use Rattle.strm_laws.specs.Starts.{run_start}
 use Rattle.strm_chain.specs.declared.workers.ChainTurn.{ChainTurn}
-use Rattle.strm_chain.specs.Playing.{chain_start, ChainPlay, bytes_type}
+use Rattle.strm_chain.specs.Playing.{ChainPlay, bytes_type}
 use Rattle.strm_chain.specs.Turning.{Turns}
 
 -- so many guests of 8,192 bytes
@@ -40,8 +41,8 @@ pub record IsChainRun (n chunk : ℕ) (whos : List ℕ)
   pub first : ChainPlay
   pub last : ChainPlay
   pub made : first.steps ≡ making_of n
-  pub plays : play [] chain_start first.steps ≡ Ends first.replies first.state
+  pub plays : play [] run_start first.steps ≡ Ends first.replies first.state
   pub turns : AreTurns (n + 1) chunk whos first last
   pub steps_are : steps ≡ last.steps
   pub replies_are : told ≡ last.replies
-  pub plays_all : play [] chain_start steps ≡ Ends told last.state
+  pub plays_all : play [] run_start steps ≡ Ends told last.state

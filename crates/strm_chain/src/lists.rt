@@ -39,6 +39,13 @@ impl Bytes8 {
         Bytes8 { items }
     }
 
+    /// The bytes, lent.
+    pub fn as_slice(&self) -> &[u8]
+        ensures { result.now ≡ self.now }
+    {
+        &self.items
+    }
+
     /// Adds a byte at the end.
     pub fn push(&mut self, item: u8) -> Result<(), OutOfMemory>
         ensures ok { OnOk result (self.new ≡ self.old ++ item ∷ []) }
@@ -54,12 +61,5 @@ impl Bytes8 {
     {
         self.items.extend_from_slice(bytes)?;
         Ok(())
-    }
-
-    /// The bytes, lent.
-    pub fn as_slice(&self) -> &[u8]
-        ensures { result.now ≡ self.now }
-    {
-        &self.items
     }
 }

@@ -42,8 +42,14 @@ const TURN_STEPS: usize = 2;
 // step, which the machine does; where an allocation is refused, all that was played is forgotten.
 #[derive(Drop)]
 pub(crate) struct Player {
-    alloc: Global,
     store: Store,
+    rows: Rows,
+}
+
+// Steps, and the reply of each.
+#[derive(Drop)]
+struct Rows {
+    alloc: Global,
     steps: Steps,
     replies: Replies,
 }
@@ -58,9 +64,9 @@ impl Model for Player {
 
     ghost coded = { Prim.hlevel (codes, sets_code, contexts_code) };
 
-    ghost view = { λ p. record { steps = p.steps; replies = p.replies; state = p.store } };
+    ghost view = { λ p. record { steps = p.rows.steps; replies = p.rows.replies; state = p.store } };
 
-    ghost invariant = { λ p. Follows p.steps p.replies p.store };
+    ghost invariant = { λ p. Follows p.rows.steps p.rows.replies p.store };
 }
 
 impl Player {
@@ -71,10 +77,8 @@ impl Player {
         ensures { result ≡ no_play }
     {
         Player {
-            alloc,
             store: Store::new(alloc, 0, LIMITS),
-            steps: Steps::new(alloc),
-            replies: Replies::new(alloc),
+            rows: Rows::new(alloc),
         }
     }
 
@@ -90,14 +94,8 @@ impl Player {
             Err(error) => return Err(out_of_memory(error)),
         };
         let step = Step::Guest { size };
-        keep(
-            self.alloc,
-            &mut self.store,
-            &mut self.steps,
-            &mut self.replies,
-            &step,
-            &Reply::Number(number),
-        )?;
+        self.rows
+            .keep(&mut self.store, &step, &Reply::Number(number))?;
         Ok(number)
     }
 
@@ -117,14 +115,7 @@ impl Player {
             reader,
             ty: BYTES,
         };
-        keep(
-            self.alloc,
-            &mut self.store,
-            &mut self.steps,
-            &mut self.replies,
-            &step,
-            &Reply::Pair(pair),
-        )?;
+        self.rows.keep(&mut self.store, &step, &Reply::Pair(pair))?;
         Ok(pair)
     }
 
@@ -145,14 +136,7 @@ impl Player {
     {
         let code = operate(&mut self.store, side, guest, handle, address, count);
         let step = operation(side, guest, handle, address, count);
-        keep(
-            self.alloc,
-            &mut self.store,
-            &mut self.steps,
-            &mut self.replies,
-            &step,
-            &code_reply(&code),
-        )?;
+        self.rows.keep(&mut self.store, &step, &code_reply(&code))?;
         Ok(code)
     }
 
@@ -170,14 +154,7 @@ impl Player {
     {
         let code = take_event(&mut self.store, guest, handle);
         let step = Step::Event { guest, handle };
-        keep(
-            self.alloc,
-            &mut self.store,
-            &mut self.steps,
-            &mut self.replies,
-            &step,
-            &event_reply(&code),
-        )?;
+        self.rows.keep(&mut self.store, &step, &event_reply(&code))?;
         Ok(code)
     }
 
@@ -201,15 +178,7 @@ impl Player {
             address,
             bytes,
         };
-        keep(
-            self.alloc,
-            &mut self.store,
-            &mut self.steps,
-            &mut self.replies,
-            &step,
-            &Reply::Done,
-        )?;
-        Ok(())
+        self.rows.keep(&mut self.store, &step, &Reply::Done)
     }
 
     // At most 64 bytes of a guest's memory.
@@ -227,14 +196,8 @@ impl Player {
             address,
             len,
         };
-        keep(
-            self.alloc,
-            &mut self.store,
-            &mut self.steps,
-            &mut self.replies,
-            &step,
-            &Reply::Bytes(bytes),
-        )?;
+        self.rows
+            .keep(&mut self.store, &step, &Reply::Bytes(bytes))?;
         Ok(bytes)
     }
 
@@ -245,21 +208,13 @@ impl Player {
         ensures { OnOk result (Adds self.old self.new
             (steps.DropWrite guest bytes_type handle) replies.Done) }
     {
-        drop_writable(self.alloc, &mut self.store, guest, handle);
+        drop_writable(self.rows.alloc, &mut self.store, guest, handle);
         let step = Step::DropWrite {
             guest,
             ty: BYTES,
             handle,
         };
-        keep(
-            self.alloc,
-            &mut self.store,
-            &mut self.steps,
-            &mut self.replies,
-            &step,
-            &Reply::Done,
-        )?;
-        Ok(())
+        self.rows.keep(&mut self.store, &step, &Reply::Done)
     }
 
     // Whether there is room for the steps of a turn.
@@ -267,7 +222,7 @@ impl Player {
         ensures room { result ≡ true → HasRoomForSteps 2 self.now }
         ensures full { result ≡ false → ¬ HasRoomForSteps 2 self.now }
     {
-        self.steps.as_slice().len() <= MAX_STEPS - TURN_STEPS
+        self.rows.steps.as_slice().len() <= MAX_STEPS - TURN_STEPS
     }
 
     // Puts the first bytes of a guest's memory behind these, as many as a stream has received more than
@@ -307,18 +262,51 @@ impl Player {
         ensures replies { result.1 ≡ self.replies }
         ensures follows { IsChainPlayed self }
     {
-        (self.steps, self.replies)
+        (self.rows.steps, self.rows.replies)
     }
 }
 
-// All that was played is forgotten. Apart from the code that plays.
-#[inline(never)]
-fn forget(alloc: Global, store: &mut Store, steps: &mut Steps, replies: &mut Replies)
-    ensures { Follows steps.new replies.new store.new }
-{
-    *store = Store::new(alloc, 0, LIMITS);
-    *steps = Steps::new(alloc);
-    *replies = Replies::new(alloc);
+impl Rows {
+    // No steps.
+    fn new(alloc: Global) -> Rows
+        ensures steps { result.steps ≡ [] }
+        ensures replies { result.replies ≡ [] }
+    {
+        Rows {
+            alloc,
+            steps: Steps::new(alloc),
+            replies: Replies::new(alloc),
+        }
+    }
+
+    // Keeps a step that was done, and its reply. Where an allocation is refused, all that was played is
+    // forgotten.
+    #[inline(always)]
+    fn keep(&mut self, store: &mut Store, step: &Step, reply: &Reply) -> Result<(), OutOfMemory>
+        requires played { IsAnswered self.old.steps self.old.replies step.now reply.now store.old }
+        ensures follows { Follows self.new.steps self.new.replies store.new }
+        ensures store { OnOk result (store.new ≡ store.old) }
+        ensures steps { OnOk result (self.new.steps ≡ self.old.steps ++ step.now ∷ []) }
+        ensures replies { OnOk result (self.new.replies ≡ self.old.replies ++ reply.now ∷ []) }
+    {
+        sound(step);
+        match keep_row(&mut self.steps, &mut self.replies, step, reply) {
+            Ok(()) => Ok(()),
+            Err(error) => {
+                self.forget(store);
+                Err(error)
+            }
+        }
+    }
+
+    // All that was played is forgotten. Apart from the code that plays.
+    #[inline(never)]
+    fn forget(&mut self, store: &mut Store)
+        ensures { Follows self.new.steps self.new.replies store.new }
+    {
+        *store = Store::new(self.alloc, 0, LIMITS);
+        *self = Rows::new(self.alloc);
+    }
 }
 
 // What a step puts into a memory is bytes. It does nothing.
@@ -332,35 +320,9 @@ fn sound(step: &Step)
     }
 }
 
-// Keeps a step that was done, and its reply. Where an allocation is refused, all that was played is forgotten.
-#[inline(always)]
-fn keep(
-    alloc: Global,
-    store: &mut Store,
-    steps: &mut Steps,
-    replies: &mut Replies,
-    step: &Step,
-    reply: &Reply,
-) -> Result<(), OutOfMemory>
-    requires played { IsAnswered steps.old replies.old step.now reply.now store.old }
-    ensures follows { Follows steps.new replies.new store.new }
-    ensures store { OnOk result (store.new ≡ store.old) }
-    ensures steps { OnOk result (steps.new ≡ steps.old ++ step.now ∷ []) }
-    ensures replies { OnOk result (replies.new ≡ replies.old ++ reply.now ∷ []) }
-{
-    sound(step);
-    match keep_rows(steps, replies, step, reply) {
-        Ok(()) => Ok(()),
-        Err(error) => {
-            forget(alloc, store, steps, replies);
-            Err(error)
-        }
-    }
-}
-
 // Keeps a step and its reply, as long as there is memory.
 #[inline(always)]
-fn keep_rows(
+fn keep_row(
     steps: &mut Steps,
     replies: &mut Replies,
     step: &Step,

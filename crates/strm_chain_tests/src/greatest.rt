@@ -12,11 +12,7 @@ use strm_input_output::in_memory::{BytesSink, BytesSource};
 
 // So many bytes, from 0 to 250 over and over.
 fn bytes(alloc: Global, count: usize) -> Result<Vec<u8>, AllocError> {
-    let mut list = Vec::with_capacity(alloc, count)?;
-    for k in 0..count {
-        list.push((k % 251) as u8)?;
-    }
-    Ok(list)
+    (0..count).map(|k| (k % 251) as u8).collect(alloc)
 }
 
 // Eight stages, which put each byte four times.

@@ -1,7 +1,7 @@
 -- Waitable sets of guests: how many they are after one was made or taken away, and whether one has a
 -- member.
-use Rattle.std.proofs.Common.{◌≡◌, ℕ, ◌+◌, ◌<◌, Bool, true, false, List, [], ◌∷◌, length, set, Result, Ok, Err, Option, Some, None, is_some, refl, sym, ap, ◌∙◌, arith}
-use Rattle.std.specs.Prelude.{count_by, nat_eq, ◌||◌, IfOk, OnOk, IfSome, IfNone}
+use Rattle.std.proofs.Common.{◌≡◌, ℕ, ◌+◌, ◌<◌, Bool, true, false, List, [], ◌∷◌, length, set, Result, Ok, Err, Option, Some, None, refl, sym, ap, ◌∙◌, arith}
+use Rattle.std.specs.Prelude.{count_by, nat_eq, ◌||◌, IfOk, OnOk}
 use Rattle.std.specs.List.{list_any}
 use Rattle.std.specs.Cmp.{nat_eq_equiv}
 use Rattle.std.proofs.lemmas.List.Sums.{sum_by-set}
@@ -10,7 +10,7 @@ use Rattle.strm_handles.specs.Lookups.{waitable_set_rep_in, waitable_set_rep_of}
 use Rattle.strm_handles.specs.declared.entries.Entry.{Entry}
 use Rattle.strm_handles.specs.declared.entries.Entry.TheVariants as entries
 use Rattle.strm_handles.proofs.HandleLemmas.{live_of-removed}
-use Rattle.strm_waitable_sets.specs.Sets.{Sets, members, IsLeastReady, NoneReady}
+use Rattle.strm_waitable_sets.specs.Sets.{Sets, members, HasMember, HasNoMember}
 use Rattle.strm_waitable_sets.proofs.SetLemmas.{among_members}
 use Rattle.strm_machine.specs.State as machine
 use Rattle.strm_machine.specs.State.{no_guest, sets_in}
@@ -45,10 +45,10 @@ none_is_none : (xs : List ℕ) → ((k : ℕ) → list_any (nat_eq k) xs ≡ tru
 none_is_none [] never = refl
 none_is_none (x ∷ xs) never = never x (ap (λ t. t || list_any (nat_eq x) xs) (nat_eq_equiv.refl x))
 
--- where each handle is said to be ready, one is found just where there is a member
-pub found_is_some : (says : ℕ → Bool → Type 0) (sets : Sets) (number : ℕ) (found : Option ℕ) → ((k : ℕ) → says k false → true ≡ false) → IfSome found (IsLeastReady says sets number) → IfNone found (NoneReady says sets number) → is_some found ≡ has_some (members sets number)
-found_is_some says sets number (Some k) always some none = sym (one_is_some (members sets number) k (among_members sets number k ∙ some.member))
-found_is_some says sets number None always some none = sym (none_is_none (members sets number) (λ k e. always k (none k (sym (among_members sets number k) ∙ e))))
+-- a set is said to have a member just where there is one
+pub said_is_some : (sets : Sets) (number : ℕ) (said : Bool) → (said ≡ true → HasMember sets number) → (said ≡ false → HasNoMember sets number) → said ≡ has_some (members sets number)
+said_is_some sets number true some none = let one = some refl in sym (one_is_some (members sets number) one.handle (among_members sets number one.handle ∙ one.there))
+said_is_some sets number false some none = sym (none_is_none (members sets number) (λ k e. sym e ∙ among_members sets number k ∙ none refl k))
 
 -- ## A set's handle
 

@@ -141,5 +141,5 @@ pub fn has_member(guests: &Vec<Guest>, guest: usize, set: u32) -> bool
     requires made { is_set_there (sets_in (guests_of guests.now.items) guest) set ≡ true }
     ensures { result ≡ has_some (members (sets_in (guests_of guests.now.items) guest) set) }
 {
-    guests[guest].sets.poll(set, |_handle| true).is_some()
+    guests[guest].sets.has_member(set)
 }

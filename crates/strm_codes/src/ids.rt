@@ -165,8 +165,7 @@ impl<T> From<Resource<T>> for TableId<T> {
 
 /// An owned resource of type `T`: its number in a resource table.
 pub struct Resource<T> {
-    rep: u32,
-    marker: PhantomData<T>,
+    id: TableId<T>,
 }
 
 impl<T> Model for Resource<T> {
@@ -174,14 +173,14 @@ impl<T> Model for Resource<T> {
 
     ghost Value = { ℕ };
 
-    ghost view = { λ resource. resource.rep };
+    ghost view = { λ resource. resource.id };
 
-    ghost inverse = { λ n. record { rep = n; marker = record {} } };
+    ghost inverse = { λ n. record { id = n } };
 }
 
 impl<T> Drop for Resource<T> {
     fn drop(self) {
-        let Resource { rep: _, marker: _ } = self;
+        let Resource { id: _ } = self;
     }
 }
 
@@ -191,8 +190,7 @@ impl<T> Resource<T> {
         ensures { result ≡ rep }
     {
         Resource {
-            rep,
-            marker: PhantomData,
+            id: TableId::new(rep),
         }
     }
 
@@ -200,7 +198,7 @@ impl<T> Resource<T> {
     pub fn rep(&self) -> u32
         ensures { result ≡ self.now }
     {
-        self.rep
+        self.id.rep()
     }
 }
 

@@ -1,5 +1,5 @@
 -- A call of the store without host ends is the machine's step, and leaves it so.
-use Rattle.std.proofs.Common.{◌≡◌, ◌≤◌, ◌+◌, ap, ℕ, true, false, List, length, refl, sym, subst, ◌∙◌}
+use Rattle.std.proofs.Common.{◌≡◌, ◌≤◌, ◌+◌, arith, ap, ℕ, true, false, List, length, refl, sym, subst, ◌∙◌}
 use Rattle.std.specs.Prelude.{Result, Ok, Err}
 use Rattle.strm_buffers.specs.Tells.{Tells}
 use Rattle.std.specs.Prelude.{Bool, nat_lt, ◌&&◌}
@@ -27,27 +27,39 @@ use Rattle.strm_transmit.specs.declared.errors.StoreError.{StoreError}
 use Rattle.strm_transmit.specs.declared.errors.StoreError.TheVariants as errors
 use Rattle.strm_transmit.proofs.GuestLemmas.{reaction-unhosted, lowering-unhosted, empty-unhosted, touches-none}
 use Rattle.strm_guest_store.specs.Among.{IsAmongGuests, HasBytes}
+use Rattle.strm_guest_store.proofs.CountLemmas.{makes_none, AsMany, few_kept, reaction-many, lowering-many}
 
-after-done : (old new : State) (r : Reaction) (reply : Reply) → Unhosted r.state → Fits new nobody → r ≡ record { reply = reply; state = new } → IsAmongGuests new
-after-done old new r reply u f e = record { unhosted = subst (λ (r : Reaction). Unhosted r.state) e u; fits = f }
+-- what a step leaves where it makes no stream
+record LeavesGuests (old new : State) : Type 0 where
+  pub unhosted : Unhosted new
+  pub many : AsMany old new
 
-after-call : (old new : State) (result : Result Reply StoreError) (r : Reaction) → IsAmongGuests old → Unhosted r.state → Fits new nobody → Meets old new result r → IsAmongGuests new
-after-call old new (Ok reply) r among u f m = after-done old new r reply u f m
-after-call old new (Err (errors.Refused refusal)) r among u f m = subst IsAmongGuests (sym m.1) among
-after-call old new (Err (errors.HostFailed end)) r among u f m = absurd m
-after-call old new (Err (errors.HostBroke end)) r among u f m = absurd m
-after-call old new (Err (errors.BadItem stream)) r among u f m = after-done old new r _ u f m.0
-after-call old new (Err errors.StoreTrapped) r among u f m = subst IsAmongGuests (sym m.1) among
-after-call old new (Err errors.OutOfMemory) r among u f m = subst IsAmongGuests (sym m.1) among
+after-done : (old new : State) (r : Reaction) (reply : Reply) → IsAmongGuests old → LeavesGuests old r.state → Fits new nobody → r ≡ record { reply = reply; state = new } → IsAmongGuests new
+after-done old new r reply among l f e =
+    let now = subst (λ (r : Reaction). LeavesGuests old r.state) e l in
+    record { unhosted = now.unhosted; fits = f; few = few_kept old new now.many among.few }
+
+after-call : (old new : State) (result : Result Reply StoreError) (r : Reaction) → IsAmongGuests old → LeavesGuests old r.state → Fits new nobody → Meets old new result r → IsAmongGuests new
+after-call old new (Ok reply) r among l f m = after-done old new r reply among l f m
+after-call old new (Err (errors.Refused refusal)) r among l f m = subst IsAmongGuests (sym m.1) among
+after-call old new (Err (errors.HostFailed end)) r among l f m = absurd m
+after-call old new (Err (errors.HostBroke end)) r among l f m = absurd m
+after-call old new (Err (errors.BadItem stream)) r among l f m = after-done old new r _ among l f m.0
+after-call old new (Err errors.StoreTrapped) r among l f m = subst IsAmongGuests (sym m.1) among
+after-call old new (Err errors.OutOfMemory) r among l f m = subst IsAmongGuests (sym m.1) among
+
+-- a step that makes no stream
+step-leaves : (old : State) (act : Act) → makes_none act ≡ true → IsAmongGuests old → LeavesGuests old (reaction old act).state
+step-leaves old act n among = record { unhosted = reaction-unhosted old act among.unhosted; many = reaction-many old act n among.unhosted.sound }
 
 -- a call that takes no host ends
-pub plain_among : (old new : State) (result : Result Reply StoreError) (act : Act) → IsAmongGuests old → Meets old new result (reaction old act) → StillFits old new → IsAmongGuests new
-plain_among old new result act among m f =
-    after-call old new result (reaction old act) among (reaction-unhosted old act among.unhosted) (f nobody among.fits) m
+pub plain_among : (old new : State) (result : Result Reply StoreError) (act : Act) → IsAmongGuests old → makes_none act ≡ true → Meets old new result (reaction old act) → StillFits old new → IsAmongGuests new
+plain_among old new result act among n m f =
+    after-call old new result (reaction old act) among (step-leaves old act n among) (f nobody among.fits) m
 
 pub lowered_among : (old new : State) (result : Result Reply StoreError) (number g : ℕ) → IsAmongGuests old → Meets old new result (lowers_context old number g) → StillFits old new → IsAmongGuests new
 lowered_among old new result number g among m f =
-    after-call old new result (lowers_context old number g) among (lowering-unhosted old number g among.unhosted) (f nobody among.fits) m
+    after-call old new result (lowers_context old number g) among (record { unhosted = lowering-unhosted old number g among.unhosted; many = lowering-many old number g }) (f nobody among.fits) m
 
 -- one that takes host ends, of which there are none
 pub fits_nobody : (state : State) (tells : Tells) → IsAmongGuests state → tells ≡ nobody → Fits state tells
@@ -56,13 +68,13 @@ fits_nobody state tells among e = subst (Fits state) (sym e) among.fits
 pub hosted_meets : (old new : State) (tells told : Tells) (result : Result Reply StoreError) (act : Act) → IsAmongGuests old → is_of_guests act ≡ true → MeetsHosted old new tells told result act → Meets old new result (reaction old act)
 hosted_meets old new tells told result act among e m = (m.alone (touches-none old act among.unhosted e)).meets
 
-pub hosted_among : (old new : State) (tells told : Tells) (result : Result Reply StoreError) (act : Act) → IsAmongGuests old → tells ≡ nobody → is_of_guests act ≡ true → MeetsHosted old new tells told result act → IsAmongGuests new
-hosted_among old new tells told result act among n e m =
+pub hosted_among : (old new : State) (tells told : Tells) (result : Result Reply StoreError) (act : Act) → IsAmongGuests old → tells ≡ nobody → is_of_guests act ≡ true → makes_none act ≡ true → MeetsHosted old new tells told result act → IsAmongGuests new
+hosted_among old new tells told result act among n e k m =
     let a = m.alone (touches-none old act among.unhosted e) in
-    after-call old new result (reaction old act) among (reaction-unhosted old act among.unhosted) (subst (Fits new) (a.ends ∙ n) m.fits) a.meets
+    after-call old new result (reaction old act) among (step-leaves old act k among) (subst (Fits new) (a.ends ∙ n) m.fits) a.meets
 
 pub empty_among : (tag : ℕ) (limits : Limits) → Fits (empty tag limits) nobody → IsAmongGuests (empty tag limits)
-empty_among tag limits f = record { unhosted = empty-unhosted tag limits; fits = f }
+empty_among tag limits f = record { unhosted = empty-unhosted tag limits; fits = f; few = omega arith }
 
 and-false : (a : Bool) → (a && false) ≡ false
 and-false true = refl
@@ -81,6 +93,7 @@ written_among state guest address bytes among h =
         none = among.unhosted.none;
       };
       fits = record { writers = among.fits.writers; readers = among.fits.readers };
+      few = among.few;
     }
 
 -- and such as are written into one that is lent
@@ -93,6 +106,7 @@ lent_among state guest bytes among =
         none = among.unhosted.none;
       };
       fits = record { writers = among.fits.writers; readers = among.fits.readers };
+      few = among.few;
     }
 
 -- and one of which it is told where it lies
@@ -104,4 +118,5 @@ told_among state guest base among =
         none = among.unhosted.none;
       };
       fits = record { writers = among.fits.writers; readers = among.fits.readers };
+      few = among.few;
     }

@@ -1,2 +1,4 @@
 pub mod Among
 pub mod Lending
+pub mod Limits
+pub mod Limited

@@ -3,16 +3,19 @@
 //! Meaning: `State.antt` of `strm_machine`, and `Guests.antt` of `strm_transmit`. Source: wasmtime,
 //! `futures_and_streams.rs`, `ConcurrentState`; that host ends stand apart is ours.
 
-ghost use Rattle.std.specs.Prelude.{◌≡◌, ◌<◌, ◌↔◌, length, IsSome, IfSome, IsTrue};
+ghost use Rattle.std.specs.Prelude.{◌≡◌, ◌<◌, ◌≤◌, ◌↔◌, ◌*◌, length, IsSome, IfSome, IsTrue};
 ghost use Rattle.strm_buffers.specs.AllTells.{tells_of};
 ghost use Rattle.strm_codes.specs.Types.{kind_of, payload_of};
 ghost use Rattle.strm_machine.specs.State.{empty, is_live, stream_at, memory_in};
 ghost use Rattle.strm_transmit.specs.Guests.{nobody};
 
 mod contexts;
+mod counts;
 mod futures;
+mod making;
 mod memories;
 mod moves;
+mod queries;
 mod sets;
 mod streams;
 
@@ -85,15 +88,18 @@ impl GuestStore {
         self.store.trapped()
     }
 
-    /// How many streams and futures were made so far.
+    /// The numbers that streams and futures got so far: they are below this. One is given again once both ends
+    /// of its stream are gone, so there are never more than there is room for at once under the limit on
+    /// places.
     pub fn streams(&self) -> u32
-        ensures { result ≡ length self.now.streams }
+        ensures count { result ≡ length self.now.streams }
+        ensures few { 3 * length self.now.streams ≤ self.now.limits.places }
     {
         self.store.streams()
     }
 
-    /// How many items were received on a stream, from 0 on; it stays at 2^128 - 1 once there. None of a
-    /// stream that was never made.
+    /// How many items were received on the stream that got this number last, from 0 on; it stays at
+    /// 2^128 - 1 once there. None of a number that no stream got.
     pub fn moved(&self, stream: u32) -> Option<u128>
         ensures made { IsSome result ↔ (stream < length self.now.streams) }
         ensures count { IfSome result (λ count. count ≡ (stream_at self.now stream).received) }
@@ -101,7 +107,7 @@ impl GuestStore {
         self.store.moved(stream)
     }
 
-    /// The type of a stream of which an end is there, and none of any other.
+    /// The type of the stream that has this number, while an end of it is there.
     pub fn transmit_index(&self, stream: u32) -> Option<TransmitIndex>
         ensures live { IsSome result ↔ IsTrue (is_live (stream_at self.now stream)) }
         ensures ty { IfSome result (λ ty.

@@ -5,10 +5,15 @@
 //! stands on `strm_transmit`; `strm_c` gives it to C and to Rust.
 #![tactic(auto)]
 
+pub mod guest_limits;
 pub mod guest_store;
 pub mod laws;
+pub mod limit_laws;
+pub mod limited_store;
 
 pub use strm_machine::chunks::Chunk;
 pub use strm_machine::limits::Limits;
 pub use strm_machine::replies::{Member, Pair};
+pub use strm_machine::streams::{Owner, Side};
 pub use strm_transmit::errors::StoreError;
+pub use strm_transmit::{EndInfo, GuestCounts, Handle};

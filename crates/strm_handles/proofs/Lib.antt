@@ -3,3 +3,4 @@ pub mod ChainLemmas
 pub mod ChangeLemmas
 pub mod LookupLemmas
 pub mod LiveLemmas
+pub mod KindLemmas

@@ -7,3 +7,4 @@ pub mod Ends
 pub mod Lends
 pub mod Live
 pub mod Words
+pub mod Kinds

@@ -68,6 +68,21 @@ impl<E: Copy> Slots<E> {
         self.free as usize == self.slots.len()
     }
 
+    /// How many slots hold an entry.
+    pub(crate) fn len(&self) -> u32
+        ensures { result ≡ occupied self.now.handles }
+    {
+        self.slots.len() as u32 - self.free
+    }
+
+    /// How many slots there are: the greatest number that was ever given.
+    pub(crate) fn last(&self) -> u32
+        ensures exact { result ≡ length self.now.handles.entries }
+        ensures most { result < MAX_HANDLE }
+    {
+        self.slots.len() as u32
+    }
+
     /// The number that the next insert gives.
     #[inline(always)]
     pub(crate) fn next_index(&self) -> u32

@@ -2,8 +2,8 @@
 //!
 //! Source: wasmtime, `handle_table.rs`, `HandleTable`; Canonical ABI, "Table State".
 
-ghost use Rattle.std.specs.Prelude.{◌≡◌, ◌+◌, ◌<◌, ◌≤◌, ◌↔◌, IsTrue, OnOk, OnErr, IfErr};
-ghost use Rattle.strm_handles.specs.Handles.{no_handles, next_index, inserted, occupied, IsTable};
+ghost use Rattle.std.specs.Prelude.{◌≡◌, ◌+◌, ◌<◌, ◌≤◌, ◌↔◌, IsTrue, OnOk, OnErr, IfErr, option_copied, length};
+ghost use Rattle.strm_handles.specs.Handles.{no_handles, next_index, entry_at, inserted, occupied, IsTable};
 
 use crate::entries::{Entry, MAX_HANDLE};
 use crate::errors::HandleError;
@@ -12,6 +12,7 @@ use std::alloc::Global;
 use std::marker::Model;
 
 mod ends;
+mod kinds;
 mod others;
 mod resources;
 
@@ -20,6 +21,10 @@ mod resources;
 #[derive(Drop)]
 pub struct HandleTable {
     slots: Slots<Entry>,
+    // How many numbers stand for ends of streams and futures.
+    ends: u32,
+    // How many stand for error contexts.
+    contexts: u32,
 }
 
 impl Model for HandleTable {
@@ -27,7 +32,11 @@ impl Model for HandleTable {
 
     ghost Value = { Table };
 
+    ghost use Rattle.strm_handles.specs.Kinds.{IsTallied};
+
     ghost view = { λ t. t.slots };
+
+    ghost invariant = { IsTallied };
 }
 
 impl HandleTable {
@@ -38,6 +47,8 @@ impl HandleTable {
     {
         HandleTable {
             slots: Slots::new(alloc),
+            ends: 0,
+            contexts: 0,
         }
     }
 
@@ -53,6 +64,28 @@ impl HandleTable {
         ensures { IsTrue result ↔ (occupied self.now.handles ≡ 0) }
     {
         self.slots.is_empty()
+    }
+
+    /// How many numbers stand for something. It looks at none of them.
+    pub fn len(&self) -> u32
+        ensures { result ≡ occupied self.now.handles }
+    {
+        self.slots.len()
+    }
+
+    /// The greatest number that was ever given, whether it stands for something or not; 0 of a new table.
+    pub fn last(&self) -> u32
+        ensures exact { result ≡ length self.now.handles.entries }
+        ensures most { result < MAX_HANDLE }
+    {
+        self.slots.last()
+    }
+
+    /// What a number stands for, if anything. Canonical ABI, `Table.get`.
+    pub fn entry(&self, number: u32) -> Option<&Entry>
+        ensures { option_copied result ≡ entry_at self.now.handles number }
+    {
+        self.slots.get(number)
     }
 
     /// The number that the next insert gives; 2^28 where it gives none.

@@ -39,7 +39,7 @@ impl ThreadHandleTable {
         }
     }
 
-    /// The freed numbers are those that were given and stand for nothing, each once. Does nothing.
+    /// `HandleTable::sound`, of threads.
     pub fn sound(&self)
         ensures { IsTable self.now.handles }
     {

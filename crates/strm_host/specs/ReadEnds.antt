@@ -1,7 +1,7 @@
 -- The loose read end of a stream or future as a value that is used once, and what its calls answer.
 -- wasmtime, `futures_and_streams.rs`, `StreamReader`, `FutureReader`, `StreamAny` and `FutureAny`. Ours:
 -- the store's tag, and an error where wasmtime panics.
-use Rattle.std.specs.Prelude.{◌≡◌, ℕ, ◌==◌, ◌||◌, if◌then◌else◌, List, ◌++◌, codes, length, Option, Some, None, Result, Ok, Err}
+use Rattle.std.specs.Prelude.{◌≡◌, ◌≢◌, ℕ, ◌==◌, ◌||◌, if◌then◌else◌, List, ◌++◌, codes, length, Option, Some, None, Result, Ok, Err, OnOk, OnErr}
 use Rattle.strm_codes.specs.Ids.{id_text}
 use Rattle.strm_codes.specs.Sameness.{same_payload}
 use Rattle.strm_codes.specs.Types.{kind_of, payload_of}
@@ -11,6 +11,7 @@ use Rattle.strm_codes.specs.declared.payloads.Payload.{Payload}
 use Rattle.strm_buffers.specs.Tells.{Tells, told_by}
 use Rattle.strm_machine.specs.State.{State}
 use Rattle.strm_machine.specs.Tests.{same_kind}
+use Rattle.strm_host_machine.specs.Does.{Fits}
 use Rattle.strm_host_machine.specs.HostRefusals.{is_unknown_host}
 use Rattle.strm_host_machine.specs.Releasing.{released, after_release}
 use Rattle.strm_machine.specs.Acts.{act_of}
@@ -123,6 +124,14 @@ PipesTo end old new tells told r result = CallsAmong end old new tells told (OnH
 -- the read end is dropped
 abbrev pub Closes : ReadEnd → State → State → Tells → Tells → Result (Unit {0}) ReaderError → Type 0
 Closes end old new tells told result = CallsAmong end old new tells told (act_of (steps.Close end.id)) result
+
+-- after such a call the read end is used, or stays where it failed; and the host ends are those that the store
+-- needs
+pub record UsesUp (old new : ReadEnd) (store : State) (tells : Tells) (result : Result (Unit {0}) ReaderError) : Type 0 where
+  pub ok : OnOk result (new ≡ used_read_end old)
+  pub err : OnErr result (new ≡ old)
+  pub fits : Fits store tells
+  pub takes_no_memory : result ≢ Err reader_no_memory
 
 -- the host writer across is released with the read end, if it may be; its number is answered
 abbrev pub ReleasesBy : Option ReaderError → ℕ → State → State → Result (Option ℕ) ReaderError → Type 0

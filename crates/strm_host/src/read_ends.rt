@@ -7,7 +7,7 @@
 ghost use Rattle.std.specs.Prelude.{◌≡◌, ◌≢◌, ◌==◌, Err, OnOk, OnErr};
 ghost use Rattle.strm_host_machine.specs.Does.{Fits};
 ghost use Rattle.strm_transmit.specs.Hosted.{StillFits, StillKnows};
-ghost use Rattle.strm_host.specs.ReadEnds.{loose_read_end, used_read_end, reader_no_memory, tested, host_tested, any_tested, Makes, Lifts, LowersReadEnd, PipesTo, Closes, Releases, left_by};
+ghost use Rattle.strm_host.specs.ReadEnds.{loose_read_end, used_read_end, reader_no_memory, tested, host_tested, any_tested, Makes, Lifts, LowersReadEnd, PipesTo, Closes, UsesUp, Releases, left_by};
 
 use crate::reader_errors::ReaderError;
 use strm_codes::codes::TransmitIndex;
@@ -157,10 +157,7 @@ impl ReadEnd {
         requires fits { Fits store.old (H.tells hosts.old) }
         ensures calls { PipesTo self.old store.old store.new (H.tells hosts.old) (H.tells hosts.new)
             reader result }
-        ensures ok { OnOk result (self.new ≡ used_read_end self.old) }
-        ensures err { OnErr result (self.new ≡ self.old) }
-        ensures fits { Fits store.new (H.tells hosts.new) }
-        ensures takes_no_memory { result ≢ Err reader_no_memory }
+        ensures uses_up { UsesUp self.old self.new store.new (H.tells hosts.new) result }
     {
         match self.test(store) {
             Some(error) => return Err(error),
@@ -200,10 +197,7 @@ impl ReadEnd {
         requires fits { Fits store.old (H.tells hosts.old) }
         ensures calls { Closes self.old store.old store.new (H.tells hosts.old) (H.tells hosts.new)
             result }
-        ensures ok { OnOk result (self.new ≡ used_read_end self.old) }
-        ensures err { OnErr result (self.new ≡ self.old) }
-        ensures fits { Fits store.new (H.tells hosts.new) }
-        ensures takes_no_memory { result ≢ Err reader_no_memory }
+        ensures uses_up { UsesUp self.old self.new store.new (H.tells hosts.new) result }
     {
         match self.test(store) {
             Some(error) => return Err(error),

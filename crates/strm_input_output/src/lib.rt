@@ -7,6 +7,7 @@
 pub mod answers;
 pub mod in_memory;
 pub mod ports;
+pub mod processes;
 pub mod standard;
 pub mod statuses;
 pub mod whole;

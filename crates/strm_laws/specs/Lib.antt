@@ -1,2 +1,3 @@
 pub mod Conservation
+pub mod Starts
 pub mod Laws

@@ -2,6 +2,7 @@ pub mod Bytes
 pub mod Numbers
 pub mod Items
 pub mod Copies
+pub mod Copying
 pub mod Region
 pub mod Linear
 pub mod Lending

@@ -8,6 +8,7 @@ ghost use Rattle.std.specs.Prelude.{◌≡◌, ◌+◌, ◌*◌, ◌≤◌, ◌�
 ghost use Rattle.strm_codes.specs.Layout.{scalars_of, item_size};
 ghost use Rattle.strm_memory.specs.Bytes.{put_at, bytes_at};
 ghost use Rattle.strm_memory.specs.Items.{items, stored, items_at, stored_at, is_number_or_none};
+ghost use Rattle.strm_memory.specs.Copying.{CopiesItems};
 
 use crate::good_items::are_good_items;
 use crate::limits::copy_good_items;
@@ -85,10 +86,8 @@ fn copy_tested(
 ) -> Result<(), BadItem>
     requires source_holds { from + item_size (scalars_of payload) * count ≤ length source.now }
     requires room { to + item_size (scalars_of payload) * count ≤ length destination.old }
-    ensures ok { OnOk result (IsSomeAnd (items_at (scalars_of payload) source.now from count)
-        (λ xs. destination.new ≡ stored_at (scalars_of payload) destination.old to xs)) }
-    ensures bad { IsErr result ↔ IsNone (items_at (scalars_of payload) source.now from count) }
-    ensures err { OnErr result (destination.new ≡ destination.old) }
+    ensures { CopiesItems (scalars_of payload) source.now from destination.old destination.new to
+        count result }
 {
     copy_fields(
         source,
@@ -115,10 +114,7 @@ fn copy_fields(
     requires most { size ≤ 64 }
     requires source_holds { from + size * count ≤ length source.now }
     requires destination_holds { to + size * count ≤ length destination.old }
-    ensures ok { OnOk result (IsSomeAnd (items_at fields.now source.now from count)
-        (λ xs. destination.new ≡ stored_at fields.now destination.old to xs)) }
-    ensures bad { IsErr result ↔ IsNone (items_at fields.now source.now from count) }
-    ensures err { OnErr result (destination.new ≡ destination.old) }
+    ensures { CopiesItems fields.now source.now from destination.old destination.new to count result }
 {
     if !are_good_items(fields, source, from, size, count) {
         return Err(BadItem);

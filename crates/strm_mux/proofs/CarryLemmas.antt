@@ -5,6 +5,7 @@ use Rattle.std.proofs.lemmas.List.Elements.{All-append}
 use Rattle.strm_memory.specs.Bytes.{IsBytes}
 use Rattle.strm_machine.specs.Acts.{act_of}
 use Rattle.strm_machine.specs.State.{State, no_stream}
+use Rattle.strm_laws.specs.Starts.{run_start}
 use Rattle.strm_machine.specs.Plays.{play, Ends, Halts}
 use Rattle.strm_machine.specs.Reactions.{react}
 use Rattle.strm_machine.specs.Moments.{received}
@@ -14,7 +15,7 @@ use Rattle.strm_machine.specs.declared.steps.Step.{Step}
 use Rattle.strm_machine.specs.declared.steps.Step.TheVariants as steps
 use Rattle.strm_laws.specs.Conservation.{state_after_steps, moments, replies_of}
 use Rattle.strm_transmit.specs.Guests.{is_of_guests}
-use Rattle.strm_session.specs.Runs.{run_start, AreOfGuests, counts_of, StopsAt, StopsBy}
+use Rattle.strm_session.specs.Runs.{AreOfGuests, counts_of, StopsAt, StopsBy}
 use Rattle.strm_session.specs.declared.runs.RunCause.{RunCause}
 use Rattle.strm_session.specs.declared.runs.RunCause.TheVariants as causes
 use Rattle.strm_session.proofs.PlayLemmas.{play-goes}

@@ -8,6 +8,7 @@ use Rattle.std.proofs.lemmas.List.{append-nil, take_at, take_all, drop_all, leng
 use Rattle.std.proofs.lemmas.List.Concat.{flat_map-append}
 use Rattle.std.proofs.lemmas.List.Elements.{All-nil, All-push, All-head, All-tail, All-take}
 use Rattle.std.proofs.lemmas.Option.{same_Some}
+use Rattle.std.proofs.lemmas.Result.{IfOk-at_ok}
 use Rattle.strm_lines.specs.Grammar.{IsBetween, IsLineBytes}
 use Rattle.strm_lines.specs.Lines.{on_first, lines_of}
 use Rattle.strm_lines.specs.Reading.{behind, followed_by, hex}
@@ -171,10 +172,6 @@ not_ended : (flag : Bool) (r : Result (Unit {0}) MuxError) (lane : ℕ) (u : Uni
 not_ended false r lane u e f = refl
 not_ended true r lane u e f = let g : r ≡ Err (errors.Ended lane) = f.1 refl in cc
 
-on_ok : {P : Type 0} (r : Result (Unit {0}) MuxError) (u : Unit {0}) → r ≡ Ok u → OnOk r P → P
-on_ok (Ok v) u e p = p
-on_ok (Err error) u e p = cc
-
 -- what was put is one frame
 pub data_taken : (old now : Written) (lane : ℕ) (piece : List ℕ) (r : Result (Unit {0}) MuxError) → FrameHasLine (Data lane piece) → OnOk r (now ≡ record old { bytes = old.bytes ++ encoding (pieces_of lane piece) }) → OnOk r (now.bytes ≡ old.bytes ++ spelled (Data lane piece))
 data_taken old now lane piece (Ok u) h e =
@@ -197,8 +194,8 @@ takes old now new line f r u read ok is a =
       frame = f;
       read = read;
       unended = not_ended (slice_index_or old.ended (lane_named f) false) r (lane_named f) u ok a.ended;
-      bytes = on_ok r u ok a.taken;
-      carries = λ given c. on_ok r u ok (a.carries given c);
+      bytes = IfOk-at_ok (λ _. now.bytes ≡ old.bytes ++ spelled f) ok a.taken;
+      carries = λ given c. IfOk-at_ok (λ _. MuxCarries now (given ++ f ∷ [])) ok (a.carries given c);
     })
 
 -- WHAT A MUX HOLDS OF THEM

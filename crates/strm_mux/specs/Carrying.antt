@@ -2,11 +2,11 @@
 use Rattle.std.specs.Prelude.{◌≡◌, ℕ, ◌<◌, ◌≤◌, false, List, [], ◌∷◌, length, slice_index_or}
 use Rattle.strm_laws.specs.Conservation.{got, moments, state_after_steps}
 use Rattle.strm_machine.specs.Moments.{received}
+use Rattle.strm_laws.specs.Starts.{run_start}
 use Rattle.strm_machine.specs.Plays.{play, Ends}
 use Rattle.strm_machine.specs.declared.replies.Reply.{Reply}
 use Rattle.strm_machine.specs.declared.steps.Step.{Step}
 use Rattle.strm_carry_laws.specs.OneStream.{script_of, bytes_as_items}
-use Rattle.strm_session.specs.Runs.{run_start}
 use Rattle.strm_frames.specs.Frames.{Frame, lane_in, ends}
 use Rattle.strm_frames.specs.Demuxes.{LanesHeard}
 

@@ -9,10 +9,11 @@ ghost use Rattle.strm_frames.specs.Frames.{Frame};
 ghost use Rattle.strm_frames.specs.Muxes.{MuxCarries};
 ghost use Rattle.strm_laws.specs.Conservation.{moments, state_after_steps, replies_of};
 ghost use Rattle.strm_machine.specs.Plays.{play, Ends};
+ghost use Rattle.strm_laws.specs.Starts.{run_start};
 ghost use Rattle.strm_memory.specs.Bytes.{IsBytes};
 ghost use Rattle.strm_mux.specs.Carrying.{AreCarried, DeliversFrames, IsOneCount};
 ghost use Rattle.strm_carry_laws.specs.OneStream.{AreSettled};
-ghost use Rattle.strm_session.specs.Runs.{run_start, AreOfGuests, counts_of};
+ghost use Rattle.strm_session.specs.Runs.{AreOfGuests, counts_of};
 
 use crate::hearing::heard;
 use crate::scripts::script;

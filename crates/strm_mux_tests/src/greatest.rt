@@ -28,11 +28,7 @@ fn a_full_frame_on_each_lane(rt: HostRuntime) {
 
 // So many bytes, from 0 to 250 over and over.
 fn bytes(alloc: Global, count: usize) -> Result<Vec<u8>, AllocError> {
-    let mut list = Vec::with_capacity(alloc, count)?;
-    for k in 0..count {
-        list.push((k % 251) as u8)?;
-    }
-    Ok(list)
+    (0..count).map(|k| (k % 251) as u8).collect(alloc)
 }
 
 // Whether a mux of 1,048,576 bytes is carried in pieces of these sizes: 4,064 full frames, and one of 61.

@@ -1,7 +1,11 @@
 -- A scripted writer meets what a poll owes.
-use Rattle.std.proofs.Common.{◌≡◌, ℕ, ◌+◌, Bool, List, [], ◌∷◌, ◌++◌, Option, Some, None, refl, arith, append-nil}
+use Rattle.std.proofs.Common.{◌≡◌, ℕ, ◌+◌, Bool, List, [], ◌∷◌, ◌++◌, map, Option, Some, None, refl, arith, append-nil}
+use Rattle.std.specs.Prelude.{All}
 use Rattle.std.proofs.lemmas.Bool.Decides.{nat_tests}
 use Rattle.std.proofs.lemmas.List.{take-append-drop}
+use Rattle.std.proofs.lemmas.List.Elements.{All-map}
+use Rattle.strm_codes.specs.declared.payloads.Payload.TheVariants.{One}
+use Rattle.strm_codes.specs.declared.scalars.Scalar.TheVariants.{U8}
 use Rattle.strm_codes.specs.Layout.{scalars_of}
 use Rattle.strm_memory.specs.Items.{AreItems}
 use Rattle.strm_buffers.specs.Listing.{Item}
@@ -10,8 +14,13 @@ use Rattle.strm_buffers.specs.Said.{WriterSaid, in_room, past_room}
 use Rattle.strm_buffers.specs.Tells.{PollsWriter, RisesOnFailed, writer_record}
 use Rattle.strm_buffers.specs.declared.answers.Answer.{Answer}
 use Rattle.strm_buffers.specs.declared.answers.Answer.TheVariants.{Pending, Completed, Cancelled, Dropped, Failed}
-use Rattle.strm_program_ends.specs.Scripts.{faults_of_answer, faults_in, scripted_tells}
+use Rattle.strm_program_ends.specs.Scripts.{faults_of_answer, faults_in, scripted_tells, turn_of_bytes}
+use Rattle.strm_program_ends.specs.declared.scripted_writer.WriterTurn.{WriterTurn}
 use Rattle.strm_program_ends.specs.declared.scripted_writer.ScriptedWriter.{ScriptedWriter}
+
+-- turns of bytes are of bytes
+pub bytes_typed : {X : Type 0} (f : X → List ℕ) (g : X → Answer) (xs : List X) → All (λ (turn : WriterTurn). turn.items.payload ≡ One U8) (map (λ x. turn_of_bytes (f x) (g x)) xs)
+bytes_typed f g xs = All-map (λ (turn : WriterTurn). turn.items.payload ≡ One U8) (λ x. turn_of_bytes (f x) (g x)) xs (λ k d within. refl)
 
 -- what there is room for and what there is not are all
 pub room_parts : (room : Option ℕ) (xs : List Item) → in_room room xs ++ past_room room xs ≡ xs

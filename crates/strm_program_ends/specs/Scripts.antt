@@ -2,10 +2,12 @@
 use Rattle.std.specs.Prelude.{◌≡◌, ℕ, ◌+◌, List, [], ◌∷◌, ◌++◌, drop, Bool, false, None}
 use Rattle.strm_codes.specs.declared.codes.TransmitKind.{TransmitKind}
 use Rattle.strm_codes.specs.declared.payloads.Payload.{Payload}
+use Rattle.strm_codes.specs.declared.payloads.Payload.TheVariants.{One}
+use Rattle.strm_codes.specs.declared.scalars.Scalar.TheVariants.{U8}
 use Rattle.strm_buffers.specs.declared.answers.Answer.{Answer}
 use Rattle.strm_buffers.specs.declared.answers.Answer.TheVariants.{Pending, Failed}
 use Rattle.strm_codes.specs.Layout.{scalars_of}
-use Rattle.strm_memory.specs.Items.{AreItems}
+use Rattle.strm_memory.specs.Items.{AreItems, byte_items}
 use Rattle.strm_buffers.specs.Listing.{Item}
 use Rattle.strm_buffers.specs.Windows.{Lent, room_of}
 use Rattle.strm_buffers.specs.Said.{WriterSaid, in_room, past_room}
@@ -22,6 +24,10 @@ next_items (turn ∷ turns) = turn.items.items
 abbrev pub next_answer : List WriterTurn → Answer
 next_answer [] = Pending
 next_answer (turn ∷ turns) = turn.answer
+
+-- the turn that produces these bytes, and answers so
+abbrev pub turn_of_bytes : List ℕ → Answer → WriterTurn
+turn_of_bytes bytes answer = record { items = record { payload = One U8; items = byte_items bytes }; answer = answer }
 
 -- one for an answer that is a fault
 abbrev pub faults_of_answer : Answer → ℕ
@@ -58,12 +64,6 @@ pub record DoesNextTurn (old new : ScriptedWriter) (after : Lent) (answer : Answ
   pub answers : answer ≡ next_answer old.turns.items
   pub items : after.marked ++ new.held.items ≡ next_items old.turns.items
   pub turns : new.turns.items ≡ drop 1 old.turns.items
-
--- turns that do the same
-pub record SameTurns (old new : List WriterTurn) : Type 0 where
-  pub answer : next_answer new ≡ next_answer old
-  pub items : next_items new ≡ next_items old
-  pub behind : drop 1 new ≡ drop 1 old
 
 -- the record of a poll that does the next of these turns
 abbrev pub turn_record : Lent → Bool → List WriterTurn → WriterSaid

@@ -3,6 +3,7 @@ use Rattle.std.proofs.Common.{◌≡◌, ℕ, ◌+◌, true, false, List, [], �
 use Rattle.std.proofs.lemmas.List.Elements.{All-pop, All-take, All-get_or}
 use Rattle.strm_buffers.specs.Tells.{Tells}
 use Rattle.strm_machine.specs.State.{State}
+use Rattle.strm_laws.specs.Starts.{run_start}
 use Rattle.strm_machine.specs.Reactions.{react}
 use Rattle.strm_machine.specs.Plays.{play}
 use Rattle.strm_machine.specs.Acts.{act_of}
@@ -16,7 +17,7 @@ use Rattle.strm_host_machine.specs.Does.{Fits}
 use Rattle.strm_transmit.specs.Hosted.{lone}
 use Rattle.strm_transmit.specs.Guests.{Unhosted, is_of_guests}
 use Rattle.strm_transmit.proofs.GuestLemmas.{reaction-unhosted, empty-unhosted, touches-none}
-use Rattle.strm_session.specs.Runs.{run_start, AreOfGuests}
+use Rattle.strm_session.specs.Runs.{AreOfGuests}
 use Rattle.strm_session.proofs.PlayLemmas.{HaveLed, IsAt, take-at, played_more}
 
 -- no host end is in use at the start

@@ -6,6 +6,7 @@ use Rattle.std.proofs.Math.Nat.{le_trans}
 use Rattle.strm_buffers.specs.Said.{WriterSaid}
 use Rattle.strm_buffers.specs.Tells.{WriterTells, Tells}
 use Rattle.strm_machine.specs.State.{State, no_producer}
+use Rattle.strm_laws.specs.Starts.{run_start}
 use Rattle.strm_machine.specs.declared.streams.Duty.{Duty}
 use Rattle.strm_machine.specs.declared.streams.Duty.TheVariants.{Unused, Serves, Ended}
 use Rattle.strm_machine.specs.declared.streams.Producer.{Producer}
@@ -30,7 +31,7 @@ use Rattle.strm_host_machine.specs.Does.{Logs, saids, Extends, is_ended, first_d
 use Rattle.strm_host_machine.proofs.DoesLemmas.{rose_more, extends_self}
 use Rattle.strm_host_machine.proofs.GrowLemmas.{supplied_since_itself}
 use Rattle.strm_session.specs.Records.{HostsGoOn}
-use Rattle.strm_session.specs.Runs.{run_start, start_among, stop_of, halted_in, HaltsBy, Raised, StaysThere, StopsAsking, RunsOutUnmet, StopsAmong, RunsOutThere, Before, Behind, InPoll, BeforeOffer, StopsOutOfMemory, RunsOutStep, Polling, Untouched, Unkept, LeavesOutOfMemory}
+use Rattle.strm_session.specs.Runs.{start_among, stop_of, halted_in, HaltsBy, Raised, StaysThere, StopsAsking, RunsOutUnmet, StopsAmong, RunsOutThere, Before, Behind, InPoll, BeforeOffer, StopsOutOfMemory, RunsOutStep, Polling, Untouched, Unkept, LeavesOutOfMemory}
 use Rattle.strm_transmit.specs.Hosted.{lone}
 use Rattle.strm_transmit.specs.OutOfMemory.{RunsOutInPoll, InAPoll, InADrive}
 use Rattle.strm_session.specs.declared.runs.RunCause.{RunCause}

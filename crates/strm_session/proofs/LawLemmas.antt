@@ -4,6 +4,7 @@ use Rattle.std.specs.Prelude.{All}
 use Rattle.std.proofs.lemmas.List.{take_at, length-take}
 use Rattle.std.proofs.lemmas.List.Elements.{All-nil, All-cons}
 use Rattle.strm_machine.specs.State.{State}
+use Rattle.strm_laws.specs.Starts.{run_start}
 use Rattle.strm_machine.specs.Reactions.{react}
 use Rattle.strm_machine.specs.Plays.{play, Ends}
 use Rattle.strm_machine.specs.declared.steps.Step.{Step}
@@ -14,7 +15,7 @@ use Rattle.strm_laws.specs.Laws.{StepHasBytes, AreSteps}
 use Rattle.strm_machine.specs.Untouched.{StaysAside, LieThere}
 use Rattle.strm_laws.proofs.LawfulRuns.{AreSteps-take}
 use Rattle.strm_laws.proofs.Replies.{play-ends}
-use Rattle.strm_session.specs.Runs.{run_start, HasLaws, IsRunKept}
+use Rattle.strm_session.specs.Runs.{HasLaws, IsRunKept}
 
 -- the laws of whichever steps
 abbrev pub LawsHold : Type 0

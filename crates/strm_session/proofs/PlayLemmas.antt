@@ -4,13 +4,14 @@ use Rattle.std.proofs.lemmas.List.{take_more, append-nil}
 use Rattle.std.proofs.Common.{◌≡◌, ℕ, ◌+◌, ◌<◌, true, false, List, [], ◌∷◌, ◌++◌, length, take, drop, get_or, suc, refl, sym, ap, ◌∙◌, subst, append_assoc}
 use Rattle.strm_machine.specs.Words.{State}
 use Rattle.strm_machine.specs.Reactions.{Reaction, goes, react}
+use Rattle.strm_laws.specs.Starts.{run_start}
 use Rattle.strm_machine.specs.Plays.{Played, Ends, Halts, after_step, play}
 use Rattle.strm_machine.specs.declared.steps.Step.{Step}
 use Rattle.strm_machine.specs.declared.replies.Reply.{Reply}
 use Rattle.strm_machine.specs.declared.replies.Reply.TheVariants as replies
 use Rattle.strm_machine.proofs.AskedLemmas.{react-by, reply-bad, bad-traps}
 use Rattle.strm_transmit.specs.Meets.{is_done, is_settled}
-use Rattle.strm_session.specs.Runs.{run_start, StopsAt, StopsStep}
+use Rattle.strm_session.specs.Runs.{StopsAt, StopsStep}
 use Rattle.strm_session.specs.declared.runs.RunCause.{RunCause}
 use Rattle.strm_session.specs.declared.runs.RunCause.TheVariants as causes
 

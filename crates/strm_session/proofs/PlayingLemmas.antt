@@ -8,6 +8,7 @@ use Rattle.strm_buffers.specs.Tells.{Tells, HoldsItems}
 use Rattle.strm_laws.specs.Laws.{StepHasBytes}
 use Rattle.strm_machine.specs.Acts.{act_of}
 use Rattle.strm_machine.specs.State.{State}
+use Rattle.strm_laws.specs.Starts.{run_start}
 use Rattle.strm_machine.specs.Plays.{play, Ends}
 use Rattle.strm_machine.specs.Untouched.{StaysAside, LieThere}
 use Rattle.strm_machine.specs.declared.steps.Step.{Step}
@@ -23,7 +24,7 @@ use Rattle.strm_session.specs.declared.playing.Ended.{Ended}
 use Rattle.strm_session.specs.declared.runs.RunCause.{RunCause}
 use Rattle.strm_session.specs.declared.runs.RunCause.TheVariants as causes
 use Rattle.strm_session.specs.Records.{StopsByRecord, StopRules}
-use Rattle.strm_session.specs.Runs.{run_start, start_among, AreOfGuests, counts_of, stop_of, StopsAmong, StopsOutOfMemory, LeavesOutOfMemory, Before, StopsStep, StopsAt, HasStopped}
+use Rattle.strm_session.specs.Runs.{start_among, AreOfGuests, counts_of, stop_of, StopsAmong, StopsOutOfMemory, LeavesOutOfMemory, Before, StopsStep, StopsAt, HasStopped}
 use Rattle.strm_session.specs.Playing.{IsRunPlayed, HasRun}
 use Rattle.strm_session.proofs.PlayLemmas.{IsAt, stops, stopped_before}
 use Rattle.strm_host_machine.proofs.DoesLemmas.{extends_self}

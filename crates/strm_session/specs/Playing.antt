@@ -1,6 +1,7 @@
 -- Steps and runs of them, whatever their replies are kept as. Ours.
 use Rattle.std.specs.Prelude.{◌≡◌, ◌+◌, ◌≤◌, ℕ, false, List, [], ◌∷◌, ◌++◌, length, take, All, Result, Ok, Err, IfOk, IfErr, OnOk}
 use Rattle.strm_machine.specs.State.{State}
+use Rattle.strm_laws.specs.Starts.{run_start}
 use Rattle.strm_machine.specs.Plays.{play, Ends}
 use Rattle.strm_machine.specs.declared.steps.Step.{Step}
 use Rattle.strm_machine.specs.declared.replies.Reply.{Reply}
@@ -15,7 +16,7 @@ use Rattle.strm_session.specs.declared.playing.Ended.{Ended}
 use Rattle.strm_session.specs.declared.runs.RunCause.{RunCause}
 use Rattle.strm_session.specs.declared.runs.RunCause.TheVariants as causes
 use Rattle.strm_session.specs.Records.{StopsByRecord, RulesKept, StopRules, HostsGoOn}
-use Rattle.strm_session.specs.Runs.{run_start, start_among, AreOfGuests, counts_of, stop_of, StopsAmong, StopsOutOfMemory, StopsAt, StopsStep, LeavesOutOfMemory, IsWhole, HasStopped}
+use Rattle.strm_session.specs.Runs.{start_among, AreOfGuests, counts_of, stop_of, StopsAmong, StopsOutOfMemory, StopsAt, StopsStep, LeavesOutOfMemory, IsWhole, HasStopped}
 
 -- a step was done from this state, and from what host ends told before, or it stopped the run: it is the machine's
 -- among host ends, and after it the store fits what they tell

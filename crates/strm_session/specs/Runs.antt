@@ -2,7 +2,8 @@
 -- state alone is said of runs of guests alone. Ours.
 use Rattle.std.specs.Prelude.{◌≡◌, ℕ, ◌+◌, ◌≤◌, ◌<◌, min, true, false, List, [], ◌∷◌, ◌++◌, length, map, take, slice_get, All, Option, Some, None, Result, Ok, IsErr, IfErr}
 use Rattle.strm_codes.specs.declared.codes.TransmitKind.TheVariants.{Future}
-use Rattle.strm_machine.specs.State.{State, empty, stream_at}
+use Rattle.strm_machine.specs.State.{State, stream_at}
+use Rattle.strm_laws.specs.Starts.{run_start}
 use Rattle.strm_machine.specs.Reactions.{react}
 use Rattle.strm_machine.specs.Plays.{play, Ends, Halts}
 use Rattle.strm_machine.specs.Moments.{Moment}
@@ -40,12 +41,8 @@ use Rattle.strm_session.specs.declared.runs.RunStop.{RunStop}
 use Rattle.strm_session.specs.declared.runs.Transcript.{Transcript}
 use Rattle.strm_session.specs.declared.runs.RunCause.TheVariants as causes
 
--- a run begins with a store without guests, named 0, under these limits
-abbrev pub run_start : State
-run_start = empty 0 (record { handles = 1000000; places = 1000000 })
-
--- the same among host ends that tell this, and will tell that in the end: what they add to their records
--- meanwhile is what is to come
+-- a run among host ends that tell this, and will tell that in the end, begins with the store of `run_start`: what
+-- they add to their records meanwhile is what is to come
 abbrev pub start_among : Tells → Tells → World
 start_among old new = world_of run_start old (saids new)
 

@@ -6,6 +6,7 @@ ghost use Rattle.std.specs.Prelude.{◌≡◌, ◌∷◌, ◌++◌, [], List, �
 ghost use Rattle.strm_machine.specs.declared.steps.Step.{Step};
 ghost use Rattle.strm_machine.specs.declared.replies.Reply.{Reply};
 ghost use Rattle.strm_machine.specs.Moments.{moment_of};
+ghost use Rattle.strm_laws.specs.Starts.{run_start};
 ghost use Rattle.strm_machine.specs.Untouched.{StaysAside, LieThere};
 ghost use Rattle.strm_laws.specs.Conservation.{moments, state_after_steps};
 ghost use Rattle.strm_laws.specs.Laws.{AreSteps};
@@ -16,7 +17,7 @@ ghost use Rattle.strm_machine.specs.declared.stops.Stop.{Stop};
 ghost use Rattle.strm_host_laws.specs.HostLaws.{ClosesExactly, EndsExactly, WriterHalts, ReadersCloseExactly, ReaderHalts};
 ghost use Rattle.strm_host_laws.specs.HostMoments.{host_moments, end_world};
 ghost use Rattle.strm_buffers.specs.Tells.{Tells};
-ghost use Rattle.strm_session.specs.Runs.{run_start, start_among, HasLaws, HasLawsFirst};
+ghost use Rattle.strm_session.specs.Runs.{start_among, HasLaws, HasLawsFirst};
 
 use strm_host_laws::{guests, runs};
 use strm_laws::laws::{

@@ -10,7 +10,8 @@ ghost use Rattle.strm_laws.specs.Laws.{StepHasBytes};
 ghost use Rattle.strm_host_machine.specs.Steps.{touches};
 ghost use Rattle.strm_host_machine.specs.Does.{Fits};
 ghost use Rattle.strm_transmit.specs.Hosted.{call_answered, lone};
-ghost use Rattle.strm_session.specs.Runs.{run_start, counts_of, stop_of, HaveRoom};
+ghost use Rattle.strm_laws.specs.Starts.{run_start};
+ghost use Rattle.strm_session.specs.Runs.{counts_of, stop_of, HaveRoom};
 ghost use Rattle.strm_session.specs.Playing.{IsStepped, IsSteppedAlone, IsRunPlayed, HasRun};
 
 use crate::laws::{laws_hold, laws_hold_among};

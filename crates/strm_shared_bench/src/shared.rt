@@ -69,69 +69,37 @@ fn one<R: Wait>(
     moved
 }
 
-// The same of two threads, with the streams of two guests.
-fn two<R: Threads + Wait + Sync>(
+/// So many rounds of each of so many threads, on the streams of the guests from this one on.
+pub(crate) fn worked<R: Threads + Wait + Sync>(
     rt: &R,
     alloc: Global,
     store: &SharedStore,
     mut seat: Seat,
     guest: u32,
-    rounds: u32,
-) -> u64
-    requires { IsOf store.now seat }
-{
-    let Ok(other) = store.seat_split(rt, &mut seat) else {
-        return 0;
-    };
-    let next = guest.wrapping_add(1);
-    let (left, right) = join(
-        rt,
-        || one(rt, alloc, store, seat, guest, rounds),
-        || one(rt, alloc, store, other, next, rounds),
-    );
-    left.wrapping_add(right)
-}
-
-fn four<R: Threads + Wait + Sync>(
-    rt: &R,
-    alloc: Global,
-    store: &SharedStore,
-    mut seat: Seat,
-    rounds: u32,
-) -> u64
-    requires { IsOf store.now seat }
-{
-    let Ok(other) = store.seat_split(rt, &mut seat) else {
-        return 0;
-    };
-    let (left, right) = join(
-        rt,
-        ||
-            requires { IsSync R.row × IsOf store.now seat }
-        { two(rt, alloc, store, seat, 0, rounds) },
-        ||
-            requires { IsSync R.row × IsOf store.now other }
-        { two(rt, alloc, store, other, 2, rounds) },
-    );
-    left.wrapping_add(right)
-}
-
-/// So many rounds of each of one, two or four threads, on streams of their own.
-pub(crate) fn worked<R: Threads + Wait + Sync>(
-    rt: &R,
-    alloc: Global,
-    store: &SharedStore,
-    seat: Seat,
     threads: u32,
     rounds: u32,
 ) -> u64
     requires { IsOf store.now seat }
 {
-    match threads {
-        1 => one(rt, alloc, store, seat, 0, rounds),
-        2 => two(rt, alloc, store, seat, 0, rounds),
-        _ => four(rt, alloc, store, seat, rounds),
+    if threads < 2 {
+        return one(rt, alloc, store, seat, guest, rounds);
     }
+    let Ok(other) = store.seat_split(rt, &mut seat) else {
+        return 0;
+    };
+    let half = threads / 2;
+    let rest = threads - half;
+    let next = guest.wrapping_add(half);
+    let (left, right) = join(
+        rt,
+        ||
+            requires { IsSync R.row × IsOf store.now seat }
+        { worked(rt, alloc, store, seat, guest, half, rounds) },
+        ||
+            requires { IsSync R.row × IsOf store.now other }
+        { worked(rt, alloc, store, other, next, rest, rounds) },
+    );
+    left.wrapping_add(right)
 }
 
 // So many reads or writes, each of which waits for the other thread's: how many items they moved.

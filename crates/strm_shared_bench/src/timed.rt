@@ -48,7 +48,7 @@ pub(crate) fn time_threads<R: Threads + Wait + Sync + Clock + Print + Eprint>(
         return println!(rt; "no memory");
     };
     let start = Instant::now(rt)?;
-    let moved = worked(rt, alloc, &store, seat, threads, rounds);
+    let moved = worked(rt, alloc, &store, seat, 0, threads.min(4), rounds);
     let spent = start.elapsed(rt)?.as_nanos();
     let name = match threads {
         1 => "a call of one thread",

@@ -100,25 +100,6 @@ fn write_again(bytes: &[u8], payload: Payload, count: u32, written: &mut Vec<u8>
     }
 }
 
-// The same over new zeros.
-fn fill(
-    bytes: &[u8],
-    payload: Payload,
-    count: u32,
-    written: &mut Vec<u8>,
-) -> Result<bool, OutOfMemory>
-    requires all { length bytes.now ≡ item_size (scalars_of payload) * count }
-    requires empty { written.old.items ≡ [] }
-    requires few { count < 4294967295 }
-    ensures kept { IfOk result (λ same. IsTrue same →
-        AreItemsKept payload written.new.items 0 count) }
-    ensures exact { IfOk result (λ same. items_as_written (scalars_of payload) bytes.now count
-        ≡ (if same then Some (items_in (scalars_of payload) written.new.items 0 count) else None)) }
-{
-    put_zeros(written, bytes.len())?;
-    Ok(write_again(bytes, payload, count, written))
-}
-
 // The same of whole numbers: whatever they are, they lie so, and are written once.
 fn fill_plain(
     bytes: &[u8],
@@ -139,8 +120,8 @@ fn fill_plain(
     Ok(())
 }
 
-// The same of items of any payload.
-fn fill_any(
+// The same over new zeros, of items of any payload.
+fn fill(
     bytes: &[u8],
     payload: Payload,
     count: u32,
@@ -154,11 +135,12 @@ fn fill_any(
     ensures exact { IfOk result (λ same. items_as_written (scalars_of payload) bytes.now count
         ≡ (if same then Some (items_in (scalars_of payload) written.new.items 0 count) else None)) }
 {
-    if !payload.is_number() {
-        return fill(bytes, payload, count, written);
+    if payload.is_number() {
+        fill_plain(bytes, payload, count, written)?;
+        return Ok(true);
     }
-    fill_plain(bytes, payload, count, written)?;
-    Ok(true)
+    put_zeros(written, bytes.len())?;
+    Ok(write_again(bytes, payload, count, written))
 }
 
 // The items that these bytes are, where they lie in them as they are written over zeros.
@@ -175,7 +157,7 @@ fn items_of_bytes(
         (items_as_written (scalars_of payload.now) bytes.now count)) }
 {
     let mut written = Vec::new(alloc);
-    if !fill_any(bytes, *payload, count, &mut written)? {
+    if !fill(bytes, *payload, count, &mut written)? {
         return Ok(None);
     }
     Ok(Some(Items::of_bytes(*payload, written, count as usize)))

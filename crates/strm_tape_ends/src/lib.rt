@@ -4,6 +4,5 @@
 //! Meaning: `Replays.antt`, `ReaderPlans.antt`. Ours.
 #![tactic(auto)]
 
-mod coming;
 pub mod replay_reader;
 pub mod replay_writer;

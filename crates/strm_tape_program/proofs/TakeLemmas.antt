@@ -1,6 +1,6 @@
 -- What is written of a script that is taken on tape.
 use Rattle.std.proofs.lemmas.Bool.{cases_eq}
-use Rattle.std.proofs.Common.{◌≡◌, ◌≢◌, ◌⊎◌, inl, inr, ℕ, zero, suc, ◌<◌, List, [], ◌∷◌, length, Option, Some, None, Result, Ok, Err, OnOk, ap, ◌∙◌, subst, ⊎_elim, arith}
+use Rattle.std.proofs.Common.{◌≡◌, ◌≢◌, ◌⊎◌, inl, inr, ℕ, zero, suc, ◌<◌, List, [], ◌∷◌, length, Option, Some, None, ap, ◌∙◌, subst, ⊎_elim, arith}
 use Rattle.std.specs.Prelude.{All, IfSome, slice_index_or}
 use Rattle.std.specs.Io.KnownBytes.{IsAtEnd}
 use Rattle.std.proofs.lemmas.List.Elements.{All-head, All-tail}
@@ -13,10 +13,6 @@ use Rattle.strm_tape_runs.specs.Taking.{NoneHolds, HoldsNone, IsFirstHolding}
 use Rattle.strm_input_output.specs.Serving.{IsOfSource}
 use Rattle.strm_input_output.proofs.ServingLemmas.{source_of_input, is_read}
 use Rattle.strm_tape_program.specs.Taking.{IsOfLines, IsOfScript, IsTakeStatus}
-
-pub on_ok : {T E : Type 0} (r : Result T E) (P : Type 0) → P → OnOk r P
-on_ok (Ok x) P p = p
-on_ok (Err e) P p = tt
 
 -- where no host writer holds items, none is the first that does
 pub none_first : (n : ℕ) (tells : Tells) → NoneHolds tells → IsFirstHolding n tells → ⊥

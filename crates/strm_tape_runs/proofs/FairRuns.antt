@@ -26,7 +26,8 @@ use Rattle.strm_machine.specs.declared.streams.Producer.{Producer}
 use Rattle.strm_host_machine.specs.Does.{AllBegin, saids, writers_from, readers_from, world_spent}
 use Rattle.strm_session.specs.declared.runs.RunStop.{RunStop}
 use Rattle.strm_session.specs.declared.runs.Transcript.{Transcript}
-use Rattle.strm_session.specs.Runs.{run_start, start_among, halted_in, HaltsBy}
+use Rattle.strm_laws.specs.Starts.{run_start}
+use Rattle.strm_session.specs.Runs.{start_among, halted_in, HaltsBy}
 use Rattle.strm_host_machine.proofs.LaterLemmas.{Used}
 use Rattle.strm_tape_runs.specs.declared.marks.Mark.{Mark}
 use Rattle.strm_tape_runs.specs.Marks.{FairRoom, FairTaking, mark_of, reader_mark_of, IsTapable, ReaderTapable}

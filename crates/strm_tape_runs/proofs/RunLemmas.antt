@@ -30,7 +30,8 @@ use Rattle.strm_session.specs.declared.runs.RunCause.TheVariants as causes
 use Rattle.strm_session.specs.declared.runs.RunStop.{RunStop}
 use Rattle.strm_session.specs.declared.runs.Transcript.{Transcript}
 use Rattle.strm_session.specs.Records.{HostsGoOn}
-use Rattle.strm_session.specs.Runs.{run_start, start_among, stop_of, counts_of, halted_in, HaltsBy}
+use Rattle.strm_laws.specs.Starts.{run_start}
+use Rattle.strm_session.specs.Runs.{start_among, stop_of, counts_of, halted_in, HaltsBy}
 use Rattle.strm_host_machine.proofs.DoesLemmas.{extends_self}
 use Rattle.strm_tape.specs.Spelling.{WriterTape, ReaderTape}
 use Rattle.strm_codes.specs.declared.codes.TransmitIndex.{TransmitIndex}

@@ -11,7 +11,8 @@ use Rattle.strm_session.specs.declared.runs.RunCause.TheVariants as causes
 use Rattle.strm_session.specs.declared.runs.RunStop.{RunStop}
 use Rattle.strm_session.specs.declared.runs.Transcript.{Transcript}
 use Rattle.strm_session.specs.Records.{HostsGoOn}
-use Rattle.strm_session.specs.Runs.{run_start, counts_of, next_step, stop_of, AreOfGuests, IsWhole, HasStopped, IsDecided}
+use Rattle.strm_laws.specs.Starts.{run_start}
+use Rattle.strm_session.specs.Runs.{counts_of, next_step, stop_of, AreOfGuests, IsWhole, HasStopped, IsDecided}
 use Rattle.strm_tape.specs.Spelling.{WriterTape, ReaderTape, TapeOf}
 use Rattle.strm_tape_runs.specs.Taking.{NoneHolds, writer_type, reader_type, tape_of_run}
 

@@ -1,6 +1,7 @@
 -- A step is the call that its act names, in which a refusal is a reply.
-use Rattle.std.proofs.Common.{◌≡◌, Result, Ok, Err, refl, sym, subst}
+use Rattle.std.proofs.Common.{◌≡◌, ◌≢◌, Result, Ok, Err, refl, sym, subst}
 use Rattle.std.specs.Prelude.{IfErr}
+use Rattle.strm_codes.specs.declared.refusals.Refusal.{Refusal}
 use Rattle.strm_buffers.specs.Tells.{Tells}
 use Rattle.strm_machine.specs.State.{State}
 use Rattle.strm_machine.specs.Reactions.{Reaction}
@@ -9,7 +10,8 @@ use Rattle.strm_machine.specs.declared.replies.Reply.{Reply}
 use Rattle.strm_host_machine.specs.Does.{Answered, Does}
 use Rattle.strm_host_machine.specs.Steps.{outcome}
 use Rattle.strm_transmit.specs.Meets.{Meets, refused_too}
-use Rattle.strm_transmit.specs.Hosted.{call_answered, MayBeDone, Leaves, ErrsByRecord, MeetsAlone, MeetsHosted}
+use Rattle.strm_transmit.specs.Hosted.{call_answered, MayBeDone, Leaves, ErrsByRecord, MeetsAlone, MeetsHosted, RunsOutOnlyTaking, RunsOutNoneHeld}
+use Rattle.strm_transmit.specs.Performing.{Ends}
 use Rattle.strm_transmit.specs.declared.errors.StoreError.{StoreError}
 use Rattle.strm_transmit.specs.declared.errors.StoreError.TheVariants.{Refused, HostFailed, HostBroke, BadItem, StoreTrapped, OutOfMemory}
 use Rattle.strm_transmit.proofs.HostStepLemmas.{Settles}
@@ -81,4 +83,33 @@ refused-hosted old new tells told result act m = record {
   err = refused-leaves old new tells told act result m.err;
   by_record = refused-record tells told result m.by_record;
   out_of_memory = refused-out_of_memory old tells act result m.out_of_memory;
+}
+
+-- a refusal is no error then
+refused-none : (result : Result Reply StoreError) (refusal : Refusal) → refused_too result ≢ Err (Refused refusal)
+refused-none (Ok reply) refusal = λ e. cc e
+refused-none (Err (Refused other)) refusal = λ e. cc e
+refused-none (Err (HostFailed end)) refusal = λ e. cc e
+refused-none (Err (HostBroke end)) refusal = λ e. cc e
+refused-none (Err (BadItem stream)) refusal = λ e. cc e
+refused-none (Err StoreTrapped) refusal = λ e. cc e
+refused-none (Err OutOfMemory) refusal = λ e. cc e
+
+-- memory had run out in the call itself
+refused-runs_out : (result : Result Reply StoreError) → refused_too result ≡ Err OutOfMemory → result ≡ Err OutOfMemory
+refused-runs_out (Ok reply) w = cc w
+refused-runs_out (Err (Refused refusal)) w = cc w
+refused-runs_out (Err (HostFailed end)) w = cc w
+refused-runs_out (Err (HostBroke end)) w = cc w
+refused-runs_out (Err (BadItem stream)) w = cc w
+refused-runs_out (Err StoreTrapped) w = cc w
+refused-runs_out (Err OutOfMemory) w = refl
+
+-- a step may end as its call does
+pub refused-ends : (old : State) (tells : Tells) (act : Act) (result : Result Reply StoreError) → Settles result → RunsOutOnlyTaking old act result → RunsOutNoneHeld old tells act result → Ends old tells act (refused_too result)
+refused-ends old tells act result settled memory held = record {
+  settled = refused-settled result settled;
+  refused = refused-none result;
+  takes_no_memory = λ t p w. memory t p (refused-runs_out result w);
+  held = λ h w. held h (refused-runs_out result w);
 }

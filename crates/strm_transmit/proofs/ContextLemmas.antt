@@ -39,7 +39,7 @@ pub record KeepsRest (old new : Inside) : Type 0 where
   pub producers : new.producers ≡ old.producers
   pub kept : new.kept ≡ old.kept
   pub consumers : new.consumers ≡ old.consumers
-  pub live_streams : new.live_streams ≡ old.live_streams
+  pub places : new.places ≡ old.places
   pub live_sets : new.live_sets ≡ old.live_sets
   pub bytes : new.bytes ≡ old.bytes
   pub ready : new.ready ≡ old.ready
@@ -75,7 +75,7 @@ module _ (old new : Inside) (g : ℕ) (handles : Handles) (contexts : Contexts) 
         sizes = ap sizes_of h.guests ∙ sizes_of-with_handles guests g handles;
         bytes = k.bytes;
       })
-      (kept_streams old new k.streams k.live_streams (record { producers = k.producers; kept = k.kept; consumers = k.consumers }) i)
+      (kept_streams old new k.streams k.places (record { producers = k.producers; kept = k.kept; consumers = k.consumers }) i)
       (subst IsSound (sym state_of-contexts) sound) (agrees-contexts held i) i
 
 -- the handles of a context are below the limit, and its message is short
@@ -99,7 +99,7 @@ module _ (old new : Inside) (g number : ℕ) (contexts : Contexts) (k : KeepsRes
   same_store e f c i =
       IsStore-counted old new
       (kept_tables old new (record { limits = k.limits; counter = c; live_sets = k.live_sets; bytes = k.bytes; guests = rw e (all_kept (guests_of old.guests.items)) }) i)
-      (kept_streams old new k.streams k.live_streams (record { producers = k.producers; kept = k.kept; consumers = k.consumers }) i)
+      (kept_streams old new k.streams k.places (record { producers = k.producers; kept = k.kept; consumers = k.consumers }) i)
       (subst IsSound (sym (same_state e f)) i.sound)
       (agrees_still old new (rw e (all_kept (guests_of old.guests.items))) (ap (λ (v : _). v.items) k.streams) k.ready i) i
 

@@ -1,6 +1,6 @@
 -- The store after an end was told its report or its operation cancelled; and what is known of an end
 -- that may leave its guest: its table gives its handle back, and its stream was made.
-use Rattle.std.proofs.Common.{◌≡◌, ℕ, ◌<◌, true, List, length, set, Result, Ok, Err, None, refl, ap, subst}
+use Rattle.std.proofs.Common.{◌≡◌, ℕ, ◌<◌, true, List, length, set, Result, Ok, Err, None, refl, sym, ap, subst}
 use Rattle.std.specs.Prelude.{IsOk, IfOk, is_ok}
 use Rattle.strm_codes.specs.declared.codes.TransmitIndex.{TransmitIndex}
 use Rattle.strm_codes.specs.declared.codes.TransmitIndex.TheVariants as index
@@ -12,7 +12,7 @@ use Rattle.strm_handles.specs.declared.entries.TransmitLocalState.{TransmitLocal
 use Rattle.strm_handles.specs.declared.entries.TransmitLocalState.TheVariants as states
 use Rattle.strm_handles.specs.declared.errors.HandleError.{HandleError}
 use Rattle.strm_machine.specs.State as machine
-use Rattle.strm_machine.specs.State.{State, guest_in, stream_at}
+use Rattle.strm_machine.specs.State.{State, guest_in, stream_at, is_live}
 use Rattle.strm_machine.specs.Operating.{Operated}
 use Rattle.strm_machine.specs.Moments.{is_end}
 use Rattle.strm_machine.specs.Tests.{Name, named, named_by, end_named, stream_named, side_named, side_of}
@@ -22,6 +22,7 @@ use Rattle.strm_machine.specs.Sides.{same_side}
 use Rattle.strm_machine.specs.declared.streams.Side.{Side}
 use Rattle.strm_machine.specs.declared.streams.Side.TheVariants.{Writing, Reading}
 use Rattle.strm_machine.specs.declared.streams.Stream.{Stream}
+use Rattle.strm_machine.proofs.HeldLemmas.{StateIsHeld}
 use Rattle.strm_machine.proofs.NameLemmas.{named_there, named_idle}
 use Rattle.strm_machine.specs.declared.acts.EndAct.TheVariants.{Drop}
 use Rattle.strm_machine.proofs.NamedEndLemmas.{on_end-found, is_end-ok}
@@ -32,6 +33,7 @@ use Rattle.strm_channels.specs.Guests.{guests_of, removable}
 use Rattle.strm_transmit.specs.Inside.{state_of, IsStore}
 use Rattle.strm_transmit.specs.Telling.{Retells}
 use Rattle.strm_transmit.specs.declared.store.Store.TheInside.{Inside}
+use Rattle.strm_transmit.proofs.PlaceLemmas.{held_live}
 use Rattle.strm_transmit.proofs.StoreLemmas.{SameBut, IsStore-turn}
 use Rattle.strm_machine.proofs.TurnLemmas.{all_kept}
 
@@ -40,7 +42,7 @@ pub record SetsStream (old new : Inside) (s : ℕ) (stream : Stream) : Type 0 wh
   pub same : SameBut old new
   pub counter : new.counter ≡ old.counter
   pub guests : new.guests ≡ old.guests
-  pub live_streams : new.live_streams ≡ old.live_streams
+  pub places : new.places ≡ old.places
   pub live_sets : new.live_sets ≡ old.live_sets
   pub bytes : new.bytes ≡ old.bytes
   pub streams : new.streams.items ≡ set old.streams.items s stream
@@ -70,7 +72,7 @@ IsStore-set old new s stream l keeps h i =
       consumers = h.same.consumers;
       contexts = h.same.contexts;
       counter = h.counter;
-      live_streams = h.live_streams;
+      places = h.places;
       live_sets = h.live_sets;
       bytes = h.bytes;
       guests = ap (λ (g : _). guests_of g.items) h.guests;
@@ -134,6 +136,12 @@ named_made state side end s h fits same =
 pub named_end_is : (state : State) (side : Side) (end : NamedEnd) → IsSound state → LeaveFits state side end → is_end (stream_named (named state end)) side (end_named state end.guest end.handle) ≡ true
 named_end_is state side end h fits =
     (on_end-found state side end Drop h fits.there (named_ok state end fits.found) (same_side_is side (side_named (named state end)) fits.same)).held
+
+-- so its stream has an end left
+pub named_live : (state : State) (side : Side) (end : NamedEnd) (s : ℕ) → IsSound state → StateIsHeld state → LeaveFits state side end → s ≡ stream_named (named state end) → is_live (stream_at state s) ≡ true
+named_live state side end s h held fits same =
+    let names = subst (λ n. is_end n side (end_named state end.guest end.handle) ≡ true) (sym same) (named_end_is state side end h fits) in
+    held_live (stream_at state s) side end.guest end.handle (held.agree.named end.guest end.handle s side names)
 
 -- and the handle is one of an end
 pub named_end : (state : State) (side : Side) (end : NamedEnd) → IsSound state → LeaveFits state side end → is_ok (end_named state end.guest end.handle) ≡ true

@@ -25,6 +25,9 @@ use Rattle.strm_machine.proofs.SoundStepLemmas.{operate-keeps, reaction-sound}
 use Rattle.strm_machine.proofs.TableLemmas.{OwnersStay, with_end-owners, owner_in}
 use Rattle.strm_machine.proofs.Shapes.{turn_on, Shape, ByTurn, BySetting, ByOwner, ByTable, ByPair, ByGuest, ByPut, ByRest}
 use Rattle.strm_machine.proofs.ShapeLemmas.{reaction-shape}
+use Rattle.strm_machine.proofs.ReactionLemmas.{reaction-performs}
+use Rattle.strm_places.specs.Again.{IsFree, Behind, Again, put, with_stream_in, reaction_at}
+use Rattle.strm_places.proofs.AgainLemmas.{put-behind, put-again, reaction_at-by, performs_at-by}
 use Rattle.strm_host_machine.specs.Steps.{touches_by, touches}
 use Rattle.strm_host_machine.proofs.TouchLemmas.{touch-by}
 use Rattle.strm_transmit.specs.Hosted.{lone}
@@ -66,6 +69,23 @@ pair-unhosted state writer reader ty u k side =
       | inr e ↦ subst (OnUnhosted side) (sym e.1) (made-unhosted ty writer pair.write reader pair.read side)
     ]
 
+-- and so it is where the stream gets a free number
+put-unhosted : (streams : List Stream) (n : ℕ) (x : Stream) → IsFree streams n → IsUnhosted x → AreUnhosted streams → AreUnhosted (put streams n x)
+put-unhosted streams n x (Behind e) here u =
+    rw (e, put-behind streams x)
+    (λ k side.
+    elim (made_at streams x k) [
+      | inl e ↦ subst (OnUnhosted side) (sym e) (u k side)
+      | inr e ↦ subst (OnUnhosted side) (sym e.1) (here side)
+    ])
+put-unhosted streams n x (Again l gone) here u = rw (put-again streams n x l) (set-unhosted streams n x l here u)
+
+in-unhosted : (state : State) (n writer reader : ℕ) (ty : TransmitIndex) → IsFree state.streams n → AreUnhosted state.streams → AreUnhosted (with_stream_in state n writer reader ty).streams
+unfolding with_stream_in
+in-unhosted state n writer reader ty free u =
+    let pair = made_pair state writer reader ty in
+    put-unhosted state.streams n (made_stream ty writer pair.write reader pair.read) free (made-unhosted ty writer pair.write reader pair.read) u
+
 written-unhosted : (state : State) (s : ℕ) (t : Operated) (code : Option ReturnCode) → s < length state.streams → IsUnhosted t.stream → AreUnhosted state.streams → AreUnhosted (written_back state s t code).state.streams
 written-unhosted state s t None l k u = set-unhosted state.streams s t.stream l k u
 written-unhosted state s t (Some code) l k u = set-unhosted state.streams s t.stream l k u
@@ -92,6 +112,18 @@ reaction-unhosted state act u = record {
   sound = reaction-sound state act u.sound;
   none = shape-unhosted state act (reaction state act) u.none (reaction-shape state act u.sound);
 }
+
+pub making-unhosted : (n : ℕ) (state : State) (act : Act) → IsFree state.streams n → Unhosted state → AreUnhosted (reaction_at n state act).state.streams
+making-unhosted n state act free u =
+    let P : Reaction → Type 0 = λ r. AreUnhosted r.state.streams in
+    reaction_at-by P n state act
+    (record {
+      trapped = λ t. u.none;
+      refused = λ r t e. u.none;
+      performed = λ t e.
+          performs_at-by P n state act (λ writer reader ty is. in-unhosted state n writer reader ty free u.none)
+          (subst P (reaction-performs state act t e) (reaction-unhosted state act u).none);
+    })
 
 -- a handle more to an error context
 unless-unhosted : (trapped : Bool) (r other : Reaction) → Unhosted r.state → Unhosted other.state → Unhosted (if trapped then r else other).state

@@ -1,13 +1,13 @@
 -- A host writer that gets a stream or is fed, and a host reader that is granted items.
 use Rattle.std.proofs.Common.{◌≡◌, ℕ, ◌+◌, ◌<◌, Bool, true, false, List, [], ◌∷◌, ◌++◌, length, set, None, Result, Ok, Err, refl, sym, ap, subst, ◌∙◌, inl, inr, arith, length-append}
-use Rattle.std.specs.Prelude.{◌||◌, IfOk, OnOk, OnErr, count_by}
+use Rattle.std.specs.Prelude.{◌||◌, IfOk, OnOk, OnErr}
 use Rattle.std.proofs.lemmas.Bool.{cases_lt}
 use Rattle.std.proofs.lemmas.Bool.Decides.{nat_tests}
 use Rattle.strm_codes.specs.declared.codes.TransmitIndex.{TransmitIndex}
 use Rattle.strm_codes.specs.declared.refusals.Refusal.{Refusal}
 use Rattle.strm_codes.specs.declared.refusals.Refusal.TheVariants as refusals
 use Rattle.strm_buffers.specs.Tells.{ReaderTells, Tells, no_reader_tells, told_by, with_told, told_by_reader, with_told_reader, writer_fed, reader_granted}
-use Rattle.strm_machine.specs.State.{State, host_limit, stream_limit, no_stream, no_producer, producer_at, consumer_at, is_live, is_held, is_host, idle_end}
+use Rattle.strm_machine.specs.State.{State, host_limit, stream_limit, no_stream, no_producer, producer_at, consumer_at, is_held, is_host, idle_end}
 use Rattle.strm_machine.specs.Tests.{are_places_full, are_streams_full}
 use Rattle.strm_machine.specs.Refusals.{Reason, where_, first_of, reader_reasons}
 use Rattle.strm_machine.specs.declared.acts.Act.TheVariants.{OnHost}
@@ -36,12 +36,11 @@ use Rattle.strm_transmit.proofs.ServedLemmas.{at_set, same_stream, same_host, se
 use Rattle.strm_transmit.proofs.FitsLemmas.{AreMade, Fits-told, Fits-told_reader}
 use Rattle.strm_transmit.proofs.StepLemmas.{is_admitted}
 use Rattle.strm_transmit.proofs.HostStepLemmas.{does_admitted, Does-after, Fits-after, all_stays, unchanged}
-use Rattle.strm_transmit.proofs.StoreLemmas.{live_by, live_weight, kept_tables, Agrees, agrees_still, IsStore-counted, IsSound-same}
+use Rattle.strm_transmit.proofs.StoreLemmas.{kept_tables, Agrees, agrees_still, IsStore-counted, IsSound-same}
 use Rattle.strm_transmit.proofs.ToldLemmas.{but-besides, besides-push, told-unheld, IsHeld-push}
 use Rattle.strm_machine.proofs.HeldLemmas.{IsHeld}
 use Rattle.std.proofs.lemmas.List.{get_or_past, get_or_push, map-append}
 use Rattle.std.proofs.lemmas.List.Elements.{All-push, All-weaker}
-use Rattle.std.proofs.lemmas.List.Sums.{sum_by_push}
 use Rattle.strm_machine.specs.Soundness.{sizes_of, handles_of, type_with, type_of, types_of, AreNamed, OperationIsPlaced, StreamIsPlaced, IsSound}
 use Rattle.strm_machine.specs.Hosting.{duty_among}
 use Rattle.strm_machine.specs.Sides.{end_of}
@@ -56,6 +55,7 @@ use Rattle.strm_machine.proofs.TableLemmas.{at_push}
 use Rattle.strm_machine.proofs.TurnLemmas.{all_kept}
 use Rattle.strm_channels.specs.Guests.{guests_of}
 use Rattle.strm_transmit.specs.Inside.{state_of, padded_items, AreServed, IsStore}
+use Rattle.strm_transmit.specs.Places.{ArePlaces}
 use Rattle.strm_transmit.specs.Keeping.{HasGrown, PlaceMade}
 use Rattle.strm_transmit.proofs.KeptLemmas.{have_grown, have_hosted, view_made}
 use Rattle.strm_transmit.specs.declared.store.Store.TheInside.{Inside}
@@ -298,9 +298,6 @@ IsSound-hosted state stream ps p h = record {
   contexts = h.contexts;
 }
 
-live_pushed : (streams : List Stream) (stream : Stream) → is_live stream ≡ true → count_by is_live (streams ++ stream ∷ []) ≡ count_by is_live streams + 1
-live_pushed streams stream e = sum_by_push live_weight streams stream ∙ ap (λ b. count_by is_live streams + live_by b) e
-
 -- a stream more, that host writer n serves, which was unused before
 pub record HostsStream (old new : Inside) (n : ℕ) (stream : Stream) (p : Producer) : Type 0 where
   pub few : length old.streams.items < stream_limit
@@ -315,7 +312,7 @@ pub record HostsStream (old new : Inside) (n : ℕ) (stream : Stream) (p : Produ
   pub trapped : new.is_trapped ≡ old.is_trapped
   pub counter : new.counter ≡ old.counter
   pub guests : new.guests ≡ old.guests
-  pub live_streams : new.live_streams ≡ old.live_streams + 1
+  pub places : ArePlaces new.places new.streams.items
   pub live_sets : new.live_sets ≡ old.live_sets
   pub bytes : new.bytes ≡ old.bytes
   pub streams : new.streams.items ≡ old.streams.items ++ stream ∷ []
@@ -374,11 +371,10 @@ IsStore-hosted old new n stream p h i =
       writer = subst (λ (x : End). OperationIsPlaced sizes stream.payload x.operation) (sym h.writer) tt;
       reader = subst (λ (x : End). OperationIsPlaced sizes stream.payload x.operation) (sym h.reader) tt;
     } in
-    let live : is_live stream ≡ true = ap (λ (x : End). is_live (record stream { writer = x })) h.writer in
     IsStore-counted old new
     (kept_tables old new (record { limits = h.limits; counter = h.counter; live_sets = h.live_sets; bytes = h.bytes; guests = rw h.guests (all_kept (guests_of old.guests.items)) }) i)
     (record {
-      live = rw h.streams (omega (arith, h.live_streams, i.streams, live_pushed old.streams.items stream live));
+      places = h.places;
       served = rw (h.producers, h.consumers, h.streams) (hosted_served old n stream p (record { kept = omega (arith, i.served.all, h.kept); unused = h.unused; serves = h.serves; writer = writer; reader = reader }) i.served);
       kept = rw (h.producers, h.streams) (have_hosted old.producers old.kept.items old.streams.items i.kept old.consumers new.kept.items n p stream i.served (omega (arith, i.served.all, h.kept)) h.serves h.unused h.place);
       few = rw h.streams (omega (arith, h.few, length-append old.streams.items (stream ∷ [])));
@@ -392,7 +388,7 @@ pub record GrowsPlaces (old new : Inside) : Type 0 where
   pub contexts : new.contexts ≡ old.contexts
   pub counter : new.counter ≡ old.counter
   pub guests : new.guests ≡ old.guests
-  pub live_streams : new.live_streams ≡ old.live_streams
+  pub places : ArePlaces new.places new.streams.items
   pub live_sets : new.live_sets ≡ old.live_sets
   pub bytes : new.bytes ≡ old.bytes
   pub streams : new.streams.items ≡ old.streams.items
@@ -406,7 +402,7 @@ IsStore-grown old new h i =
     IsStore-counted old new
     (kept_tables old new (record { limits = h.limits; counter = h.counter; live_sets = h.live_sets; bytes = h.bytes; guests = rw h.guests (all_kept (guests_of old.guests.items)) }) i)
     (record {
-      live = rw (h.live_streams, h.streams) i.streams;
+      places = h.places;
       served = rw (h.producers, h.consumers, h.streams) i.served;
       kept = rw (h.producers, h.streams) (have_grown old.producers old.kept.items old.streams.items i.kept new.kept.items h.grown);
       few = rw h.streams i.few_streams;

@@ -26,7 +26,7 @@ module _ (s : Inside) (g : ℕ) (x : Guest) (there : g < length s.guests.items) 
     same = record { tag = refl; limits = refl; producers = refl; kept = refl; consumers = refl; contexts = refl; trapped = refl };
     counter = refl;
     streams = refl;
-    live_streams = refl;
+    places = refl;
     live_sets = refl;
     count = refl;
     ready = refl;

@@ -9,9 +9,12 @@ pub mod StillLemmas
 pub mod ForsakeLemmas
 pub mod ToldLemmas
 pub mod HeldStoreLemmas
+pub mod PlaceLemmas
 pub mod StoreLemmas
 -- a stream made between two guests
 pub mod MakingLemmas
+-- a stream made in the place of one that is gone
+pub mod AgainLemmas
 pub mod LendingLemmas
 pub mod OperationLemmas
 pub mod DropLemmas
@@ -33,4 +36,6 @@ pub mod SetLemmas
 pub mod ContextLemmas
 pub mod NextLemmas
 pub mod GuestLemmas
+-- what a guest is asked of its handles
+pub mod QueryLemmas
 pub mod ReleaseLemmas

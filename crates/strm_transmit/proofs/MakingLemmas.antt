@@ -1,15 +1,13 @@
 -- The store after a stream was made between two guests.
 use Rattle.std.proofs.Common.{◌≡◌, ℕ, false, ◌+◌, List, [], ◌∷◌, ◌++◌, length, refl, sym, ap, ◌∙◌, subst, None, arith, length-append}
-use Rattle.std.specs.Prelude.{count_by}
 use Rattle.std.proofs.lemmas.List.{get_or_push}
-use Rattle.std.proofs.lemmas.List.Sums.{sum_by_push}
 use Rattle.strm_machine.specs.declared.streams.Side.{Side}
 use Rattle.strm_machine.specs.declared.streams.Side.TheVariants.{Writing, Reading}
 use Rattle.strm_machine.specs.declared.streams.Stream.{Stream}
 use Rattle.strm_handles.specs.Counters.{Counter, counted}
 use Rattle.strm_handles.specs.Handles.{next_index}
 use Rattle.strm_machine.specs.State as machine
-use Rattle.strm_machine.specs.State.{State, guest_in, sets_in, no_stream, is_live}
+use Rattle.strm_machine.specs.State.{State, guest_in, sets_in, no_stream}
 use Rattle.strm_machine.specs.Soundness.{IsSound, sizes_of}
 use Rattle.strm_machine.specs.Sides.{end_of}
 use Rattle.strm_machine.specs.Refusals.{refusal}
@@ -24,16 +22,17 @@ use Rattle.strm_machine.specs.Making.{with_read_end, with_ends, made_stream, mad
 use Rattle.strm_machine.specs.declared.replies.Pair.{Pair}
 use Rattle.strm_channels.specs.Guests.{guests_of, live_in, sets_among}
 use Rattle.strm_transmit.specs.Inside.{state_of, IsStore}
+use Rattle.strm_transmit.specs.Places.{ArePlaces}
 use Rattle.strm_transmit.specs.declared.store.Store.TheInside.{Inside}
 use Rattle.strm_transmit.proofs.ServedLemmas.{AreServed-push}
 use Rattle.strm_transmit.proofs.KeptLemmas.{have_push}
 use Rattle.strm_machine.proofs.HeldLemmas.{StateIsHeld, between_held}
 use Rattle.strm_transmit.specs.Telling.{Retells, member_of}
 use Rattle.strm_transmit.proofs.ToldLemmas.{SameMembers, members-with_table, but-besides, besides-push, told-retold}
-use Rattle.strm_transmit.proofs.StoreLemmas.{SameBut, sets-with_table, Agrees, IsStore-counted, live_weight}
+use Rattle.strm_transmit.proofs.StoreLemmas.{SameBut, sets-with_table, Agrees, IsStore-counted}
 
 -- neither end is a host end's
-nobodys : (stream : Stream) → machine.is_host stream.writer.owner ≡ false → machine.is_host stream.reader.owner ≡ false → (side : Side) → machine.is_host (end_of side stream).owner ≡ false
+pub nobodys : (stream : Stream) → machine.is_host stream.writer.owner ≡ false → machine.is_host stream.reader.owner ≡ false → (side : Side) → machine.is_host (end_of side stream).owner ≡ false
 nobodys stream w r Writing = w
 nobodys stream w r Reading = r
 
@@ -47,7 +46,7 @@ pub record MakesStream (old new : Inside) (writer reader : ℕ) (ty : TransmitIn
   pub same : SameBut old new
   pub counter : new.counter ≡ counted (counted old.counter)
   pub live : live_in (guests_of new.guests.items) ≡ live_in (guests_of old.guests.items) + 2
-  pub live_streams : new.live_streams ≡ old.live_streams + 1
+  pub places : ArePlaces new.places new.streams.items
   pub live_sets : new.live_sets ≡ old.live_sets
   pub bytes : new.bytes ≡ old.bytes
   pub guests : guests_of new.guests.items ≡ with_ends (guests_of old.guests.items) writer reader ty (length old.streams.items)
@@ -64,16 +63,16 @@ performs-made old new writer reader ty pair h e =
     ap (λ (s : State). goes (replies.Pair (made_pair (state_of old) writer reader ty)) s) (sym (state_of-made old new writer reader ty h))
     ∙ ap (λ (p : Pair). goes (replies.Pair p) (state_of new)) (sym e)
 
-sizes-made : (guests : List machine.Guest) (writer reader : ℕ) (ty : TransmitIndex) (s : ℕ) → sizes_of (with_ends guests writer reader ty s) ≡ sizes_of guests
+pub sizes-made : (guests : List machine.Guest) (writer reader : ℕ) (ty : TransmitIndex) (s : ℕ) → sizes_of (with_ends guests writer reader ty s) ≡ sizes_of guests
 sizes-made guests writer reader ty s =
     sizes_of-with_handles (with_read_end guests reader ty s) writer _ ∙ sizes_of-with_handles guests reader _
 
-sets-made : (guests : List machine.Guest) (writer reader : ℕ) (ty : TransmitIndex) (s : ℕ) → sets_among (with_ends guests writer reader ty s) ≡ sets_among guests
+pub sets-made : (guests : List machine.Guest) (writer reader : ℕ) (ty : TransmitIndex) (s : ℕ) → sets_among (with_ends guests writer reader ty s) ≡ sets_among guests
 sets-made guests writer reader ty s =
     let held = with_read_end guests reader ty s in
     sets-with_table held writer _ (sets_in held writer) refl ∙ sets-with_table guests reader _ (sets_in guests reader) refl
 
-members-made : (guests : List machine.Guest) (writer reader : ℕ) (ty : TransmitIndex) (s : ℕ) → SameMembers guests (with_ends guests writer reader ty s)
+pub members-made : (guests : List machine.Guest) (writer reader : ℕ) (ty : TransmitIndex) (s : ℕ) → SameMembers guests (with_ends guests writer reader ty s)
 members-made guests writer reader ty s k number handle =
     let held = with_read_end guests reader ty s in
     members-with_table held writer _ (sets_in held writer) (λ n q. refl) k number handle ∙ members-with_table guests reader _ (sets_in guests reader) (λ n q. refl) k number handle
@@ -98,7 +97,6 @@ IsStore-made old new writer reader ty h e i =
     let fits = pair_fits (state_of old) writer reader ty e in
     let guests = guests_of old.guests.items in
     let stream = stream_made old writer reader ty in
-    let live : count_by is_live new.streams.items ≡ count_by is_live old.streams.items + 1 = ap (count_by is_live) h.streams ∙ sum_by_push live_weight old.streams.items stream in
     IsStore-counted old new
     (record {
       handles = record {
@@ -111,7 +109,7 @@ IsStore-made old new writer reader ty h e i =
       bytes = h.bytes;
     })
     (record {
-      live = omega (arith, h.live_streams, i.streams, live);
+      places = h.places;
       served = rw (h.same.producers, h.same.consumers, h.streams) (AreServed-push old.producers old.consumers old.streams.items i.served stream (nobodys stream refl refl));
       kept = rw (h.same.producers, h.same.kept, h.streams) (have_push old.producers old.kept.items old.streams.items i.kept old.consumers stream i.served);
       few = rw h.streams (omega (arith, fits.streams, length-append old.streams.items (stream ∷ [])));
@@ -128,7 +126,7 @@ pub joined_is : (old : Inside) (writer reader : ℕ) (ty : TransmitIndex) (numbe
 joined_is old writer reader ty numbers joined n j =
     j ∙ ap (λ (k : ℕ × ℕ). made_stream ty writer k.1 reader k.0) n
 
-abbrev as_pair : ℕ × ℕ → ℕ → Pair
+abbrev pub as_pair : ℕ × ℕ → ℕ → Pair
 as_pair numbers stream = record { read = numbers.0; write = numbers.1; stream = stream }
 
 pub pair_is : (old : Inside) (writer reader : ℕ) (ty : TransmitIndex) (stream : ℕ) (numbers : ℕ × ℕ) → stream ≡ length old.streams.items → numbers ≡ numbers_of old writer reader ty stream → as_pair numbers stream ≡ made_pair (state_of old) writer reader ty

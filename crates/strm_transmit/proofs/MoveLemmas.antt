@@ -1,11 +1,11 @@
 -- The store after an end of a stream has another owner, and its handle was freed, given or neither.
 use Rattle.std.proofs.Common.{◌≡◌, ℕ, ◌<◌, true, false, length, set, Option, None, Ok, refl, sym, ap, ◌∙◌, subst, ⊎_elim, inl, inr}
-use Rattle.std.specs.Prelude.{count_by, is_ok}
+use Rattle.std.specs.Prelude.{is_ok}
 use Rattle.std.proofs.lemmas.Bool.{cases_lt}
 use Rattle.std.proofs.lemmas.List.{get_or_past, get_or-set_same, length-set}
 use Rattle.strm_codes.specs.declared.codes.TransmitIndex.{TransmitIndex}
 use Rattle.strm_waitable_sets.specs.Sets.{handle_left, set_of}
-use Rattle.strm_machine.specs.State.{State, sets_in, no_stream, stream_at, is_loose, is_held, is_host, is_live, sets_in_use}
+use Rattle.strm_machine.specs.State.{State, sets_in, no_stream, stream_at, is_loose, is_held, is_host, sets_in_use}
 use Rattle.strm_machine.specs.Sides.{end_of}
 use Rattle.strm_machine.specs.Moves.{without_handle, with_owner}
 use Rattle.strm_machine.specs.Tests.{named, end_named, stream_named, side_named}
@@ -31,6 +31,7 @@ use Rattle.strm_machine.proofs.SoundStepLemmas.{reaction-sound}
 use Rattle.strm_channels.specs.Changes.{AddsHandle, FreesHandle, MovesEnd}
 use Rattle.strm_channels.specs.Guests.{guests_of, live_in, sets_among, without_handle_in, with_end_in}
 use Rattle.strm_transmit.specs.Inside.{state_of, AreServed, HavePlaces, IsStore}
+use Rattle.strm_transmit.specs.Places.{ArePlaces}
 use Rattle.strm_transmit.specs.declared.store.Store.TheInside.{Inside}
 use Rattle.strm_transmit.proofs.ServedLemmas.{ComesNoHost, AreServed-set}
 use Rattle.strm_transmit.proofs.EndingLemmas.{named_made}
@@ -48,7 +49,7 @@ pub record SetsOwner (old new : Inside) (s : ℕ) (side : Side) (owner : Owner) 
   pub same : SameBut old new
   pub bytes : new.bytes ≡ old.bytes
   pub live_sets : new.live_sets ≡ old.live_sets
-  pub counted : new.live_streams ≡ count_by is_live new.streams.items
+  pub counted : ArePlaces new.places new.streams.items
   pub streams : new.streams.items ≡ set old.streams.items s (with_owner side (stream_at (state_of old) s) owner)
   pub retold : Retells (guests_of new.guests.items) (with_owner side (stream_at (state_of old) s) owner) between new.ready.items
 
@@ -117,7 +118,7 @@ module _ (old new : Inside) (s : ℕ) (side : Side) (owner : Owner) (between : R
       rw (o.same.producers, o.same.kept, o.streams) (have_set old.producers old.kept.items old.streams.items i.kept s given l (owned-payload side (stream_at (state_of old) s) owner))
 
   counts : CountsStreams new
-  counts = record { live = o.counted; served = served; kept = places; few = rw (o.streams, length-set old.streams.items s (with_owner side (stream_at (state_of old) s) owner)) i.few_streams }
+  counts = record { places = o.counted; served = served; kept = places; few = rw (o.streams, length-set old.streams.items s (with_owner side (stream_at (state_of old) s) owner)) i.few_streams }
 
   -- as many sets as there were
   as_many : sets_among (guests_of new.guests.items) ≡ sets_among (guests_of old.guests.items) → new.live_sets ≡ sets_in_use (state_of new)

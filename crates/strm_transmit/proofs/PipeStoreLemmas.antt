@@ -1,7 +1,7 @@
 -- The loose read end of a stream that goes to a host reader: what refuses it, what the machine does, the
 -- host ends that the store needs then, and what the store keeps.
 use Rattle.std.proofs.Common.{◌≡◌, ℕ, ◌<◌, ◌==◌, Bool, true, false, cond, List, [], ◌∷◌, length, set, Option, Some, None, Ok, refl, sym, ap, subst, ◌∙◌, ⊎_elim, inl, inr, arith}
-use Rattle.std.specs.Prelude.{count_by, not, ◌&&◌, ◌⊎◌}
+use Rattle.std.specs.Prelude.{not, ◌&&◌, ◌⊎◌}
 use Rattle.std.specs.Option.{option_map}
 use Rattle.std.proofs.lemmas.Bool.{cases_lt, not-false}
 use Rattle.std.proofs.lemmas.Bool.Decides.{nat_tests}
@@ -15,7 +15,7 @@ use Rattle.strm_codes.specs.declared.payloads.Payload.{Payload}
 use Rattle.strm_codes.specs.declared.refusals.Refusal.TheVariants as refusals
 use Rattle.strm_buffers.specs.Listing.{Item}
 use Rattle.strm_buffers.specs.Tells.{WriterTells, Tells, told_by, with_told, told_by_reader, reader_tells_closed as closed_tells}
-use Rattle.strm_machine.specs.State.{State, no_stream, no_consumer, producer_at, consumer_at, stream_at, is_live, is_held, is_host, is_loose}
+use Rattle.strm_machine.specs.State.{State, no_stream, no_consumer, producer_at, consumer_at, stream_at, is_held, is_host, is_loose}
 use Rattle.strm_machine.specs.Hosting.{duty_among}
 use Rattle.strm_machine.specs.Moves.{with_owner}
 use Rattle.strm_machine.specs.Sides.{end_of}
@@ -52,6 +52,7 @@ use Rattle.strm_host_machine.proofs.ReaderLemmas.{ended_reader_in}
 use Rattle.strm_host_machine.proofs.SettleLemmas.{AreBothLeft}
 use Rattle.strm_transmit.specs.Hosted.{MayBeDone, MeetsHosted}
 use Rattle.strm_transmit.specs.Inside.{state_of, AreServed, HavePlaces, IsStore}
+use Rattle.strm_transmit.specs.Places.{ArePlaces}
 use Rattle.strm_transmit.specs.Piping.{report_withdrawn, handed_to, unread_in, reader_closed, PipeFits, WriterEnds, EndsPipe}
 use Rattle.strm_transmit.specs.declared.store.Store.TheInside.{Inside}
 use Rattle.strm_transmit.proofs.FitsLemmas.{keeps-closed, Fits-told, Fits-told_reader, Fits-ended, Fits-reader_ended, HasWriter, serving}
@@ -367,7 +368,7 @@ pub record HandsTo (old new : Inside) (s r : ℕ) (c : Consumer) : Type 0 where
   pub guests : new.guests ≡ old.guests
   pub live_sets : new.live_sets ≡ old.live_sets
   pub bytes : new.bytes ≡ old.bytes
-  pub counted : new.live_streams ≡ count_by is_live new.streams.items
+  pub counted : ArePlaces new.places new.streams.items
   pub streams : new.streams.items ≡ set old.streams.items s (with_owner Reading (stream_at (state_of old) s) (Host r))
   pub producers : new.producers ≡ old.producers
   pub same_kept : new.kept ≡ old.kept
@@ -428,5 +429,5 @@ module _ (old new : Inside) (s r : ℕ) (c : Consumer) (h : HandsTo old new s r 
   IsStore-handed =
       IsStore-counted old new
       (kept_tables old new (record { limits = h.limits; counter = h.counter; live_sets = h.live_sets; bytes = h.bytes; guests = rw h.guests (all_kept (guests_of old.guests.items)) }) i)
-      (record { live = h.counted; served = served; kept = places; few = rw (h.streams, length-set old.streams.items s given) i.few_streams })
+      (record { places = h.counted; served = served; kept = places; few = rw (h.streams, length-set old.streams.items s given) i.few_streams })
       sound agrees i

@@ -1,6 +1,6 @@
 -- The store after a poll of a pipe's round: what it may index, and what it keeps.
 use Rattle.std.proofs.Common.{◌≡◌, false, ℕ, ◌<◌, List, [], ◌∷◌, ◌++◌, length, drop, get_or, set, Result, refl, sym, ap, subst, ◌∙◌, inl, arith}
-use Rattle.std.specs.Prelude.{count_by, nat_lt}
+use Rattle.std.specs.Prelude.{nat_lt}
 use Rattle.std.proofs.lemmas.Bool.Decides.{nat_tests}
 use Rattle.std.proofs.lemmas.List.{length-set, get_or_default, get_or-set_same}
 use Rattle.std.proofs.Math.Seq.{drop-length}
@@ -32,10 +32,11 @@ use Rattle.strm_host_turns.specs.declared.writer_turns.WriterStops.{WriterStops}
 use Rattle.strm_transmit.specs.Inside.{state_of, padded_items, nothing_kept, HasPlace, AreServed, HavePlaces, IsStore}
 use Rattle.strm_transmit.specs.Rounds.{IsPipe, FetchesStream, OffersStream}
 use Rattle.strm_transmit.specs.declared.store.Store.TheInside.{Inside}
+use Rattle.strm_transmit.proofs.PlaceLemmas.{ArePlaces-kept}
 use Rattle.strm_transmit.proofs.KeptLemmas.{padded_items-at, padded_items-set, have_set, have_items}
 use Rattle.strm_transmit.proofs.SceneStoreLemmas.{number_kept, serving_fits, reader_kept, reading_fits}
 use Rattle.strm_transmit.proofs.ServedLemmas.{ComesNoHost, same_owners, not_unused, AreServed-set}
-use Rattle.strm_transmit.proofs.StoreLemmas.{live_weight, live_sum, CountsTables, kept_tables, Agrees, agrees_still, IsStore-counted, IsSound-same}
+use Rattle.strm_transmit.proofs.StoreLemmas.{CountsTables, kept_tables, Agrees, agrees_still, IsStore-counted, IsSound-same}
 use Rattle.strm_transmit.proofs.ToldLemmas.{but-besides, besides-set, told-unheld, IsHeld-set}
 use Rattle.strm_machine.proofs.HeldLemmas.{IsHeld}
 
@@ -246,10 +247,10 @@ module _ (old new : Inside) (n s : ℕ) (x : TypedItems) (h : LeavesItems old ne
   tables = kept_tables old new (record { limits = h.limits; counter = h.counter; live_sets = h.live_sets; bytes = h.bytes; guests = rw h.guests (all_kept (guests_of old.guests.items)) }) i
 
   -- the streams are as they were
-  pub IsStore-items : new.streams ≡ old.streams → new.live_streams ≡ old.live_streams → IsStore new
-  IsStore-items streams live =
+  pub IsStore-items : new.streams ≡ old.streams → new.places ≡ old.places → IsStore new
+  IsStore-items streams same =
       IsStore-counted old new tables
-      (record { live = rw (live, streams) i.streams; served = rw streams served; kept = rw streams places; few = rw streams i.few_streams })
+      (record { places = rw (same, streams) i.places; served = rw streams served; kept = rw streams places; few = rw streams i.few_streams })
       (IsSound-same (state_of old) (state_of new) (ap (λ (g : _). guests_of g.items) h.guests) (ap (λ (v : _). v.items) streams) h.contexts i.sound)
       (agrees_still old new (rw h.guests (all_kept (guests_of old.guests.items))) (ap (λ (v : _). v.items) streams) h.ready i) i
 
@@ -261,11 +262,8 @@ module _ (old new : Inside) (n s : ℕ) (x : TypedItems) (h : LeavesItems old ne
     same_hosts : ComesNoHost before after
     same_hosts = same_owners before after (ap (λ (v : End). v.owner) k.writer) (ap (λ (v : End). v.owner) k.reader)
 
-    as_many : count_by is_live (set old.streams.items s after) ≡ count_by is_live old.streams.items
-    as_many =
-        let weights : live_weight after ≡ live_weight before = rw (k.writer, k.reader) refl in
-        let sum = live_sum old.streams.items s after l in
-        omega (arith, weights, sum)
+    as_live : is_live after ≡ is_live before
+    as_live = rw (k.writer, k.reader) refl
 
     placed : StreamIsPlaced (sizes_of (guests_of old.guests.items)) after
     placed =
@@ -290,11 +288,11 @@ module _ (old new : Inside) (n s : ℕ) (x : TypedItems) (h : LeavesItems old ne
         same_owner Writing = ap (λ (v : End). v.owner) k.writer
         same_owner Reading = ap (λ (v : End). v.owner) k.reader
 
-    pub IsStore-passed : ((side : Side) → is_held (end_of side before).owner ≡ false) → new.live_streams ≡ old.live_streams → IsStore new
-    IsStore-passed unheld live =
+    pub IsStore-passed : ((side : Side) → is_held (end_of side before).owner ≡ false) → new.places ≡ old.places → IsStore new
+    IsStore-passed unheld same =
         IsStore-counted old new tables
         (record {
-          live = rw streams (live ∙ i.streams ∙ sym as_many);
+          places = rw (same, streams) (ArePlaces-kept old.streams.items s after l old.places as_live i.places);
           served = rw streams (AreServed-set new.producers new.consumers old.streams.items served s after l same_hosts);
           kept = rw streams (have_set new.producers new.kept.items old.streams.items places s after l k.payload);
           few = rw (streams, length-set old.streams.items s after) i.few_streams;

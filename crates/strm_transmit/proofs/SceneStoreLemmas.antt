@@ -1,9 +1,7 @@
 -- The store after a host end had its turn.
-use mir.Val.{bool_byte}
-use Rattle.std.proofs.Common.{◌≡◌, ℕ, ◌+◌, ◌-◌, ◌<◌, Bool, true, false, cond, List, length, get_or, set, refl, sym, ap, ◌∙◌, subst, inl, inr, arith}
-use Rattle.std.specs.Prelude.{count_by}
-use Rattle.std.proofs.lemmas.List.{length-set, get_or_default, get_or-set_same}
-use Rattle.strm_machine.specs.State.{Guest, State, no_stream, guest_in, stream_at, producer_at, consumer_at, is_held, is_live}
+use Rattle.std.proofs.Common.{◌≡◌, ℕ, ◌<◌, Bool, true, false, cond, List, length, get_or, set, refl, sym, ap, ◌∙◌, subst, inl, inr, arith}
+use Rattle.std.proofs.lemmas.List.{length-set, get_or-set_same}
+use Rattle.strm_machine.specs.State.{Guest, State, no_stream, guest_in, stream_at, producer_at, consumer_at, is_held}
 use Rattle.strm_machine.specs.Hosting.{duty_among}
 use Rattle.strm_machine.specs.Sides.{opposite, end_of}
 use Rattle.strm_machine.specs.Soundness.{IsSound}
@@ -19,6 +17,7 @@ use Rattle.strm_channels.specs.Guests.{guests_of}
 use Rattle.strm_host_turns.specs.WriterTurns.{WriterScene, writer_scene}
 use Rattle.strm_host_turns.specs.ReaderTurns.{ReaderScene, reader_scene}
 use Rattle.strm_transmit.specs.Inside.{state_of, AreServed, HavePlaces, IsStore}
+use Rattle.strm_transmit.specs.Places.{ArePlaces}
 use Rattle.strm_transmit.specs.declared.store.Store.TheInside.{Inside}
 use Rattle.strm_host_machine.specs.Does.{FitsWriter, FitsReader, Fits}
 use Rattle.strm_transmit.proofs.ServedLemmas.{same_stream, same_host, not_unused, gone_no_host, serving_kept, reading_kept, duty_known, serves_only, keeps_readers, keeps_writers, writer_now, reader_now, AreServed-turned}
@@ -26,29 +25,11 @@ use Rattle.strm_transmit.proofs.KeptLemmas.{have_set, have_producer}
 use Rattle.strm_transmit.proofs.SceneLemmas.{SceneKeeps}
 use Rattle.strm_transmit.proofs.ReaderTurnLemmas.{TakingKeeps}
 use Rattle.strm_machine.proofs.TurnLemmas.{GuestsKeep, all_kept}
-use Rattle.strm_transmit.proofs.StoreLemmas.{live_by, live_weight, live_sum, kept_tables, Agrees, IsStore-counted, IsSound-same}
+use Rattle.strm_transmit.proofs.StoreLemmas.{kept_tables, Agrees, IsStore-counted, IsSound-same}
 use Rattle.strm_transmit.specs.Telling.{Retells, member_of}
 use Rattle.strm_transmit.proofs.ToldLemmas.{SameOrFree, SameMembers, members-sets, but-besides, besides-set, told-retold, IsHeld-set}
 use Rattle.strm_machine.proofs.HeldLemmas.{IsHeld, IsHeld-same}
 use Rattle.strm_machine.proofs.TableLemmas.{handles-same}
-
--- how many streams have an end left, after one of them became another
-byte_is : (b : Bool) → bool_byte b ≡ live_by b
-byte_is true = omega arith
-byte_is false = omega arith
-
--- whether a stream has an end left, as a number
-abbrev live_byte : Stream → ℕ
-live_byte stream = bool_byte (is_live stream)
-
-pub live_counted : (streams : List Stream) (s : ℕ) (before after : Stream) (live was is : ℕ) → s < length streams → before ≡ get_or streams s before → live ≡ count_by is_live streams → was ≡ live_byte before → is ≡ live_byte after → (live - was) + is ≡ count_by is_live (set streams s after)
-live_counted streams s before after live was is l e n w k =
-    let here : before ≡ get_or streams s no_stream = e ∙ sym (get_or_default streams s no_stream before l) in
-    let old : was ≡ live_weight (get_or streams s no_stream) = w ∙ byte_is (is_live before) ∙ ap live_weight here in
-    let new : is ≡ live_weight after = k ∙ byte_is (is_live after) in
-    let fewer = live_sum streams s no_stream l in
-    let sum = live_sum streams s after l in
-    omega (arith, n, old, new, fewer, sum)
 
 -- each end of a stream has the owner that it had, or was and is held by no guest
 abbrev KeepsOwners : Stream → Stream → Type 0
@@ -109,7 +90,7 @@ pub record TakesScene (old new : Inside) (s n : ℕ) (after : WriterScene) : Typ
   pub counter : new.counter ≡ old.counter
   pub live_sets : new.live_sets ≡ old.live_sets
   pub bytes : new.bytes ≡ old.bytes
-  pub counted : new.live_streams ≡ count_by is_live new.streams.items
+  pub counted : ArePlaces new.places new.streams.items
   pub guests : guests_of new.guests.items ≡ after.guests
   pub streams : new.streams.items ≡ set old.streams.items s after.stream
   pub producers : new.producers ≡ set old.producers n after.producer
@@ -164,7 +145,7 @@ module _ (old new : Inside) (s n : ℕ) (tells : WriterTells) (after : WriterSce
   IsStore-scene =
       IsStore-counted old new
       (kept_tables old new (record { limits = h.limits; counter = h.counter; live_sets = h.live_sets; bytes = h.bytes; guests = rw h.guests k.guests }) i)
-      (record { live = h.counted; served = served; kept = places; few = rw (h.streams, length-set old.streams.items s after.stream) i.few_streams })
+      (record { places = h.counted; served = served; kept = places; few = rw (h.streams, length-set old.streams.items s after.stream) i.few_streams })
       sound (agrees_turned old new s after.stream l (guests_of new.guests.items) refl (keeps_handles k.guests h.guests) (keeps_sets k.guests h.guests) (moves_held Writing (stream_at (state_of old) s) after.stream k.stream.done k.stream.leaves k.stream.stays (ap is_held o)) h.streams h.retold i) i
 
 -- ## The host writer that serves a stream
@@ -191,7 +172,7 @@ pub record TakesTaking (old new : Inside) (s r : ℕ) (after : ReaderScene) : Ty
   pub counter : new.counter ≡ old.counter
   pub live_sets : new.live_sets ≡ old.live_sets
   pub bytes : new.bytes ≡ old.bytes
-  pub counted : new.live_streams ≡ count_by is_live new.streams.items
+  pub counted : ArePlaces new.places new.streams.items
   pub guests : guests_of new.guests.items ≡ after.guests
   pub streams : new.streams.items ≡ set old.streams.items s after.stream
   pub producers : new.producers ≡ old.producers
@@ -245,7 +226,7 @@ module _ (old new : Inside) (s r : ℕ) (tells : ReaderTells) (after : ReaderSce
   IsStore-taking =
       IsStore-counted old new
       (kept_tables old new (record { limits = h.limits; counter = h.counter; live_sets = h.live_sets; bytes = h.bytes; guests = rw same_guests (all_kept (guests_of old.guests.items)) }) i)
-      (record { live = h.counted; served = taken_served; kept = places_then; few = rw (h.streams, length-set old.streams.items s after.stream) i.few_streams })
+      (record { places = h.counted; served = taken_served; kept = places_then; few = rw (h.streams, length-set old.streams.items s after.stream) i.few_streams })
       taken_sound (agrees_turned old new s after.stream l (guests_of new.guests.items) refl (λ g. ap (λ (x : _). (guest_in x g).handles) same_guests) (λ g number handle. ap (λ (x : _). member_of x g number handle) same_guests) (moves_held Reading (stream_at (state_of old) s) after.stream k.stream.done k.stream.leaves k.stream.stays (ap is_held o)) h.streams h.retold i) i
 
 -- ## The host reader that serves a stream

@@ -36,12 +36,12 @@ use Rattle.strm_machine.proofs.TableLemmas.{set-keeps}
 pub record KeepsStreams (old new : Inside) : Type 0 where
   pub same : SameBut old new
   pub streams : new.streams ≡ old.streams
-  pub live_streams : new.live_streams ≡ old.live_streams
+  pub places : new.places ≡ old.places
   pub bytes : new.bytes ≡ old.bytes
 
 IsStore-tables : (old new : Inside) → KeepsStreams old new → CountsTables old new → IsSound (state_of new) → Agrees new → IsStore old → IsStore new
 IsStore-tables old new k tables sound agrees i =
-    IsStore-counted old new tables (kept_streams old new k.streams k.live_streams (record { producers = k.same.producers; kept = k.same.kept; consumers = k.same.consumers }) i) sound agrees i
+    IsStore-counted old new tables (kept_streams old new k.streams k.places (record { producers = k.same.producers; kept = k.same.kept; consumers = k.same.consumers }) i) sound agrees i
 
 -- the state, where streams stay and guests are these
 state_with : (old new : Inside) → KeepsStreams old new → (guests : List Guest) → guests_of new.guests.items ≡ guests → state_of new ≡ record (state_of old) { guests = guests }

@@ -1,9 +1,9 @@
 -- The store's counters after each change.
-use Rattle.std.proofs.Common.{◌≡◌, ℕ, Bool, cond, get_or, set, ◌+◌, ◌<◌, ◌≤◌, List, [], ◌∷◌, ◌++◌, length, map, sum_by, refl, sym, ap, ◌∙◌, subst, None, replicate, arith, length-append}
+use Rattle.std.proofs.Common.{◌≡◌, ℕ, get_or, set, ◌+◌, ◌<◌, ◌≤◌, List, [], ◌∷◌, ◌++◌, length, map, sum_by, refl, sym, ap, ◌∙◌, subst, None, replicate, arith, length-append}
 use Rattle.std.specs.Prelude.{sum, count_by, nat_lt, ◌*◌}
 use Rattle.std.proofs.Math.Seq.{map-set_same}
 use Rattle.std.proofs.lemmas.List.{map-append, length-map, length-replicate, length-set, get_or_default, get_or-set_same}
-use Rattle.std.proofs.lemmas.List.Sums.{sum_by_push, sum_by-set, sum-map}
+use Rattle.std.proofs.lemmas.List.Sums.{sum_by_push, sum-map}
 use Rattle.std.proofs.lemmas.Simd.{map-map}
 use Rattle.strm_machine.specs.Operating.{Operated}
 use Rattle.strm_machine.specs.declared.streams.Producer.{Producer}
@@ -35,6 +35,8 @@ use Rattle.strm_machine.proofs.BoundLemmas.{length-poked}
 use Rattle.strm_machine.proofs.TurnLemmas.{GuestsKeep, TurnKeeps, all_kept, with_memory-keeps, sets_of}
 use Rattle.strm_channels.specs.Guests.{guest_of, guests_of, live_in, sets_among}
 use Rattle.strm_transmit.specs.Inside.{state_of, AreServed, HavePlaces, IsStore}
+use Rattle.strm_transmit.specs.Places.{ArePlaces}
+use Rattle.strm_transmit.proofs.PlaceLemmas.{ArePlaces-kept}
 use Rattle.strm_channels.specs.declared.guests.Guest as ours
 use Rattle.strm_transmit.specs.declared.store.Store.TheInside.{Inside}
 use Rattle.strm_transmit.proofs.ServedLemmas.{AreServed-set, same_owners}
@@ -64,7 +66,7 @@ pub record AddsGuest (old new : Inside) (g : ours.Guest) (size : ℕ) : Type 0 w
   pub same : SameBut old new
   pub counter : new.counter ≡ old.counter
   pub streams : new.streams ≡ old.streams
-  pub live_streams : new.live_streams ≡ old.live_streams
+  pub places : new.places ≡ old.places
   pub live_sets : new.live_sets ≡ old.live_sets
   pub guests : new.guests.items ≡ old.guests.items ++ g ∷ []
   pub bytes : new.bytes ≡ old.bytes + size
@@ -104,7 +106,7 @@ IsStore-guest old new g size h e s =
       limit = rw (h.counter, h.same.limits) s.limit;
       live = ap (λ (c : Counter). c.live) h.counter ∙ s.live ∙ live;
       within = rw h.counter s.within;
-      streams = rw (h.live_streams, h.streams) s.streams;
+      places = rw (h.places, h.streams) s.places;
       served = rw (h.same.producers, h.same.consumers, h.streams) s.served;
       kept = rw (h.same.producers, h.same.kept, h.streams) s.kept;
       sets = h.live_sets ∙ s.sets ∙ sets;
@@ -207,7 +209,7 @@ kept_tables old new k i = record {
 
 -- streams are counted, and agree with host ends
 pub record CountsStreams (new : Inside) : Type 0 where
-  pub live : new.live_streams ≡ count_by is_live new.streams.items
+  pub places : ArePlaces new.places new.streams.items
   pub served : AreServed new.producers new.consumers new.streams.items
   pub kept : HavePlaces new.producers new.kept.items new.streams.items
   pub few : length new.streams.items ≤ 4294967295
@@ -218,9 +220,9 @@ pub record SameHosts (old new : Inside) : Type 0 where
   pub kept : new.kept ≡ old.kept
   pub consumers : new.consumers ≡ old.consumers
 
-pub kept_streams : (old new : Inside) → new.streams ≡ old.streams → new.live_streams ≡ old.live_streams → SameHosts old new → IsStore old → CountsStreams new
-kept_streams old new streams live same i = record {
-  live = rw (live, streams) i.streams;
+pub kept_streams : (old new : Inside) → new.streams ≡ old.streams → new.places ≡ old.places → SameHosts old new → IsStore old → CountsStreams new
+kept_streams old new streams places same i = record {
+  places = rw (places, streams) i.places;
   served = rw (same.producers, same.consumers, streams) i.served;
   kept = rw (same.producers, same.kept, streams) i.kept;
   few = rw streams i.few_streams;
@@ -249,7 +251,7 @@ IsStore-counted old new tables streams sound agrees i =
       limit = tables.handles.limit;
       live = tables.handles.live;
       within = tables.handles.within;
-      streams = streams.live;
+      places = streams.places;
       served = streams.served;
       kept = streams.kept;
       sets = tables.sets;
@@ -268,6 +270,33 @@ IsSound-same a b g s c h = record {
   contexts = rw (g, c) h.contexts;
 }
 
+-- ## Room
+
+-- there may be more room for streams and handles
+pub record MakesRoom (old new : Inside) : Type 0 where
+  pub same : SameBut old new
+  pub counter : new.counter ≡ old.counter
+  pub live_sets : new.live_sets ≡ old.live_sets
+  pub bytes : new.bytes ≡ old.bytes
+  pub guests : guests_of new.guests.items ≡ guests_of old.guests.items
+  pub ready : new.ready ≡ old.ready
+  pub streams : new.streams.items ≡ old.streams.items
+  pub places : ArePlaces new.places new.streams.items
+
+pub IsStore-room : (old new : Inside) → MakesRoom old new → IsStore old → IsStore new
+IsStore-room old new h i =
+    let kept : GuestsKeep (guests_of old.guests.items) (guests_of new.guests.items) = rw h.guests (all_kept (guests_of old.guests.items)) in
+    IsStore-counted old new
+    (kept_tables old new (record { limits = h.same.limits; counter = h.counter; live_sets = h.live_sets; bytes = h.bytes; guests = kept }) i)
+    (record {
+      places = h.places;
+      served = rw (h.same.producers, h.same.consumers, h.streams) i.served;
+      kept = rw (h.same.producers, h.same.kept, h.streams) i.kept;
+      few = rw h.streams i.few_streams;
+    })
+    (IsSound-same (state_of old) (state_of new) h.guests h.streams h.same.contexts i.sound)
+    (agrees_still old new kept h.streams h.ready i) i
+
 -- ## Bytes
 
 -- other guests, with nothing else changed
@@ -275,7 +304,7 @@ pub record PutsGuests (old new : Inside) (put : List machine.Guest) : Type 0 whe
   pub same : SameBut old new
   pub counter : new.counter ≡ old.counter
   pub streams : new.streams ≡ old.streams
-  pub live_streams : new.live_streams ≡ old.live_streams
+  pub places : new.places ≡ old.places
   pub live_sets : new.live_sets ≡ old.live_sets
   pub count : new.bytes ≡ old.bytes
   pub ready : new.ready ≡ old.ready
@@ -306,7 +335,7 @@ IsStore-guests old new guests h keeps i =
     let state : state_of new ≡ record (state_of old) { guests = guests_of new.guests.items } = rw (h.same.tag, h.same.limits, h.same.producers, h.same.kept, h.same.consumers, h.same.contexts, h.same.trapped, h.streams) refl in
     IsStore-counted old new
     (kept_tables old new (record { limits = h.same.limits; counter = h.counter; live_sets = h.live_sets; bytes = h.count; guests = kept }) i)
-    (kept_streams old new h.streams h.live_streams (record { producers = h.same.producers; kept = h.same.kept; consumers = h.same.consumers }) i)
+    (kept_streams old new h.streams h.places (record { producers = h.same.producers; kept = h.same.kept; consumers = h.same.consumers }) i)
     (rw state (IsSound-guests (state_of old) (guests_of new.guests.items) kept i.sound))
     (agrees_still old new kept (ap (λ (v : _). v.items) h.streams) h.ready i) i
 
@@ -344,22 +373,12 @@ pub record TakesTurn (old new : Inside) (s : ℕ) (t : Operated) : Type 0 where
   pub consumers : new.consumers ≡ old.consumers
   pub contexts : new.contexts ≡ old.contexts
   pub counter : new.counter ≡ old.counter
-  pub live_streams : new.live_streams ≡ old.live_streams
+  pub places : new.places ≡ old.places
   pub live_sets : new.live_sets ≡ old.live_sets
   pub bytes : new.bytes ≡ old.bytes
   pub guests : guests_of new.guests.items ≡ t.guests
   pub streams : new.streams.items ≡ set old.streams.items s t.stream
   pub retold : Retells t.guests t.stream old.ready.items new.ready.items
-
-abbrev pub live_by : Bool → ℕ
-live_by b = cond b 1 0
-
--- how many streams have an end left, by each of them
-abbrev pub live_weight : Stream → ℕ
-live_weight stream = live_by (is_live stream)
-
-pub live_sum : (streams : List Stream) (s : ℕ) (stream : Stream) → s < length streams → count_by is_live (set streams s stream) + live_weight (get_or streams s no_stream) ≡ count_by is_live streams + live_weight stream
-live_sum streams s stream l = sum_by-set live_weight streams s stream no_stream l
 
 -- what is known of the ends of the stream is as the turn left them
 agrees_turned : (old new : Inside) (s : ℕ) (t : Operated) → s < length old.streams.items → TurnKeeps (guests_of old.guests.items) (stream_at (state_of old) s) t → TakesTurn old new s t → IsStore old → Agrees new
@@ -381,20 +400,16 @@ pub IsStore-turn : (old new : Inside) (s : ℕ) (t : Operated) → s < length ol
 IsStore-turn old new s t l keeps h i =
     let before = stream_at (state_of old) s in
     let owners : is_live t.stream ≡ is_live before = rw (keeps.stream.writer, keeps.stream.reader) refl in
-    let there = live_sum old.streams.items s t.stream l in
     IsStore-counted old new
     (kept_tables old new (record { limits = h.limits; counter = h.counter; live_sets = h.live_sets; bytes = h.bytes; guests = rw h.guests keeps.guests }) i)
     (record {
-      live = rw h.streams (as_many _ _ _ _ _ there (ap live_by owners) (h.live_streams ∙ i.streams));
+      places = rw (h.places, h.streams) (ArePlaces-kept old.streams.items s t.stream l old.places owners i.places);
       served = rw (h.producers, h.consumers, h.streams) (AreServed-set old.producers old.consumers old.streams.items i.served s t.stream l (same_owners before t.stream keeps.stream.writer keeps.stream.reader));
       kept = rw (h.producers, h.kept, h.streams) (have_set old.producers old.kept.items old.streams.items i.kept s t.stream l keeps.stream.payload);
       few = rw (h.streams, length-set old.streams.items s t.stream) i.few_streams;
     })
     (IsSound-same (record (state_of old) { guests = t.guests; streams = set old.streams.items s t.stream }) (state_of new) h.guests h.streams h.contexts (IsSound-turn (state_of old) s t keeps i.sound))
     (agrees_turned old new s t l keeps h i) i
-  where
-    as_many : (a w b v n : ℕ) → a + w ≡ b + v → v ≡ w → n ≡ b → n ≡ a
-    as_many a w b v n e f g = omega (arith, e, f, g)
 
 -- what is kept of host ends alone is another
 pub IsStore-kept : (s : Inside) (producers : List Producer) (consumers : List Consumer) → AreServed producers consumers s.streams.items → HavePlaces producers s.kept.items s.streams.items → IsStore s → IsStore (record s { producers = producers; consumers = consumers })
@@ -402,7 +417,7 @@ IsStore-kept s producers consumers h k i =
     let new = record s { producers = producers; consumers = consumers } in
     IsStore-counted s new
     (kept_tables s new (record { limits = refl; counter = refl; live_sets = refl; bytes = refl; guests = all_kept (guests_of s.guests.items) }) i)
-    (record { live = i.streams; served = h; kept = k; few = i.few_streams })
+    (record { places = i.places; served = h; kept = k; few = i.few_streams })
     (IsSound-same (state_of s) (state_of new) refl refl refl i.sound)
     (agrees_still s new (all_kept (guests_of s.guests.items)) refl refl i) i
 
@@ -419,5 +434,5 @@ live-with_sets guests g sets =
     same_handles guests (with_sets guests g sets) (map-set_same (λ (k : machine.Guest). k.handles) guests g (record (guest_in guests g) { sets = sets }) no_guest refl)
 
 -- so many places are passed as the machine counts
-pub places_passed : (s : Inside) (needed : ℕ) → IsStore s → nat_lt s.limits.places (3 * s.live_streams + s.live_sets + contexts_there s.contexts + needed) ≡ are_places_full (state_of s) needed
-places_passed s needed i = rw (i.streams, i.sets) refl
+pub places_passed : (s : Inside) (needed : ℕ) → IsStore s → nat_lt s.limits.places (3 * s.places.live + s.live_sets + contexts_there s.contexts + needed) ≡ are_places_full (state_of s) needed
+places_passed s needed i = rw (i.places.live, i.sets) refl

@@ -1,9 +1,9 @@
 -- The store's fields as the machine's state, and what they keep: counters that agree with it. Ours.
-use Rattle.std.specs.Prelude.{◌≡◌, ℕ, ◌<◌, ◌≤◌, ◌-◌, List, [], ◌++◌, length, map, replicate, count_by, slice_index_or}
+use Rattle.std.specs.Prelude.{◌≡◌, ℕ, ◌<◌, ◌≤◌, ◌-◌, List, [], ◌++◌, length, map, replicate, slice_index_or}
 use Rattle.strm_codes.specs.declared.payloads.Payload.{Payload}
 use Rattle.strm_codes.specs.declared.payloads.Payload.TheVariants.{Nothing}
 use Rattle.strm_buffers.specs.Listing.{Item, TypedItems}
-use Rattle.strm_machine.specs.State.{State, is_live, host_limit, no_producer, no_stream, handles_in_use, sets_in_use, bytes_in_use}
+use Rattle.strm_machine.specs.State.{State, host_limit, no_producer, no_stream, handles_in_use, sets_in_use, bytes_in_use}
 use Rattle.strm_machine.specs.Hosting.{duty_among}
 use Rattle.strm_machine.specs.Sides.{end_of}
 use Rattle.strm_machine.specs.Soundness.{IsSound}
@@ -15,6 +15,7 @@ use Rattle.strm_machine.specs.declared.streams.Side.{Side}
 use Rattle.strm_machine.specs.declared.streams.Stream.{Stream}
 use Rattle.strm_machine.proofs.HeldLemmas.{StateIsHeld}
 use Rattle.strm_channels.specs.Guests.{guests_of}
+use Rattle.strm_transmit.specs.Places.{ArePlaces}
 use Rattle.strm_transmit.specs.Telling.{AreTold}
 use Rattle.strm_transmit.specs.declared.store.Store.TheInside.{Inside}
 
@@ -71,7 +72,7 @@ pub record IsStore (s : Inside) : Type 0 where
   pub limit : s.counter.limit ≡ s.limits.handles
   pub live : s.counter.live ≡ handles_in_use (state_of s)
   pub within : s.counter.live ≤ s.counter.limit
-  pub streams : s.live_streams ≡ count_by is_live s.streams.items
+  pub places : ArePlaces s.places s.streams.items
   pub served : AreServed s.producers s.consumers s.streams.items
   pub kept : HavePlaces s.producers s.kept.items s.streams.items
   pub sets : s.live_sets ≡ sets_in_use (state_of s)

@@ -9,10 +9,13 @@
 
 pub mod errors;
 pub mod host_ends;
+mod places;
 pub mod steps;
 pub mod store;
 mod telling;
 
+pub use store::counts::GuestCounts;
+pub use store::queries::{EndInfo, Handle};
 pub use strm_machine::chunks::Chunk;
 pub use strm_machine::limits::Limits;
 pub use strm_machine::replies::{Member, Pair, Reply};

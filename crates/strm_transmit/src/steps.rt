@@ -14,6 +14,7 @@ ghost use Rattle.strm_host_machine.specs.Steps.{outcome_of_step, touches};
 ghost use Rattle.strm_host_machine.specs.Does.{Fits, Does};
 ghost use Rattle.strm_transmit.specs.Meets.{Meets, is_settled, act_takes_memory};
 ghost use Rattle.strm_transmit.specs.Hosted.{call_answered, lone, MayBeDone, Leaves, MeetsAlone, MeetsHosted, RunsOutOnlyTaking, RunsOutNoneHeld};
+ghost use Rattle.strm_transmit.specs.Performing.{Ends};
 
 mod calls;
 mod replies;
@@ -72,10 +73,7 @@ fn perform_step<H: HostEnds>(
     requires fits { Fits store.old (H.tells hosts.old) }
     ensures meets { MeetsHosted store.old store.new (H.tells hosts.old) (H.tells hosts.new) result
         (act_of step.now) }
-    ensures settled { IfOk result (λ reply. IsTrue (is_settled reply)) }
-    ensures refused { (refusal : Refusal) → result ≢ Err (StoreError.Refused refusal) }
-    ensures takes_no_memory { RunsOutOnlyTaking store.old (act_of step.now) result }
-    ensures held { RunsOutNoneHeld store.old (H.tells hosts.old) (act_of step.now) result }
+    ensures ends { Ends store.old (H.tells hosts.old) (act_of step.now) result }
 {
     match operation_of(step) {
         Some(asked) => {
@@ -101,10 +99,7 @@ fn perform_other<H: HostEnds>(
     requires fits { Fits store.old (H.tells hosts.old) }
     ensures meets { MeetsHosted store.old store.new (H.tells hosts.old) (H.tells hosts.new) result
         (act_of step.now) }
-    ensures settled { IfOk result (λ reply. IsTrue (is_settled reply)) }
-    ensures refused { (refusal : Refusal) → result ≢ Err (StoreError.Refused refusal) }
-    ensures takes_no_memory { RunsOutOnlyTaking store.old (act_of step.now) result }
-    ensures held { RunsOutNoneHeld store.old (H.tells hosts.old) (act_of step.now) result }
+    ensures ends { Ends store.old (H.tells hosts.old) (act_of step.now) result }
 {
     store.sound();
     store.served();
@@ -186,10 +181,7 @@ fn perform_act<H: HostEnds>(
     requires fits { Fits store.old (H.tells hosts.old) }
     ensures meets { MeetsHosted store.old store.new (H.tells hosts.old) (H.tells hosts.new) result
         (act_of step.now) }
-    ensures settled { IfOk result (λ reply. IsTrue (is_settled reply)) }
-    ensures refused { (refusal : Refusal) → result ≢ Err (StoreError.Refused refusal) }
-    ensures takes_no_memory { RunsOutOnlyTaking store.old (act_of step.now) result }
-    ensures held { RunsOutNoneHeld store.old (H.tells hosts.old) (act_of step.now) result }
+    ensures ends { Ends store.old (H.tells hosts.old) (act_of step.now) result }
 {
     // A copy, so that steps which are done at once need not lie in memory.
     let apart = *step;

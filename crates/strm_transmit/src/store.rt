@@ -10,6 +10,7 @@ ghost use Rattle.strm_machine.specs.Soundness.{type_with};
 ghost use Rattle.strm_machine.specs.Tests.{is_unknown_guest};
 
 mod contexts;
+pub mod counts;
 mod driving;
 mod endings;
 mod hosting;
@@ -19,6 +20,7 @@ mod moves;
 mod operating;
 mod operations;
 mod piping;
+pub mod queries;
 mod refusals;
 mod releasing;
 mod rounds;
@@ -26,6 +28,7 @@ mod sets;
 mod turning;
 
 use crate::errors::StoreError;
+use crate::places::StreamPlaces;
 use std::alloc::Global;
 use std::marker::Model;
 use strm_buffers::items::Items;
@@ -95,8 +98,8 @@ pub struct Store {
     // What is kept of each host reader.
     consumers: [Consumer; 64],
     contexts: ErrorContexts,
-    // Streams of which an end is there.
-    live_streams: u32,
+    // Which of their places are free.
+    places: StreamPlaces,
     // Waitable sets of all guests together.
     live_sets: u32,
     // The bytes of all memories together.
@@ -148,7 +151,7 @@ impl Store {
             kept: Vec::new(alloc),
             consumers: [NO_CONSUMER; 64],
             contexts: ErrorContexts::new(alloc),
-            live_streams: 0,
+            places: StreamPlaces::new(alloc),
             live_sets: 0,
             bytes: 0,
             is_trapped: false,

@@ -68,8 +68,8 @@ pub(crate) fn is_pair(rt: &impl Abort, answer: Result<Pair, StoreError>, wanted:
     assert_eq!(rt; answer, wanted);
 }
 
-// The word of a code.
-fn word(code: ReturnCode) -> u32 {
+/// The word of a code.
+pub(crate) fn word(code: ReturnCode) -> u32 {
     code.encode()
 }
 

@@ -7,6 +7,7 @@ ghost use Rattle.strm_codes.specs.declared.scalars.Scalar.TheVariants.{U8};
 
 use crate::answers::{BLOCKED, BYTE_STREAM, BYTES};
 use crate::play::Play;
+use crate::queries::is_end;
 use std::alloc::Global;
 use std::process::Abort;
 use std::test::Fail;
@@ -16,7 +17,7 @@ use strm_buffers::items::Items;
 use strm_buffers::writers::HostWriter;
 use strm_codes::codes::TransmitKind;
 use strm_codes::refusals::Refusal;
-use strm_machine::streams::HostEnd;
+use strm_machine::streams::{HostEnd, Owner};
 use strm_program_ends::scripted_writer::{ScriptedWriter, WriterTurn};
 use strm_transmit::errors::StoreError;
 
@@ -102,6 +103,8 @@ fn reads_are_served(rt: HostRuntime) -> Result<(), Fail> {
     let used = StoreError::Refused(Refusal::HostUsed);
     play.hosts_writer(&rt, 0, Err(used));
     play.lowers(&rt, 0, 0, BYTE_STREAM, Ok(1));
+    let writer = Owner::Host { number: 0 };
+    is_end(&rt, &play, (0, 1), (BYTE_STREAM, true, 0, None), writer);
     play.reads(&rt, (0, 1), 0, 2, 0x20);
     play.reads(&rt, (0, 1), 2, 2, 0x10);
     play.reads(&rt, (0, 1), 3, 2, BLOCKED);

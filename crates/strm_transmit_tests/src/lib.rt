@@ -23,11 +23,17 @@ mod moves;
 #[cfg(test)]
 mod pipes;
 #[cfg(test)]
+mod places;
+#[cfg(test)]
 mod play;
+#[cfg(test)]
+mod queries;
 #[cfg(test)]
 mod readers;
 #[cfg(test)]
 mod sets;
+#[cfg(test)]
+mod shares;
 #[cfg(test)]
 mod streams;
 #[cfg(test)]

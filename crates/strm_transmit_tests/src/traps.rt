@@ -3,6 +3,7 @@
 
 use crate::answers::{BLOCKED, is_code, must_fit};
 use crate::play::Play;
+use crate::queries::{has_handles, is_end};
 use std::process::Abort;
 use strm_codes::codes::{ReturnCode, TransmitIndex};
 use strm_codes::payloads::Payload;
@@ -10,6 +11,7 @@ use strm_codes::refusals::Refusal;
 use strm_codes::scalars::Scalar;
 use strm_machine::replies::Reply;
 use strm_machine::steps::Step;
+use strm_machine::streams::Owner;
 use strm_transmit::errors::StoreError;
 use strm_transmit::steps::apply;
 use strm_transmit::store::Store;
@@ -41,7 +43,7 @@ fn adds_no_guest(rt: &impl Abort, store: &mut Store, error: StoreError) {
     assert_eq!(rt; store.add_guest(16).err(), Some(error));
 }
 
-/// A surrogate of the second stream traps the store; its number is told.
+/// A surrogate of the second stream traps the store; its number is told, and handles are told as before.
 #[test]
 fn a_bad_item_traps(rt: HostRuntime) {
     let mut play = Play::one_guest(&rt, rt.alloc());
@@ -54,6 +56,12 @@ fn a_bad_item_traps(rt: HostRuntime) {
     reads_char(&rt, &mut play, Err(bad));
     adds_no_guest(&rt, &mut play.store, TRAPPED);
     play.is_trapped(&rt, true);
+    let writer = Owner::Held {
+        guest: 0,
+        handle: 3,
+    };
+    is_end(&rt, &play, (1, 1), (CHAR_STREAM, true, 1, None), writer);
+    has_handles(&rt, &play, 0, Ok(3));
 }
 
 // A step is done, and replies.

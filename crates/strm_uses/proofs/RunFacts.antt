@@ -4,9 +4,10 @@ use Rattle.std.proofs.lemmas.List.{take_all}
 use Rattle.strm_codes.specs.declared.codes.TransmitKind.TheVariants.{Future}
 use Rattle.strm_laws.specs.Conservation.{got, moments, state_after_steps}
 use Rattle.strm_machine.specs.State.{State, stream_at}
+use Rattle.strm_laws.specs.Starts.{run_start}
 use Rattle.strm_machine.specs.declared.replies.Reply.{Reply}
 use Rattle.strm_machine.specs.declared.steps.Step.{Step}
-use Rattle.strm_session.specs.Runs.{run_start, HasLaws, IsRunKept}
+use Rattle.strm_session.specs.Runs.{HasLaws, IsRunKept}
 
 -- the laws hold after the last step
 pub laws_at_end : (steps : List Step) (replies : List Reply) (end : State) → IsRunKept steps replies end → HasLaws (moments run_start steps) (state_after_steps run_start steps)

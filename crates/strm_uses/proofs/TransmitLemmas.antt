@@ -1,5 +1,5 @@
 -- What the calls of a caller of the store come to, by what the machine does with their steps.
-use Rattle.std.proofs.Common.{◌≡◌, ℕ, ◌+◌, ◌*◌, ◌%◌, ◌<◌, ◌≢◌, false, List, [], ◌∷◌, take, length, Option, Some, None, refl, sym, ap, ◌∙◌, arith}
+use Rattle.std.proofs.Common.{◌≡◌, ℕ, ◌+◌, ◌*◌, ◌%◌, ◌<◌, ◌≢◌, false, List, [], ◌∷◌, take, length, Option, Some, None, Ok, refl, sym, ap, subst, ◌∙◌, arith}
 use Rattle.strm_codes.specs.declared.codes.ReturnCode.{ReturnCode}
 use Rattle.strm_codes.specs.declared.codes.ReturnCode.TheVariants.{Blocked, Completed}
 use Rattle.strm_codes.specs.declared.codes.TransmitIndex.{TransmitIndex}
@@ -20,7 +20,10 @@ use Rattle.strm_machine.specs.declared.steps.Step.TheVariants as steps
 use Rattle.strm_machine.specs.declared.replies.Pair.{Pair}
 use Rattle.strm_machine.specs.declared.replies.Reply.{Reply}
 use Rattle.strm_machine.specs.declared.replies.Reply.TheVariants as replies
+use Rattle.strm_places.specs.Again.{IsFree, Behind, Again, reaction_at, reacts_at}
+use Rattle.strm_places.proofs.AgainLemmas.{reaction_at-behind}
 use Rattle.strm_host_machine.specs.Steps.{touches}
+use Rattle.strm_transmit.specs.Again.{MeetsAt}
 use Rattle.strm_transmit.specs.Hosted.{lone}
 
 abbrev bytes_type : TransmitIndex
@@ -82,6 +85,29 @@ two_is = refl
 joined_is : pair_in joined.reply ≡ record { read = 1; write = 1; stream = 0 }
 unfolding reaction refusal performs with_stream
 joined_is = refl
+
+none_yet : length two.state.streams ≡ 0
+unfolding reaction refusal performs
+none_yet = refl
+
+-- the first stream has no other's number
+first_number : (n : ℕ) → IsFree two.state.streams n → n ≡ length two.state.streams
+first_number n (Behind e) = e
+first_number n (Again l gone) = absurd (omega (arith, l, none_yet))
+
+module _ (s1 s2 s3 : State) (writer reader : ℕ) (pair : Pair) where
+  abbrev joins : Step
+  joins = steps.Between writer reader bytes_type
+
+  pub first_made : react start (steps.Guest 16) ≡ goes (replies.Number writer) s1 → react s1 (steps.Guest 16) ≡ goes (replies.Number reader) s2
+      → MeetsAt s2 s3 (Ok (replies.Pair pair)) (λ n. reacts_at n s2 joins) → react s2 joins ≡ goes (replies.Pair pair) s3
+  first_made a b m =
+      let e1 : s1 ≡ one.state = sym (ap (λ (r : Reaction). r.state) a) in
+      let f2 : react one.state (steps.Guest 16) ≡ goes (replies.Number reader) s2 = rw e1 at b in
+      let e2 : s2 ≡ two.state = sym (ap (λ (r : Reaction). r.state) f2) in
+      let free : IsFree two.state.streams m.number = subst (λ (s : State). IsFree s.streams m.number) e2 m.free in
+      let last : m.number ≡ length s2.streams = first_number m.number free ∙ ap (λ (s : State). length s.streams) (sym e2) in
+      sym (ap (λ n. reaction_at n s2 (act_of joins)) last ∙ reaction_at-behind s2 (act_of joins)) ∙ m.meets
 
 -- neither end of the stream is a host end
 written_alone : (x y z : ℕ) → touches (lone (poked (x ∷ y ∷ z ∷ [])).state) (act_of (steps.Write 0 bytes_type 1 0 3)) ≡ false

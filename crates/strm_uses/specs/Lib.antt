@@ -1,3 +1,4 @@
 pub mod Places
 pub mod Polled
 pub mod Produced
+pub mod Across

@@ -3,6 +3,8 @@
 ghost use Rattle.std.specs.Prelude.{◌≡◌, ◌≢◌, ℕ, take, length, false, Some, Ok, Err, IfOk, IfSome};
 ghost use Rattle.strm_codes.specs.declared.codes.ReturnCode.TheVariants.{Completed};
 ghost use Rattle.strm_machine.specs.State.{memory_in, stream_at};
+ghost use Rattle.strm_machine.specs.declared.streams.Owner.TheVariants.{Held};
+ghost use Rattle.strm_uses.specs.Across.{owner_across};
 ghost use Rattle.strm_uses.specs.declared.embed.Told.TheVariants.{Trap};
 
 use std::alloc::Global;
@@ -11,7 +13,7 @@ use strm_codes::payloads::Payload;
 use strm_codes::refusals::Refusal;
 use strm_codes::scalars::Scalar;
 use strm_guest_store::guest_store::GuestStore;
-use strm_guest_store::{Chunk, Limits, StoreError};
+use strm_guest_store::{Chunk, Handle, Limits, Owner, StoreError};
 
 const BYTES: Payload = Payload::One(Scalar::U8);
 
@@ -74,6 +76,21 @@ pub fn read_for(
         Ok(code) => Ok(Told::Word(code.encode())),
         Err(StoreError::Refused(refusal)) => Ok(Told::Trap(refusal)),
         Err(error) => Err(error),
+    }
+}
+
+/// The guest that has the other end of a guest's end, and its handle there: whom a runtime wakes once the
+/// end was written, read or dropped. None where the handle is no end, or no guest has the other one.
+pub fn across(store: &GuestStore, guest: u32, handle: u32) -> Option<(u32, u32)>
+    ensures { IfSome result (λ other.
+        owner_across store.now guest handle ≡ Held other.0 other.1) }
+{
+    match store.handle(guest, handle) {
+        Ok(Handle::End(end)) => match end.other {
+            Owner::Held { guest, handle } => Some((guest, handle)),
+            _ => None,
+        },
+        _ => None,
     }
 }
 

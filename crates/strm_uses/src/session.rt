@@ -5,7 +5,8 @@ ghost use Rattle.strm_codes.specs.declared.codes.TransmitKind.TheVariants.{Futur
 ghost use Rattle.strm_laws.specs.Conservation.{got, moments, replies_of, state_after_steps};
 ghost use Rattle.strm_laws.specs.Laws.{Conserves};
 ghost use Rattle.strm_machine.specs.State.{stream_at};
-ghost use Rattle.strm_session.specs.Runs.{AreOfGuests, counts_of, run_start};
+ghost use Rattle.strm_laws.specs.Starts.{run_start};
+ghost use Rattle.strm_session.specs.Runs.{AreOfGuests, counts_of};
 
 use std::alloc::Global;
 use strm_buffers::hosts::Hosts;

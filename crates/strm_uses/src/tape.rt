@@ -1,6 +1,6 @@
 //! A tape: steps are kept as its bytes, and what a host writer produced is read off its records.
 
-ghost use Rattle.std.specs.Prelude.{◌≡◌, ◌↔◌, ◌≢◌, ◌⊎◌, [], All, length, slice_get, IfOk, IfErr, IsErrOf};
+ghost use Rattle.std.specs.Prelude.{◌≡◌, ◌↔◌, ◌≢◌, ◌⊎◌, [], All, length, slice_get, IfOk, IfErr, IsErr, IsErrOf};
 ghost use Rattle.std.specs.Option.{option_map};
 ghost use Rattle.strm_lines.specs.Grammar.{IsU32, HasLine};
 ghost use Rattle.strm_tape.specs.Spelling.{TapeOf, IsTape, tape_with, tape_spelling};
@@ -53,8 +53,12 @@ pub fn produced_on(alloc: Global, bytes: &[u8], number: u32) -> Result<Option<u6
         IfOk result (λ count. count ≡ option_map items_produced (slice_get tape.writers number)) }
     ensures not_a_tape { IsErrOf result TapeError.NotATape → (tape : TapeOf) → IsTape tape →
         tape_spelling tape ≢ bytes.now }
+    ensures only_tapes { ((tape : TapeOf) → IsTape tape → tape_spelling tape ≢ bytes.now) →
+        IsErr result }
+    ensures known { IfErr result (λ e. (e ≡ TapeError.NotATape) ⊎ (e ≡ TapeError.OutOfMemory)) }
 {
     let tape = untape(alloc, bytes)?;
+    tape.sound();
     if number >= tape.writers() {
         return Ok(None);
     }

@@ -1,3 +1,4 @@
+pub mod Homes
 pub mod Ready
 pub mod Sets
 pub mod Slots

@@ -4,6 +4,7 @@
 //! handle ready. Stands on the codes of `strm_codes`.
 #![tactic(auto)]
 
+mod homes;
 pub mod laws;
 pub mod ready;
 pub mod sets;

@@ -4,14 +4,12 @@
 //! and `canon waitable.join`; wasmtime, `WaitableSet` of `concurrent.rs`. Ours: the least number
 //! that no set has, and the least member that is ready.
 
-ghost use Rattle.std.specs.Prelude.{◌≡◌, ℕ, ◌<◌, true, IfSome, IfNone, IfOk, OnOk, OnErr};
+ghost use Rattle.std.specs.Prelude.{◌≡◌, ℕ, ◌<◌, true, false, IfSome, IfNone, IfOk, OnOk, OnErr};
 ghost use Rattle.strm_waitable_sets.specs.Sets.{no_sets, is_set_there, is_member, set_of, least_free, with_new_set, handle_joined, handle_left, without_set, HasMember, HasNoMember, IsLeastReady, NoneReady, AreSetsKept};
 
-use crate::slots::{
-    Slot, add_member, first_free, is_memberless, least_ready, place, remove_member,
-};
+use crate::homes::{home_at, is_home, least_ready, make_place, replace_home};
+use crate::slots::{Slot, add_member, first_free, has_member, place, remove_member};
 use std::alloc::Global;
-use std::collections::BTreeMap;
 use std::marker::Model;
 use strm_codes::counts::OutOfMemory;
 use thiserror::Error;
@@ -25,16 +23,15 @@ pub struct SetNotEmpty;
 #[derive(Drop)]
 pub struct WaitableSets {
     sets: Vec<Slot>,
-    // The set of each handle that is in one.
-    homes: BTreeMap<u32, u32>,
+    // The set of each handle, by the handle.
+    homes: Vec<Option<u32>>,
     // Each number below has a set.
     hint: usize,
-    alloc: Global,
 }
 
 impl Model for WaitableSets {
     ghost use Rattle.std.specs.Prelude.{map as map_list, is_some};
-    ghost use Rattle.std.specs.FinMap.{from_entries};
+    ghost use Rattle.strm_waitable_sets.specs.Homes.{homes_from};
     ghost use Rattle.strm_waitable_sets.specs.Sets.{Sets, sets_code};
     ghost use Rattle.strm_waitable_sets.specs.Slots.{AreSlotsTied};
 
@@ -44,10 +41,10 @@ impl Model for WaitableSets {
 
     ghost view = { λ s. record {
       there = map_list is_some s.sets.items;
-      homes = from_entries s.homes.entries;
+      homes = homes_from 0 s.homes.items;
     } };
 
-    ghost invariant = { λ s. AreSlotsTied s.sets.items s.homes s.hint };
+    ghost invariant = { λ s. AreSlotsTied s.sets.items s.homes.items s.hint };
 }
 
 impl WaitableSets {
@@ -57,9 +54,8 @@ impl WaitableSets {
     {
         WaitableSets {
             sets: Vec::new(alloc),
-            homes: BTreeMap::new(alloc),
+            homes: Vec::new(alloc),
             hint: 0,
-            alloc,
         }
     }
 
@@ -77,17 +73,23 @@ impl WaitableSets {
     pub fn set_of(&self, handle: u32) -> Option<u32>
         ensures { result ≡ set_of self.now handle }
     {
-        self.homes.get(&handle).copied()
+        home_at(self.homes.as_slice(), handle)
     }
 
     /// Whether a handle is in the set of this number.
     pub fn is_member(&self, set: u32, handle: u32) -> bool
         ensures { result ≡ is_member self.now set handle }
     {
-        match self.set_of(handle) {
-            Some(home) => home == set,
-            None => false,
-        }
+        is_home(self.set_of(handle), set)
+    }
+
+    /// Whether the set of this number has a member.
+    pub fn has_member(&self, set: u32) -> bool
+        requires there { is_set_there self.now set ≡ true }
+        ensures some { result ≡ true → HasMember self.now set }
+        ensures none { result ≡ false → HasNoMember self.now set }
+    {
+        has_member(&self.sets[set as usize])
     }
 
     /// A set without members, of the least number that no set has. Where there is no memory, or no
@@ -102,7 +104,7 @@ impl WaitableSets {
         let Ok(answer) = u32::try_from(number) else {
             return Err(OutOfMemory);
         };
-        place(&mut self.sets, number, self.alloc)?;
+        place(&mut self.sets, number)?;
         self.hint = number + 1;
         Ok(answer)
     }
@@ -114,18 +116,10 @@ impl WaitableSets {
         ensures ok { OnOk result (self.new ≡ handle_joined self.old handle set) }
         ensures err { OnErr result (self.new ≡ self.old) }
     {
-        if self.is_member(set, handle) {
-            return Ok(());
-        }
-        add_member(&mut self.sets[set as usize], handle)?;
-        match self.homes.insert(handle, set) {
-            Ok(Some(home)) => remove_member(&mut self.sets[home as usize], handle),
-            Ok(None) => {}
-            Err(_) => {
-                remove_member(&mut self.sets[set as usize], handle);
-                return Err(OutOfMemory);
-            }
-        }
+        make_place(&mut self.homes, handle)?;
+        let left = replace_home(&mut self.homes, handle, Some(set));
+        remove_member(&mut self.sets, left);
+        add_member(&mut self.sets, set);
         Ok(())
     }
 
@@ -133,20 +127,19 @@ impl WaitableSets {
     pub fn leave(&mut self, handle: u32)
         ensures { self.new ≡ handle_left self.old handle }
     {
-        if let Some(home) = self.homes.remove(&handle) {
-            remove_member(&mut self.sets[home as usize], handle);
-        }
+        let home = replace_home(&mut self.homes, handle, None);
+        remove_member(&mut self.sets, home);
     }
 
-    /// The least member of a set that is ready. It looks at the members by rising handle, and at none
-    /// behind the one that it answers. No memory is taken.
+    /// The least member of a set that is ready. It looks at the handles up to the one that it answers, or
+    /// to the greatest that ever joined a set, by rising number. No memory is taken.
     pub fn poll<F: Fn(u32) -> bool>(&self, set: u32, ready: F) -> Option<u32>
         requires there { is_set_there self.now set ≡ true }
         requires callable { F.IsAlwaysCallable ready }
         ensures some { IfSome result (IsLeastReady (F.post ready) self.now set) }
         ensures none { IfNone result (NoneReady (F.post ready) self.now set) }
     {
-        least_ready(&self.sets[set as usize], ready)
+        least_ready(self.homes.as_slice(), set, ready)
     }
 
     /// Takes a set away that has no member; its number may be given again. No memory is taken.
@@ -157,7 +150,7 @@ impl WaitableSets {
         ensures ok { OnOk result (self.new ≡ without_set self.old set) }
         ensures err { OnErr result (self.new ≡ self.old) }
     {
-        if !is_memberless(&self.sets[set as usize]) {
+        if self.has_member(set) {
             return Err(SetNotEmpty);
         }
         self.sets[set as usize] = None;

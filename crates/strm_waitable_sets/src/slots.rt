@@ -1,90 +1,75 @@
-//! What stands behind a set number: the members of its set, if a set has it.
+//! What stands behind a set number: how many members its set has, if a set has it.
 //!
-//! Meaning: `Slots.antt`. Ours: the members stand in order, so that the least is found first.
+//! Meaning: `Slots.antt`. Ours: who the members are is known by the handles alone.
 
-ghost use Rattle.std.specs.Prelude.{◌≡◌, ℕ, ◌<◌, ◌≤◌, true, false, not, ◌&&◌, ◌||◌, nat_eq, length, map, None, is_some, IfSome, IfNone, OnOk, OnErr};
+ghost use Rattle.std.specs.Prelude.{◌≡◌, ℕ, ◌+◌, ◌^◌, ◌<◌, ◌≤◌, true, not, ◌↔◌, IsTrue, nat_eq, length, map, None, is_some, if◌then◌else◌, OnOk, OnErr};
 ghost use Rattle.std.specs.List.{position_or_len};
+ghost use Rattle.strm_codes.specs.OptionalNumbers.{is_number};
 ghost use Rattle.strm_waitable_sets.specs.Sets.{set_placed};
-ghost use Rattle.strm_waitable_sets.specs.Slots.{has, slot_at, HasSome};
+ghost use Rattle.strm_waitable_sets.specs.Slots.{slot_at, count_of, count_at};
 
-use std::alloc::Global;
-use std::collections::BTreeSet;
 use strm_codes::counts::OutOfMemory;
 
-/// The set of a number, if it is there.
-pub(crate) type Slot = Option<BTreeSet<u32>>;
+/// How many members a set has.
+#[derive(Clone, Copy)]
+pub(crate) struct Members {
+    count: usize,
+}
 
-/// Whether the set has no member.
-pub(crate) fn is_memberless(slot: &Slot) -> bool
-    ensures none { result ≡ true → (handle : ℕ) → has slot.now handle ≡ false }
-    ensures some { result ≡ false → HasSome slot.now }
+/// The set of a number, if it is there.
+pub(crate) type Slot = Option<Members>;
+
+/// Whether the set has a member.
+pub(crate) fn has_member(slot: &Slot) -> bool
+    ensures { IsTrue result ↔ (0 < count_of slot.now) }
 {
     match slot {
-        Some(members) => members.is_empty(),
-        None => true,
+        Some(members) => members.count > 0,
+        None => false,
     }
 }
 
-/// Adds a member. Where there is no memory, nothing changes.
-pub(crate) fn add_member(slot: &mut Slot, handle: u32) -> Result<(), OutOfMemory>
-    requires there { is_some slot.old ≡ true }
-    ensures there { is_some slot.new ≡ true }
-    ensures ok { OnOk result ((other : ℕ) →
-        has slot.new other ≡ (nat_eq other handle || has slot.old other)) }
-    ensures err { OnErr result ((other : ℕ) → has slot.new other ≡ has slot.old other) }
+/// A set has a member more.
+pub(crate) fn add_member(slots: &mut Vec<Slot>, set: u32)
+    requires there { is_some (slot_at slots.old.items set) ≡ true }
+    requires few { count_at slots.old.items set ≤ 2 ^ 32 }
+    ensures flags { map is_some slots.new.items ≡ map is_some slots.old.items }
+    ensures counts { (number : ℕ) → count_at slots.new.items number
+        ≡ count_at slots.old.items number + (if nat_eq set number then 1 else 0) }
 {
-    if let Some(members) = slot
-        && members.insert(handle).is_err()
-    {
-        return Err(OutOfMemory);
-    }
-    Ok(())
-}
-
-/// Takes a member out. No memory is taken.
-pub(crate) fn remove_member(slot: &mut Slot, handle: u32)
-    ensures there { is_some slot.new ≡ is_some slot.old }
-    ensures others { (other : ℕ) →
-        has slot.new other ≡ (not (nat_eq other handle) && has slot.old other) }
-{
-    if let Some(members) = slot {
-        members.remove(&handle);
+    if let Some(members) = &mut slots[set as usize] {
+        members.count += 1;
     }
 }
 
-/// The least member that is ready. It looks at members by rising handle, and at none behind it.
-pub(crate) fn least_ready<F: Fn(u32) -> bool>(slot: &Slot, ready: F) -> Option<u32>
-    requires { F.IsAlwaysCallable ready }
-    ensures member { IfSome result (λ handle. has slot.now handle ≡ true) }
-    ensures ready { IfSome result (λ handle. F.post ready handle true) }
-    ensures least { IfSome result (λ handle. (other : ℕ) → other < handle
-        → has slot.now other ≡ true → F.post ready other false) }
-    ensures none { IfNone result ((other : ℕ) → has slot.now other ≡ true
-        → F.post ready other false) }
+/// The set that a handle was in, if it was in one, has a member less.
+pub(crate) fn remove_member(slots: &mut Vec<Slot>, home: Option<u32>)
+    requires some { (number : ℕ) → is_number home number ≡ true
+        → 0 < count_at slots.old.items number }
+    ensures flags { map is_some slots.new.items ≡ map is_some slots.old.items }
+    ensures counts { (number : ℕ) → count_at slots.new.items number
+        + (if is_number home number then 1 else 0) ≡ count_at slots.old.items number }
 {
-    let Some(members) = slot else {
-        return None;
+    let Some(set) = home else {
+        return;
     };
-    for member in members {
-        if ready(*member) {
-            return Some(*member);
-        }
+    if let Some(members) = &mut slots[set as usize] {
+        members.count -= 1;
     }
-    None
 }
 
 /// Puts a set without members under a number that has none, which is one of the slots or the next
 /// one. Where there is no memory, nothing changes.
-pub(crate) fn place(slots: &mut Vec<Slot>, number: usize, alloc: Global) -> Result<(), OutOfMemory>
+pub(crate) fn place(slots: &mut Vec<Slot>, number: usize) -> Result<(), OutOfMemory>
     requires inside { number ≤ length slots.old.items }
     requires vacant { slot_at slots.old.items number ≡ None }
     ensures flags { OnOk result
         (map is_some slots.new.items ≡ set_placed (map is_some slots.old.items) number) }
-    ensures members { OnOk result ((at handle : ℕ) →
-        has (slot_at slots.new.items at) handle ≡ has (slot_at slots.old.items at) handle) }
+    ensures counts { OnOk result ((at : ℕ) →
+        count_at slots.new.items at ≡ count_at slots.old.items at) }
     ensures err { OnErr result (slots.new.items ≡ slots.old.items) }
 {
-    let slot = Some(BTreeSet::new(alloc));
+    let slot = Some(Members { count: 0 });
     if number < slots.len() {
         slots[number] = slot;
     } else if slots.push(slot).is_err() {

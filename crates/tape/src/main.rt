@@ -17,8 +17,7 @@ use strm_buffers::hosts::Hosts;
 use strm_buffers::readers::HostReader;
 use strm_buffers::writers::HostWriter;
 use strm_input_output::ports::{Sink, Source};
-use strm_input_output::standard::{StdinSource, StdoutSink};
-use strm_input_output::words::{process_args, words_behind};
+use strm_input_output::processes::Process;
 use strm_program_hosts::among::{AmongHosts, served_among_hosts};
 use strm_tape::tape::Tape;
 use strm_tape_ends::replay_reader::ReplayReader;
@@ -160,19 +159,15 @@ fn answered<S: Source, K: Sink>(
 }
 
 fn main(rt: HostRuntime) -> io::Result<ExitCode> {
-    let alloc = rt.alloc();
-    let Ok(args) = process_args(&rt) else {
-        return Ok(ExitCode::from(OUT_OF_MEMORY));
-    };
-    let Ok(words) = words_behind(alloc, args) else {
+    let Ok(process) = Process::begin(&rt) else {
         return Ok(ExitCode::from(OUT_OF_MEMORY));
     };
     let mut ports = Ports {
-        alloc,
-        source: StdinSource::new(rt.stdin()),
-        sink: StdoutSink::new(rt.stdout()),
+        alloc: rt.alloc(),
+        source: process.source,
+        sink: process.sink,
     };
-    match answered(&words, &mut ports) {
+    match answered(&process.words, &mut ports) {
         Ok(code) => Ok(code),
         Err(_) => Ok(ExitCode::from(OUT_OF_MEMORY)),
     }

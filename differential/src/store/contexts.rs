@@ -9,14 +9,14 @@ use crate::tables::Entry;
 const MOST_MESSAGE: u32 = 4096;
 
 /// A message, and how many handles there are to it.
-#[derive(Debug, Default)]
+#[derive(Clone, Debug, Default)]
 struct Context {
     message: Vec<u8>,
     handles: u32,
 }
 
 /// The error contexts of a store. A place without handles is free.
-#[derive(Debug, Default)]
+#[derive(Clone, Debug, Default)]
 pub struct Contexts {
     all: Vec<Context>,
     free: Vec<u32>,
@@ -36,7 +36,7 @@ impl Contexts {
 }
 
 impl Store {
-    pub(super) fn set_new(&mut self, guest: u32) -> Result<Reply<'_>, Refusal> {
+    pub fn set_new(&mut self, guest: u32) -> Result<Reply<'_>, Refusal> {
         self.guest(guest)?;
         self.has_room(1, 1)?;
         let sets = &mut self.guests[guest as usize].sets;
@@ -53,7 +53,7 @@ impl Store {
         }
     }
 
-    pub(super) fn set_join(&mut self, guest: u32, set: u32, handle: u32) -> Result<Reply<'_>, Refusal> {
+    pub fn set_join(&mut self, guest: u32, set: u32, handle: u32) -> Result<Reply<'_>, Refusal> {
         self.guest(guest)?;
         let joined = if set == 0 { None } else { Some(self.set_of(guest, set)?) };
         let Entry::End { stream, side } = self.entry(guest, handle)? else {
@@ -71,7 +71,7 @@ impl Store {
         Ok(Reply::Done)
     }
 
-    pub(super) fn set_poll(&mut self, guest: u32, handle: u32) -> Result<Reply<'_>, Refusal> {
+    pub fn set_poll(&mut self, guest: u32, handle: u32) -> Result<Reply<'_>, Refusal> {
         let set = self.set_of(guest, handle)?;
         let Guest { table, sets, .. } = &mut self.guests[guest as usize];
         let streams = &mut self.streams;
@@ -95,7 +95,7 @@ impl Store {
         }
     }
 
-    pub(super) fn set_drop(&mut self, guest: u32, handle: u32) -> Result<Reply<'_>, Refusal> {
+    pub fn set_drop(&mut self, guest: u32, handle: u32) -> Result<Reply<'_>, Refusal> {
         let set = self.set_of(guest, handle)?;
         if !self.guests[guest as usize].sets[set as usize].is_empty() {
             return Err(Refusal::SetNotEmpty);
@@ -105,12 +105,7 @@ impl Store {
         Ok(Reply::Done)
     }
 
-    pub(super) fn error_context_new(
-        &mut self,
-        guest: u32,
-        address: u32,
-        len: u32,
-    ) -> Result<Reply<'_>, Refusal> {
+    pub fn error_context_new(&mut self, guest: u32, address: u32, len: u32) -> Result<Reply<'_>, Refusal> {
         let memory = &self.guest(guest)?.memory;
         if len > MOST_MESSAGE {
             return Err(Refusal::MessageTooLong);
@@ -133,7 +128,7 @@ impl Store {
         }
     }
 
-    pub(super) fn error_context_message(
+    pub fn error_context_message(
         &mut self,
         guest: u32,
         handle: u32,
@@ -151,21 +146,33 @@ impl Store {
         Ok(Reply::Number(message.len() as u32))
     }
 
-    pub(super) fn error_context_transfer(
-        &mut self,
-        guest: u32,
-        handle: u32,
-        to: u32,
-    ) -> Result<Reply<'_>, Refusal> {
+    pub fn error_context_transfer(&mut self, guest: u32, handle: u32, to: u32) -> Result<Reply<'_>, Refusal> {
         self.guest(guest)?;
         self.guest(to)?;
         let place = self.context_of(guest, handle)?;
+        self.add_handle(place, to)
+    }
+
+    // A handle more to a context.
+    fn add_handle(&mut self, place: u32, to: u32) -> Result<Reply<'_>, Refusal> {
         self.has_room(1, 0)?;
         self.contexts.all[place as usize].handles += 1;
         Ok(Reply::Number(self.insert(to, Entry::Context(place))))
     }
 
-    pub(super) fn error_context_drop(&mut self, guest: u32, handle: u32) -> Result<Reply<'_>, Refusal> {
+    pub fn error_context_rep(&self, guest: u32, handle: u32) -> Result<Reply<'_>, Refusal> {
+        self.context_of(guest, handle).map(Reply::Number)
+    }
+
+    pub fn error_context_lower(&mut self, rep: u32, guest: u32) -> Result<Reply<'_>, Refusal> {
+        self.guest(guest)?;
+        if self.contexts.all.get(rep as usize).is_none_or(|context| context.handles == 0) {
+            return Err(Refusal::UnknownHandle);
+        }
+        self.add_handle(rep, guest)
+    }
+
+    pub fn error_context_drop(&mut self, guest: u32, handle: u32) -> Result<Reply<'_>, Refusal> {
         let place = self.context_of(guest, handle)?;
         self.remove(guest, handle);
         let context = &mut self.contexts.all[place as usize];

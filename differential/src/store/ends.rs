@@ -8,14 +8,14 @@ use crate::streams::{Owner, Side, Stream};
 use crate::tables::Entry;
 
 impl Store {
-    pub(super) fn take_event(&mut self, guest: u32, handle: u32) -> Result<Option<ReturnCode>, Refusal> {
+    pub fn take_event(&mut self, guest: u32, handle: u32) -> Result<Option<ReturnCode>, Refusal> {
         match self.entry(guest, handle)? {
             Entry::End { stream, side } => Ok(self.streams[stream as usize].deliver(side)),
             _ => Err(Refusal::WrongKind),
         }
     }
 
-    pub(super) fn cancel(
+    pub fn cancel(
         &mut self,
         side: Side,
         guest: u32,
@@ -47,7 +47,7 @@ impl Store {
         Ok(ReturnCode::cancelled(0))
     }
 
-    pub(super) fn drop_end(
+    pub fn drop_end(
         &mut self,
         side: Side,
         guest: u32,
@@ -86,7 +86,7 @@ impl Store {
                 break;
             }
         }
-        if stream[Side::Write].is_gone() && stream[Side::Read].is_gone() {
+        if !stream.is_live() {
             self.places -= 3;
         }
         self.note(number, Side::Write);
@@ -108,7 +108,7 @@ impl Store {
         Ok(())
     }
 
-    pub(super) fn move_end(
+    pub fn move_end(
         &mut self,
         guest: u32,
         ty: TransmitIndex,
@@ -125,7 +125,7 @@ impl Store {
         Ok(Reply::Number(handle))
     }
 
-    pub(super) fn lift(&mut self, guest: u32, ty: TransmitIndex, handle: u32) -> Result<Reply<'_>, Refusal> {
+    pub fn lift(&mut self, guest: u32, ty: TransmitIndex, handle: u32) -> Result<Reply<'_>, Refusal> {
         let (number, side) = self.end_of(guest, ty, handle)?;
         if side == Side::Write {
             return Err(Refusal::WrongEnd);
@@ -142,7 +142,7 @@ impl Store {
         if stream[Side::Read].owner == Owner::Loose { Ok(()) } else { Err(Refusal::UnknownReader) }
     }
 
-    pub(super) fn lower(&mut self, reader: u32, guest: u32, ty: TransmitIndex) -> Result<Reply<'_>, Refusal> {
+    pub fn lower(&mut self, reader: u32, guest: u32, ty: TransmitIndex) -> Result<Reply<'_>, Refusal> {
         self.guest(guest)?;
         self.is_loose(reader)?;
         self.is_of_type(reader, ty)?;
@@ -152,7 +152,7 @@ impl Store {
         Ok(Reply::Number(handle))
     }
 
-    pub(super) fn close(&mut self, reader: u32) -> Result<Reply<'_>, Refusal> {
+    pub fn close(&mut self, reader: u32) -> Result<Reply<'_>, Refusal> {
         self.is_loose(reader)?;
         self.give_up(reader, Side::Read);
         Ok(Reply::Done)

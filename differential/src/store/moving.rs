@@ -8,7 +8,7 @@ use crate::streams::{Operation, Owner, Side};
 
 impl Store {
     /// A guest's read or write.
-    pub(super) fn operate(
+    pub fn operate(
         &mut self,
         side: Side,
         guest: u32,

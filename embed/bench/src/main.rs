@@ -1,8 +1,8 @@
-//! A write, a read and an event of some bytes, through the proved library and by plain Rust: the store of
-//! `bench/store.rs`, which makes the same tests without proofs. Both run in turn in this process, on one
-//! thread, whose processor time is taken; what is told is the median of 61 runs of each. What a runtime knows
-//! only when it runs, as the payload, the compiler does not see in either; and all memories are written before,
-//! since pages that were never written are all one page, which is read faster.
+//! A write, a read and an event of some bytes, and a stream that is made and dropped, through the proved
+//! library and by plain Rust: the store of `bench/store.rs`, which makes the same tests without proofs. Both run
+//! in turn in this process, on one thread, whose processor time is taken; what is told is the median of 61 runs
+//! of each. What a runtime knows only when it runs, as the payload, the compiler does not see in either; and all
+//! memories are written before, since pages that were never written are all one page, which is read faster.
 
 #[allow(dead_code)]
 #[rustfmt::skip]
@@ -73,6 +73,15 @@ impl Proved {
         black_box((written.word(), read.word(), told));
         Ok(())
     }
+
+    fn make_and_drop(&mut self) -> Result<(), Error> {
+        let ty = Type::Stream(self.payload);
+        let pair = self.store.new_between(self.writer, self.reader, ty)?;
+        self.store
+            .stream_drop_writable(self.writer, self.payload, pair.write)?;
+        self.store
+            .stream_drop_readable(self.reader, self.payload, pair.read)
+    }
 }
 
 struct Plain {
@@ -92,7 +101,12 @@ impl Plain {
         }
         let payload = black_box(BYTES);
         let (read, write) = store.new_between(0, 1, plain::Kind::Stream, payload);
-        Plain { store, read, write, payload }
+        Plain {
+            store,
+            read,
+            write,
+            payload,
+        }
     }
 
     fn round(&mut self, address: u32, count: u32) -> Result<(), plain::Refusal> {
@@ -107,6 +121,15 @@ impl Plain {
         let told = self.store.take_event(0, self.write)?;
         black_box((written.encode(), read.encode(), told.map(plain::Code::encode)));
         Ok(())
+    }
+
+    fn make_and_drop(&mut self) -> Result<(), plain::Refusal> {
+        let (writing, reading) = (plain::Side::Writing, plain::Side::Reading);
+        let stream = plain::Kind::Stream;
+        self.store.may_make(0, 1)?;
+        let (read, write) = self.store.new_between(0, 1, stream, self.payload);
+        self.store.drop_end(writing, 0, stream, self.payload, write)?;
+        self.store.drop_end(reading, 1, stream, self.payload, read)
     }
 }
 
@@ -124,23 +147,35 @@ fn median(mut figures: Vec<f64>) -> f64 {
     figures[figures.len() / 2]
 }
 
+// Tells the medians of both, of so many rounds at a time.
+fn compare(name: &str, rounds: u32, mut ours: impl FnMut(u32), mut theirs: impl FnMut(u32)) {
+    let mut figures = (Vec::new(), Vec::new());
+    for _ in 0..RUNS {
+        figures.0.push(timed(rounds, &mut ours));
+        figures.1.push(timed(rounds, &mut theirs));
+    }
+    let (ours, theirs) = (median(figures.0), median(figures.1));
+    println!(
+        "{name}: {ours:.1} ns, plain Rust {theirs:.1} ns, {:.2} times",
+        ours / theirs
+    );
+}
+
 fn main() -> Result<(), Error> {
     let (mut proved, mut plain) = (Proved::new()?, Plain::new());
     for (count, rounds) in [(8, 100_000), (64, 100_000), (4096, 30_000), (65536, 3_000)] {
-        let (mut ours, mut theirs) = (Vec::new(), Vec::new());
-        for _ in 0..RUNS {
-            ours.push(timed(rounds, |at| {
-                proved.round(at, black_box(count)).expect("no refusal")
-            }));
-            theirs.push(timed(rounds, |at| {
-                plain.round(at, black_box(count)).expect("no refusal")
-            }));
-        }
-        let (ours, theirs) = (median(ours), median(theirs));
-        println!(
-            "{count} bytes: {ours:.1} ns, plain Rust {theirs:.1} ns, {:.2} times",
-            ours / theirs
+        compare(
+            &format!("{count} bytes"),
+            rounds,
+            |at| proved.round(at, black_box(count)).expect("no refusal"),
+            |at| plain.round(at, black_box(count)).expect("no refusal"),
         );
     }
+    compare(
+        "a stream made and dropped",
+        10_000,
+        |_| proved.make_and_drop().expect("no refusal"),
+        |_| plain.make_and_drop().expect("no refusal"),
+    );
     Ok(())
 }

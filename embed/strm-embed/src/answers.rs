@@ -91,6 +91,8 @@ pub enum Error {
     StoreTrapped,
     /// An allocation was refused. Nothing has changed.
     OutOfMemory,
+    /// A guest would get more than its limits allow, which is told before any refusal. Nothing has changed.
+    GuestLimit,
 }
 
 impl fmt::Display for Refusal {
@@ -108,6 +110,7 @@ impl fmt::Display for Error {
             Error::BadItem => f.write_str("an item is no Unicode scalar value, and the store is trapped"),
             Error::StoreTrapped => f.write_str("the store was trapped"),
             Error::OutOfMemory => f.write_str("out of memory"),
+            Error::GuestLimit => f.write_str("the guest's limit would be passed"),
         }
     }
 }
@@ -174,6 +177,7 @@ fn error(status: u32) -> Error {
         sys::BAD_ITEM => Error::BadItem,
         sys::STORE_TRAPPED => Error::StoreTrapped,
         sys::OUT_OF_MEMORY => Error::OutOfMemory,
+        sys::GUEST_LIMIT => Error::GuestLimit,
         number => Error::Refused(sys::REFUSALS[number as usize - 1]),
     }
 }

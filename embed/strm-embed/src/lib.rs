@@ -36,7 +36,7 @@ mod sys;
 
 pub use answers::{Code, Error};
 pub use payload::{Payload, Scalar, Type};
-pub use store::{Guest, Limits, Member, Store};
+pub use store::{EndInfo, Guest, GuestLimits, Handle, Limits, Member, OtherEnd, Side, Store};
 pub use sys::{Pair, Refusal};
 
 // The store of the examples: two guests of 64 KiB, and a stream of bytes from the first to the second.

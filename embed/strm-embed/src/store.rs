@@ -2,8 +2,10 @@
 
 mod contexts;
 mod futures;
+mod limits;
 mod memories;
 mod moves;
+mod queries;
 mod sets;
 mod streams;
 
@@ -11,6 +13,9 @@ use crate::answers::{done, Code, Error};
 use crate::payload::Type;
 use crate::sys;
 use core::cell::UnsafeCell;
+
+pub use limits::GuestLimits;
+pub use queries::{EndInfo, Handle, OtherEnd, Side};
 
 /// A guest of a store, by its number: they count from 0 in the order of their making.
 #[derive(Clone, Copy, Debug, PartialEq, Eq, Hash, PartialOrd, Ord)]
@@ -25,7 +30,7 @@ pub struct Member {
     pub code: Code,
 }
 
-/// How much a store may keep.
+/// How much a store may keep. [`GuestLimits`] bound one guest.
 #[derive(Clone, Copy, Debug, PartialEq, Eq, Hash)]
 pub struct Limits {
     /// Live handles of all guests together.
@@ -118,13 +123,14 @@ impl Store {
         unsafe { sys::strm_trapped(self.at()) }
     }
 
-    /// How many streams and futures were made so far.
+    /// The numbers that streams and futures got so far are below this. One is given again once both ends of its
+    /// stream are gone, so it never passes a third of the places that the store was made with.
     pub fn streams(&self) -> u32 {
         // SAFETY: above.
         unsafe { sys::strm_streams(self.at()) }
     }
 
-    /// How many items were received on a stream so far, and none where it was never made.
+    /// How many items were received so far on the stream that got this number last, and none where none got it.
     ///
     /// ```
     /// # use strm_embed::{Code, Payload};
@@ -141,7 +147,7 @@ impl Store {
         (status == 0).then_some(u128::from(out.high) << 64 | u128::from(out.low))
     }
 
-    /// The type of a stream of which an end is there.
+    /// The type of the stream that has this number, while an end of it is there.
     ///
     /// ```
     /// # use strm_embed::{Payload, Type};

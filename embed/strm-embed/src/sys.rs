@@ -30,8 +30,45 @@ pub struct Member {
     pub code: u32,
 }
 
+/// A handle of a guest, and what it is of. What is not told is 0, and an event STRM_NO_EVENT.
+#[repr(C)]
+#[derive(Clone, Copy, Debug, Default, PartialEq, Eq)]
+pub struct Handle {
+    /// Of an end, the type of its stream or future.
+    pub ty: u64,
+    /// The handle's number; 0 where there is none.
+    pub handle: u32,
+    /// What it is of, by its kind; 0 where there is no handle.
+    pub kind: u32,
+    /// Of an end, which of the two it is.
+    pub side: u32,
+    /// Of an end, the number of its stream or future.
+    pub stream: u32,
+    /// Of an end, the code that it is to be told, and still is; else STRM_NO_EVENT.
+    pub event: u32,
+    /// Of an end, who has the other one.
+    pub other: u32,
+    /// The guest that has the other end, if one has.
+    pub other_guest: u32,
+    /// The handle under which that guest has it.
+    pub other_handle: u32,
+}
+
+/// How much a guest may have at once. UINT32_MAX handles or ends and UINT64_MAX bytes are no bound, and hold of
+/// a guest until its limits are set.
+#[repr(C)]
+#[derive(Clone, Copy, Debug, Default, PartialEq, Eq)]
+pub struct Limits {
+    /// Bytes that the store keeps for it: 4,096 for each handle of an error context, the longest that a message can be.
+    pub bytes: u64,
+    /// Handles, of whatever kind.
+    pub handles: u32,
+    /// Ends of streams and futures among them, so it is at that many streams and futures at most.
+    pub ends: u32,
+}
+
 /// The handles of a new stream's or future's two ends, each in the table of the guest that has it, and
-/// the number of the stream or future: they are numbered from 0, and no number is given again.
+/// the number of the stream or future, which no other has until both its ends are gone.
 #[repr(C)]
 #[derive(Clone, Copy, Debug, Default, PartialEq, Eq)]
 pub struct Pair {
@@ -194,6 +231,36 @@ pub const UNKNOWN_STREAM: u32 = 68;
 /// The handle is of no store: it is {NULL}.
 pub const NO_STORE: u32 = 69;
 
+/// A guest that is there would get more than its limits allow. It is told before any refusal.
+pub const GUEST_LIMIT: u32 = 72;
+
+/// The handle is of an end of a stream or future.
+pub const KIND_END: u32 = 1;
+
+/// The handle is of a waitable set.
+pub const KIND_WAITABLE_SET: u32 = 2;
+
+/// The handle is of an error context.
+pub const KIND_ERROR_CONTEXT: u32 = 3;
+
+/// The handle is of something that no call makes.
+pub const KIND_OTHER: u32 = 4;
+
+/// The end is the write end.
+pub const SIDE_WRITING: u32 = 1;
+
+/// The end is the read end.
+pub const SIDE_READING: u32 = 2;
+
+/// A guest has the other end.
+pub const OTHER_GUEST: u32 = 1;
+
+/// The other end is loose: it was lifted, and not lowered since.
+pub const OTHER_LOOSE: u32 = 2;
+
+/// The other end is gone: it was dropped or closed.
+pub const OTHER_GONE: u32 = 3;
+
 #[rustfmt::skip]
 unsafe extern "C" {
     pub fn strm_store_new(store: *mut StoreHandle, tag: u64, handles: usize, places: u32) -> u32;
@@ -238,4 +305,9 @@ unsafe extern "C" {
     pub fn strm_error_context_rep(store: *mut StoreHandle, guest: u32, handle: u32, out: &mut u32) -> u32;
     pub fn strm_error_context_lower(store: *mut StoreHandle, rep: u32, guest: u32, out: &mut u32) -> u32;
     pub fn strm_error_context_drop(store: *mut StoreHandle, guest: u32, handle: u32) -> u32;
+    pub fn strm_handle_info(store: *mut StoreHandle, guest: u32, handle: u32, out: &mut Handle) -> u32;
+    pub fn strm_next_handle(store: *mut StoreHandle, guest: u32, after: u32, out: &mut Handle) -> u32;
+    pub fn strm_handle_count(store: *mut StoreHandle, guest: u32, out: &mut u32) -> u32;
+    pub fn strm_set_guest_limits(store: *mut StoreHandle, guest: u32, handles: u32, ends: u32, bytes: u64) -> u32;
+    pub fn strm_guest_limits(store: *mut StoreHandle, guest: u32, out: &mut Limits) -> u32;
 }

@@ -1,6 +1,8 @@
 //! What the examples of the calls do not show: many calls, threads, tuples, and each kind of error.
 
-use strm_embed::{Code, Error, Guest, Limits, Pair, Payload, Refusal, Scalar, Store, Type};
+use strm_embed::{
+    Code, EndInfo, Error, Guest, Handle, Limits, OtherEnd, Pair, Payload, Refusal, Scalar, Side, Store, Type,
+};
 
 const BYTES: Type = Type::Stream(Payload::U8);
 
@@ -86,6 +88,8 @@ fn a_bad_item_traps_the_store() {
     );
     assert_eq!(store.add_guest(1), Err(Error::StoreTrapped));
     assert_eq!(store.memory(writer).unwrap()[..2], [0, 0xd8]);
+    assert_eq!(end(&store, writer, pair.write).stream, pair.stream);
+    assert_eq!(store.handle_count(writer), Ok(2));
 }
 
 #[test]
@@ -148,6 +152,84 @@ fn a_guest_without_bytes_has_none() {
     assert_eq!(store.memory_at(guest), Ok((nowhere, 0)));
     assert_eq!(store.memory_write(guest, 0, &[]), Ok(()));
     assert_eq!(store.memory_read(guest, 0, &mut []), Ok(()));
+}
+
+fn end(store: &Store, guest: Guest, handle: u32) -> EndInfo {
+    match store.handle(guest, handle) {
+        Ok(Handle::End(end)) => end,
+        other => panic!("{other:?} is no end"),
+    }
+}
+
+#[test]
+fn who_has_the_other_end_is_told() {
+    let (mut store, writer, reader, pair) = two();
+    assert_eq!(
+        end(&store, reader, pair.read).other,
+        OtherEnd::Guest {
+            guest: writer,
+            handle: pair.write
+        }
+    );
+    let stream = store.lift(reader, BYTES, pair.read).unwrap();
+    assert_eq!(end(&store, writer, pair.write).other, OtherEnd::Loose);
+    let read = store.lower(stream, writer, BYTES).unwrap();
+    assert_eq!(
+        end(&store, writer, pair.write).other,
+        OtherEnd::Guest {
+            guest: writer,
+            handle: read
+        }
+    );
+    store.stream_drop_readable(writer, Payload::U8, read).unwrap();
+    let told = EndInfo {
+        ty: BYTES,
+        side: Side::Writing,
+        stream,
+        event: Some(Code::Dropped(0)),
+        other: OtherEnd::Gone,
+    };
+    assert_eq!(end(&store, writer, pair.write), told);
+    assert_eq!(store.take_event(writer, pair.write), Ok(Some(Code::Dropped(0))));
+    assert_eq!(end(&store, writer, pair.write).event, None);
+}
+
+#[test]
+fn handles_come_in_rising_order() {
+    let (mut store, writer, reader, pair) = two();
+    store.memory_write(writer, 0, b"oops").unwrap();
+    let set = store.set_new(writer).unwrap();
+    let value = store.future_new(writer, Payload::U32).unwrap();
+    let context = store.error_context_new(writer, 0, 4).unwrap();
+    store.set_drop(writer, set).unwrap();
+    let mut found = Vec::new();
+    while let Some((handle, is)) = store
+        .next_handle(writer, found.last().map_or(0, |&(handle, _)| handle))
+        .unwrap()
+    {
+        found.push((handle, is));
+    }
+    let numbers: Vec<u32> = found.iter().map(|&(handle, _)| handle).collect();
+    assert_eq!(numbers, [pair.write, value.read, value.write, context]);
+    assert_eq!(found[3].1, Handle::ErrorContext);
+    assert_eq!(store.handle_count(writer), Ok(4));
+    for (handle, is) in found {
+        assert_eq!(store.handle(writer, handle), Ok(is));
+    }
+    assert_eq!(store.next_handle(writer, u32::MAX), Ok(None));
+    assert_eq!(
+        store.handle(writer, set),
+        Err(Error::Refused(Refusal::UnknownHandle))
+    );
+    assert_eq!(
+        store.next_handle(Guest(9), 0),
+        Err(Error::Refused(Refusal::UnknownGuest))
+    );
+    assert_eq!(
+        store.handle_count(Guest(9)),
+        Err(Error::Refused(Refusal::UnknownGuest))
+    );
+    assert_eq!(store.handle_count(reader), Ok(1));
 }
 
 #[test]

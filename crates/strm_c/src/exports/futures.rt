@@ -2,22 +2,27 @@
 //!
 //! Source: Canonical ABI, `canon future.new` and the others.
 
-ghost use Rattle.std.specs.Prelude.{◌≡◌, ◌≢◌, IfSome};
+ghost use Rattle.std.specs.Prelude.{◌≡◌, ◌≢◌};
 ghost use Rattle.strm_codes.specs.declared.codes.TransmitIndex.TheVariants as index;
 ghost use Rattle.strm_machine.specs.Reactions.{react};
 ghost use Rattle.strm_machine.specs.declared.steps.Step.TheVariants as steps;
-ghost use Rattle.strm_c.specs.Pairs.{pair_in};
+ghost use Rattle.strm_places.specs.Again.{reacts_at};
+ghost use Rattle.strm_guest_store.specs.Limits.{is_past};
+ghost use Rattle.strm_guest_store.specs.declared.guest_limits.Gain.TheVariants.{Ends};
+ghost use Rattle.strm_c.specs.Limits.{WithinLimits, is_past_of};
+ghost use Rattle.strm_c.specs.Making.{AnswersMaking};
 ghost use Rattle.strm_c.specs.Payloads.{payload_at};
-ghost use Rattle.strm_c.specs.Statuses.{AnswersOf, AnswersOfOr};
+ghost use Rattle.strm_c.specs.Statuses.{AnswersOf};
 
 use crate::exports::pairs::{StrmPair, pair};
 use crate::handles::StoreHandle;
 use crate::payloads::payload_at;
-use crate::statuses::{NO_STORE, Status, UNKNOWN_PAYLOAD, code, done};
+use crate::statuses::{GUEST_LIMIT, NO_STORE, Status, UNKNOWN_PAYLOAD, code, done};
 
-/// Makes a future whose two ends the guest gets, and puts their handles and the future's number at `out`.
-/// `canon future.new`. Refused: UnknownGuest, IndexOverflow, HandleLimit, Full. OUT_OF_MEMORY,
-/// UNKNOWN_PAYLOAD.
+/// Makes a future whose two ends the guest gets, and puts their handles and the future's number at `out`,
+/// as strm_stream_new does. `canon future.new`. Refused: UnknownGuest, IndexOverflow, HandleLimit, Full.
+/// GUEST_LIMIT, OUT_OF_MEMORY, UNKNOWN_PAYLOAD.
+#[tactic(auto, using(crate::proofs::MakingLemmas::is_made))]
 #[unsafe(no_mangle)]
 pub extern "C" fn strm_future_new(
     store: &mut StoreHandle,
@@ -25,20 +30,24 @@ pub extern "C" fn strm_future_new(
     payload: u64,
     out: &mut StrmPair,
 ) -> Status
-    ensures answers { AnswersOfOr store.old.state (payload_at payload)
-        (λ s payload. react s (steps.New guest (index.Future payload)))
-        result 0 0 store.new.state }
-    ensures pair { IfSome store.old.state (λ s. IfSome (payload_at payload) (λ payload. result ≡ 0 →
-        out.new ≡ pair_in (react s (steps.New guest (index.Future payload))).reply out.old)) }
+    ensures answers { WithinLimits store.old store.new
+        (is_past_of store.old (payload_at payload) (λ s limits. is_past s limits guest (Ends 2)))
+        result 0 0
+        (AnswersMaking store.old.state (payload_at payload)
+        (λ n s payload. reacts_at n s (steps.New guest (index.Future payload)))
+        result out.old out.new store.new.state) }
     ensures kept { result ≢ 0 → out.new ≡ out.old }
 {
-    let Some(store) = store.get_mut() else {
+    let Some(store) = store.limited_mut() else {
         return NO_STORE;
     };
     let Some(payload) = payload_at(payload) else {
         return UNKNOWN_PAYLOAD;
     };
-    pair(store.future_new(guest, payload), out)
+    let Ok(answer) = store.future_new(guest, payload) else {
+        return GUEST_LIMIT;
+    };
+    pair(answer, out)
 }
 
 /// Writes the value that lies at `address` of the guest's memory, and puts the code at `out`.
@@ -56,6 +65,7 @@ pub extern "C" fn strm_future_write(
     ensures answers { AnswersOf store.old.state (payload_at payload)
         (λ s payload. react s (steps.Write guest (index.Future payload) handle address 1))
         result out.old out.new store.new.state }
+    ensures limits { store.new.limits ≡ store.old.limits }
 {
     let Some(store) = store.get_mut() else {
         return NO_STORE;
@@ -81,6 +91,7 @@ pub extern "C" fn strm_future_read(
     ensures answers { AnswersOf store.old.state (payload_at payload)
         (λ s payload. react s (steps.Read guest (index.Future payload) handle address 1))
         result out.old out.new store.new.state }
+    ensures limits { store.new.limits ≡ store.old.limits }
 {
     let Some(store) = store.get_mut() else {
         return NO_STORE;
@@ -104,6 +115,7 @@ pub extern "C" fn strm_future_cancel_write(
     ensures answers { AnswersOf store.old.state (payload_at payload)
         (λ s payload. react s (steps.CancelWrite guest (index.Future payload) handle))
         result out.old out.new store.new.state }
+    ensures limits { store.new.limits ≡ store.old.limits }
 {
     let Some(store) = store.get_mut() else {
         return NO_STORE;
@@ -127,6 +139,7 @@ pub extern "C" fn strm_future_cancel_read(
     ensures answers { AnswersOf store.old.state (payload_at payload)
         (λ s payload. react s (steps.CancelRead guest (index.Future payload) handle))
         result out.old out.new store.new.state }
+    ensures limits { store.new.limits ≡ store.old.limits }
 {
     let Some(store) = store.get_mut() else {
         return NO_STORE;
@@ -149,6 +162,7 @@ pub extern "C" fn strm_future_drop_writable(
     ensures answers { AnswersOf store.old.state (payload_at payload)
         (λ s payload. react s (steps.DropWrite guest (index.Future payload) handle))
         result 0 0 store.new.state }
+    ensures limits { store.new.limits ≡ store.old.limits }
 {
     let Some(store) = store.get_mut() else {
         return NO_STORE;
@@ -171,6 +185,7 @@ pub extern "C" fn strm_future_drop_readable(
     ensures answers { AnswersOf store.old.state (payload_at payload)
         (λ s payload. react s (steps.DropRead guest (index.Future payload) handle))
         result 0 0 store.new.state }
+    ensures limits { store.new.limits ≡ store.old.limits }
 {
     let Some(store) = store.get_mut() else {
         return NO_STORE;

@@ -21,6 +21,7 @@ use strm_guest_store::guest_store::GuestStore;
 pub extern "C" fn strm_add_guest(store: &mut StoreHandle, size: u32, out: &mut u32) -> Status
     ensures answers { AnswersOr store.old.state (λ s. react s (steps.Guest size))
         result out.old out.new store.new.state }
+    ensures limits { store.new.limits ≡ store.old.limits }
 {
     let Some(store) = store.get_mut() else {
         return NO_STORE;
@@ -38,6 +39,7 @@ pub extern "C" fn strm_memory_write(
 ) -> Status
     ensures answers { AnswersCall store.old.state
         (λ s. react s (steps.Poke guest address bytes.now)) result 0 0 store.new.state }
+    ensures limits { store.new.limits ≡ store.old.limits }
 {
     let Some(store) = store.get_mut() else {
         return NO_STORE;
@@ -61,6 +63,7 @@ pub extern "C" fn strm_memory_read(
     ensures none { store.old.state ≡ None → result ≡ no_store }
     ensures kept { result ≢ 0 → out.new ≡ out.old }
     ensures same { store.new.state ≡ store.old.state }
+    ensures limits { store.new.limits ≡ store.old.limits }
 {
     let Some(store) = store.get_mut() else {
         return NO_STORE;
@@ -121,6 +124,7 @@ pub extern "C" fn strm_memory_at(
         len.new ≡ length (memory_in s.guests guest)) }
     ensures kept { result ≢ 0 → (out.new ≡ out.old) × (len.new ≡ len.old) }
     ensures same { result ≢ 0 → store.new.state ≡ store.old.state }
+    ensures limits { store.new.limits ≡ store.old.limits }
 {
     let Some(store) = store.get_mut() else {
         return NO_STORE;

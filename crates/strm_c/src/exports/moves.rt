@@ -2,22 +2,27 @@
 //!
 //! Source: Canonical ABI, `lift_stream` and `lower_stream`.
 
-ghost use Rattle.std.specs.Prelude.{◌≡◌, ◌≢◌, IfSome};
+ghost use Rattle.std.specs.Prelude.{◌≡◌, ◌≢◌};
 ghost use Rattle.strm_codes.specs.declared.codes.TransmitIndex.TheVariants as index;
 ghost use Rattle.strm_machine.specs.Reactions.{react};
 ghost use Rattle.strm_machine.specs.declared.steps.Step.TheVariants as steps;
-ghost use Rattle.strm_c.specs.Pairs.{pair_in};
+ghost use Rattle.strm_places.specs.Again.{reacts_at};
+ghost use Rattle.strm_guest_store.specs.Limits.{is_past, is_pair_past, is_move_past};
+ghost use Rattle.strm_guest_store.specs.declared.guest_limits.Gain.TheVariants.{Ends};
+ghost use Rattle.strm_c.specs.Limits.{WithinLimits, is_past_of};
+ghost use Rattle.strm_c.specs.Making.{AnswersMaking};
 ghost use Rattle.strm_c.specs.Payloads.{payload_at, type_at};
 ghost use Rattle.strm_c.specs.Statuses.{AnswersCall, AnswersOf, AnswersOfOr, no_memory};
 
 use crate::exports::pairs::{StrmPair, pair};
 use crate::handles::StoreHandle;
 use crate::payloads::{payload_at, type_at};
-use crate::statuses::{NO_STORE, Status, UNKNOWN_PAYLOAD, done, number};
+use crate::statuses::{GUEST_LIMIT, NO_STORE, Status, UNKNOWN_PAYLOAD, done, number};
 
 /// Makes a stream or future from one guest to another, which may be the same, and puts the handles of its
-/// ends and its number at `out`. Refused: UnknownGuest, IndexOverflow, HandleLimit, Full. OUT_OF_MEMORY,
-/// UNKNOWN_PAYLOAD.
+/// ends and its number at `out`, as strm_stream_new does. Refused: UnknownGuest, IndexOverflow, HandleLimit,
+/// Full. GUEST_LIMIT, OUT_OF_MEMORY, UNKNOWN_PAYLOAD.
+#[tactic(auto, using(crate::proofs::MakingLemmas::is_made))]
 #[unsafe(no_mangle)]
 pub extern "C" fn strm_new_between(
     store: &mut StoreHandle,
@@ -26,25 +31,29 @@ pub extern "C" fn strm_new_between(
     ty: u64,
     out: &mut StrmPair,
 ) -> Status
-    ensures answers { AnswersOfOr store.old.state (type_at ty)
-        (λ s ty. react s (steps.Between writer reader ty))
-        result 0 0 store.new.state }
-    ensures pair { IfSome store.old.state (λ s. IfSome (type_at ty) (λ ty. result ≡ 0 →
-        out.new ≡ pair_in (react s (steps.Between writer reader ty)).reply out.old)) }
+    ensures answers { WithinLimits store.old store.new
+        (is_past_of store.old (type_at ty) (λ s limits. is_pair_past s limits writer reader))
+        result 0 0
+        (AnswersMaking store.old.state (type_at ty)
+        (λ n s ty. reacts_at n s (steps.Between writer reader ty))
+        result out.old out.new store.new.state) }
     ensures kept { result ≢ 0 → out.new ≡ out.old }
 {
-    let Some(store) = store.get_mut() else {
+    let Some(store) = store.limited_mut() else {
         return NO_STORE;
     };
     let Some(ty) = type_at(ty) else {
         return UNKNOWN_PAYLOAD;
     };
-    pair(store.new_between(writer, reader, ty), out)
+    let Ok(answer) = store.new_between(writer, reader, ty) else {
+        return GUEST_LIMIT;
+    };
+    pair(answer, out)
 }
 
 /// Moves an end of a stream, read or write, to the guest `to`, which may be the same, and puts its handle there
 /// at `out`. Refused: UnknownGuest, UnknownHandle, WrongKind, WrongType, Busy, LiftDropped, LiftInSet,
-/// IndexOverflow. OUT_OF_MEMORY, where the two guests differ; UNKNOWN_PAYLOAD.
+/// IndexOverflow. GUEST_LIMIT, OUT_OF_MEMORY, where the two guests differ; UNKNOWN_PAYLOAD.
 #[unsafe(no_mangle)]
 pub extern "C" fn strm_stream_transfer(
     store: &mut StoreHandle,
@@ -54,23 +63,29 @@ pub extern "C" fn strm_stream_transfer(
     to: u32,
     out: &mut u32,
 ) -> Status
-    ensures answers { AnswersOfOr store.old.state (payload_at payload)
+    ensures answers { WithinLimits store.old store.new
+        (is_past_of store.old (payload_at payload) (λ s limits. is_move_past s limits guest to))
+        result out.old out.new
+        (AnswersOfOr store.old.state (payload_at payload)
         (λ s payload. react s (steps.Move guest (index.Stream payload) handle to))
-        result out.old out.new store.new.state }
+        result out.old out.new store.new.state) }
     ensures takes_no_memory { guest ≡ to → result ≢ no_memory }
 {
-    let Some(store) = store.get_mut() else {
+    let Some(store) = store.limited_mut() else {
         return NO_STORE;
     };
     let Some(payload) = payload_at(payload) else {
         return UNKNOWN_PAYLOAD;
     };
-    number(store.stream_transfer(guest, payload, handle, to), out)
+    let Ok(answer) = store.stream_transfer(guest, payload, handle, to) else {
+        return GUEST_LIMIT;
+    };
+    number(answer, out)
 }
 
 /// Moves an end of a future, read or write, to the guest `to`, which may be the same, and puts its handle there
 /// at `out`. Refused: UnknownGuest, UnknownHandle, WrongKind, WrongType, Busy, LiftDropped, LiftInSet,
-/// IndexOverflow. OUT_OF_MEMORY, where the two guests differ; UNKNOWN_PAYLOAD.
+/// IndexOverflow. GUEST_LIMIT, OUT_OF_MEMORY, where the two guests differ; UNKNOWN_PAYLOAD.
 #[unsafe(no_mangle)]
 pub extern "C" fn strm_future_transfer(
     store: &mut StoreHandle,
@@ -80,23 +95,29 @@ pub extern "C" fn strm_future_transfer(
     to: u32,
     out: &mut u32,
 ) -> Status
-    ensures answers { AnswersOfOr store.old.state (payload_at payload)
+    ensures answers { WithinLimits store.old store.new
+        (is_past_of store.old (payload_at payload) (λ s limits. is_move_past s limits guest to))
+        result out.old out.new
+        (AnswersOfOr store.old.state (payload_at payload)
         (λ s payload. react s (steps.Move guest (index.Future payload) handle to))
-        result out.old out.new store.new.state }
+        result out.old out.new store.new.state) }
     ensures takes_no_memory { guest ≡ to → result ≢ no_memory }
 {
-    let Some(store) = store.get_mut() else {
+    let Some(store) = store.limited_mut() else {
         return NO_STORE;
     };
     let Some(payload) = payload_at(payload) else {
         return UNKNOWN_PAYLOAD;
     };
-    number(store.future_transfer(guest, payload, handle, to), out)
+    let Ok(answer) = store.future_transfer(guest, payload, handle, to) else {
+        return GUEST_LIMIT;
+    };
+    number(answer, out)
 }
 
 /// Takes a read end out of a guest, and puts the number of its stream at `out`, by which strm_lower and
-/// strm_close name it. Refused: UnknownGuest, UnknownHandle, WrongKind, WrongType, WrongEnd, Busy,
-/// LiftDropped, LiftInSet. UNKNOWN_PAYLOAD.
+/// strm_close name it: while the end is loose no other stream gets that number. Refused: UnknownGuest,
+/// UnknownHandle, WrongKind, WrongType, WrongEnd, Busy, LiftDropped, LiftInSet. UNKNOWN_PAYLOAD.
 #[unsafe(no_mangle)]
 pub extern "C" fn strm_lift(
     store: &mut StoreHandle,
@@ -108,6 +129,7 @@ pub extern "C" fn strm_lift(
     ensures answers { AnswersOf store.old.state (type_at ty)
         (λ s ty. react s (steps.Lift guest ty handle))
         result out.old out.new store.new.state }
+    ensures limits { store.new.limits ≡ store.old.limits }
 {
     let Some(store) = store.get_mut() else {
         return NO_STORE;
@@ -119,7 +141,7 @@ pub extern "C" fn strm_lift(
 }
 
 /// Gives a guest the loose read end of a stream, and puts its handle at `out`. Refused: UnknownGuest,
-/// UnknownReader, WrongKind, WrongType, IndexOverflow, HandleLimit. OUT_OF_MEMORY, UNKNOWN_PAYLOAD.
+/// UnknownReader, WrongKind, WrongType, IndexOverflow, HandleLimit. GUEST_LIMIT, OUT_OF_MEMORY, UNKNOWN_PAYLOAD.
 #[unsafe(no_mangle)]
 pub extern "C" fn strm_lower(
     store: &mut StoreHandle,
@@ -128,17 +150,23 @@ pub extern "C" fn strm_lower(
     ty: u64,
     out: &mut u32,
 ) -> Status
-    ensures answers { AnswersOfOr store.old.state (type_at ty)
+    ensures answers { WithinLimits store.old store.new
+        (is_past_of store.old (type_at ty) (λ s limits. is_past s limits guest (Ends 1)))
+        result out.old out.new
+        (AnswersOfOr store.old.state (type_at ty)
         (λ s ty. react s (steps.Lower reader guest ty))
-        result out.old out.new store.new.state }
+        result out.old out.new store.new.state) }
 {
-    let Some(store) = store.get_mut() else {
+    let Some(store) = store.limited_mut() else {
         return NO_STORE;
     };
     let Some(ty) = type_at(ty) else {
         return UNKNOWN_PAYLOAD;
     };
-    number(store.lower(reader, guest, ty), out)
+    let Ok(answer) = store.lower(reader, guest, ty) else {
+        return GUEST_LIMIT;
+    };
+    number(answer, out)
 }
 
 /// Drops the loose read end of a stream. Refused: UnknownReader.
@@ -146,6 +174,7 @@ pub extern "C" fn strm_lower(
 pub extern "C" fn strm_close(store: &mut StoreHandle, reader: u32) -> Status
     ensures answers { AnswersCall store.old.state (λ s. react s (steps.Close reader))
         result 0 0 store.new.state }
+    ensures limits { store.new.limits ≡ store.old.limits }
 {
     let Some(store) = store.get_mut() else {
         return NO_STORE;

@@ -9,7 +9,7 @@ use strm_machine::replies::Pair;
 use strm_transmit::errors::StoreError;
 
 /// The handles of a new stream's or future's two ends, each in the table of the guest that has it, and
-/// the number of the stream or future: they are numbered from 0, and no number is given again.
+/// the number of the stream or future, which no other has until both its ends are gone.
 #[repr(C)]
 #[derive(Drop)]
 pub struct StrmPair {

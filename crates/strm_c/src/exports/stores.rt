@@ -2,7 +2,7 @@
 //!
 //! Source: wasmtime, `ConcurrentState`.
 
-ghost use Rattle.std.specs.Prelude.{◌≡◌, ◌≢◌, ◌<◌, ◌↔◌, ◌≤◌, false, Some, None, IfSome, IsTrue, length};
+ghost use Rattle.std.specs.Prelude.{◌≡◌, ◌≢◌, ◌*◌, ◌<◌, ◌↔◌, ◌≤◌, false, [], Some, None, IfSome, IsTrue, length};
 ghost use Rattle.strm_codes.specs.Types.{kind_of, payload_of};
 ghost use Rattle.strm_machine.specs.State.{empty, is_live, stream_at};
 ghost use Rattle.strm_machine.specs.Soundness.{type_of};
@@ -15,7 +15,7 @@ use crate::payloads::type_word;
 use crate::statuses::{NO_STORE, OUT_OF_MEMORY, Status, UNKNOWN_STREAM};
 use std::alloc::Global;
 use strm_codes::codes::TransmitIndex;
-use strm_guest_store::guest_store::GuestStore;
+use strm_guest_store::limited_store::LimitedStore;
 use strm_machine::limits::Limits;
 
 /// Makes a store without guests, in a handle of none ({NULL}). It keeps `handles` live handles of all
@@ -32,11 +32,12 @@ pub extern "C" fn strm_store_new(
     requires { store.old.state ≡ None }
     ensures made { result ≡ 0 → store.new.state
         ≡ Some (empty tag (record { handles = handles; places = places })) }
+    ensures limits { result ≡ 0 → store.new.limits ≡ [] }
     ensures not_made { result ≢ 0 → (result ≡ no_memory) × (store.new.state ≡ None) }
 {
     match Box::new(
         alloc,
-        GuestStore::new(alloc, tag, Limits { handles, places }),
+        LimitedStore::new(alloc, tag, Limits { handles, places }),
     ) {
         Ok(made) => {
             *store = StoreHandle::of(made);
@@ -61,6 +62,7 @@ pub extern "C" fn strm_tag(store: &mut StoreHandle) -> u64
     ensures tag { IfSome store.old.state (λ s. result ≡ s.tag) }
     ensures none { store.old.state ≡ None → result ≡ 0 }
     ensures same { store.new.state ≡ store.old.state }
+    ensures limits { store.new.limits ≡ store.old.limits }
 {
     let Some(store) = store.get_mut() else {
         return 0;
@@ -75,6 +77,7 @@ pub extern "C" fn strm_trapped(store: &mut StoreHandle) -> bool
     ensures trapped { IfSome store.old.state (λ s. result ≡ s.trapped) }
     ensures none { store.old.state ≡ None → result ≡ false }
     ensures same { store.new.state ≡ store.old.state }
+    ensures limits { store.new.limits ≡ store.old.limits }
 {
     let Some(store) = store.get_mut() else {
         return false;
@@ -82,12 +85,16 @@ pub extern "C" fn strm_trapped(store: &mut StoreHandle) -> bool
     store.trapped()
 }
 
-/// How many streams and futures were made so far; 0 of {NULL}.
+/// The numbers that streams and futures got so far are below this; 0 of {NULL}. One is given again once both ends
+/// of its stream are gone, so it never passes a third of `places`: a store keeps room for no more streams than
+/// that, and no making is refused since streams were made and dropped before.
 #[unsafe(no_mangle)]
 pub extern "C" fn strm_streams(store: &mut StoreHandle) -> u32
     ensures count { IfSome store.old.state (λ s. result ≡ length s.streams) }
+    ensures few { IfSome store.old.state (λ s. 3 * result ≤ s.limits.places) }
     ensures none { store.old.state ≡ None → result ≡ 0 }
     ensures same { store.new.state ≡ store.old.state }
+    ensures limits { store.new.limits ≡ store.old.limits }
 {
     let Some(store) = store.get_mut() else {
         return 0;
@@ -103,7 +110,8 @@ pub struct StrmCount {
     pub high: u64,
 }
 
-/// Puts at `out` how many items were received on a stream so far. UNKNOWN_STREAM where it was never made.
+/// Puts at `out` how many items were received so far on the stream that got this number last. UNKNOWN_STREAM
+/// where none got it.
 #[unsafe(no_mangle)]
 pub extern "C" fn strm_moved(store: &mut StoreHandle, stream: u32, out: &mut StrmCount) -> Status
     ensures made { IfSome store.old.state (λ s. result ≡ 0 ↔ (stream < length s.streams)) }
@@ -114,6 +122,7 @@ pub extern "C" fn strm_moved(store: &mut StoreHandle, stream: u32, out: &mut Str
         count_in_words out.new ≡ (stream_at s stream).received) }
     ensures kept { result ≢ 0 → out.new ≡ out.old }
     ensures same { store.new.state ≡ store.old.state }
+    ensures limits { store.new.limits ≡ store.old.limits }
 {
     let Some(store) = store.get_mut() else {
         return NO_STORE;
@@ -121,7 +130,8 @@ pub extern "C" fn strm_moved(store: &mut StoreHandle, stream: u32, out: &mut Str
     count(store.moved(stream), out)
 }
 
-/// Puts at `out` the type of a stream of which an end is there. UNKNOWN_STREAM of any other.
+/// Puts at `out` the type of the stream that has this number, while an end of it is there. UNKNOWN_STREAM of
+/// any other.
 #[unsafe(no_mangle)]
 pub extern "C" fn strm_transmit_index(store: &mut StoreHandle, stream: u32, out: &mut u64) -> Status
     ensures live { IfSome store.old.state
@@ -132,6 +142,7 @@ pub extern "C" fn strm_transmit_index(store: &mut StoreHandle, stream: u32, out:
         out.new ≡ type_word (type_of (stream_at s stream))) }
     ensures kept { result ≢ 0 → out.new ≡ out.old }
     ensures same { store.new.state ≡ store.old.state }
+    ensures limits { store.new.limits ≡ store.old.limits }
 {
     let Some(store) = store.get_mut() else {
         return NO_STORE;

@@ -1,23 +1,24 @@
 use Rattle.std.proofs.Common.{◌≡◌, ◌+◌, ◌∷◌, [], ℕ, List, length, map, replicate, refl, ap, arith, ◌∙◌}
 use Rattle.strm_machine.specs.Reactions.{reaction, performs}
+use Rattle.strm_laws.specs.Starts.{run_start}
 use Rattle.strm_machine.specs.Refusals.{refusal}
 use Rattle.strm_machine.specs.Making.{with_stream}
 use Rattle.strm_machine.specs.Moments.{decoded}
 use Rattle.strm_machine.specs.State.{State}
 use Rattle.strm_machine.proofs.ArrivalLemmas.{IsBytes-zeros}
 use Rattle.strm_laws.specs.Conservation.{state_after_steps, moments, got}
-use Rattle.strm_carry_laws.specs.OneStream.{new_store, piece_steps, script_of, CanCarry}
+use Rattle.strm_carry_laws.specs.OneStream.{piece_steps, script_of, CanCarry}
 use Rattle.strm_carry_laws.specs.Serving.{rests, Brings}
 use Rattle.strm_carry_laws.proofs.carries.Goals as goal
 
 zeros : List ℕ
 zeros = replicate 64 0
 
-begun : (w r : ℕ) (bytes : List ℕ) → got 0 (moments new_store (script_of w r bytes)) ≡ got 0 (moments (rests (replicate 64 0) (replicate 64 0) 0) (piece_steps (length bytes) w r bytes))
+begun : (w r : ℕ) (bytes : List ℕ) → got 0 (moments run_start (script_of w r bytes)) ≡ got 0 (moments (rests (replicate 64 0) (replicate 64 0) 0) (piece_steps (length bytes) w r bytes))
 unfolding reaction performs refusal with_stream decoded
 begun w r bytes = refl
 
-ended : (w r : ℕ) (bytes : List ℕ) → state_after_steps new_store (script_of w r bytes) ≡ state_after_steps (rests (replicate 64 0) (replicate 64 0) 0) (piece_steps (length bytes) w r bytes)
+ended : (w r : ℕ) (bytes : List ℕ) → state_after_steps run_start (script_of w r bytes) ≡ state_after_steps (rests (replicate 64 0) (replicate 64 0) 0) (piece_steps (length bytes) w r bytes)
 unfolding reaction performs refusal with_stream
 ended w r bytes = refl
 

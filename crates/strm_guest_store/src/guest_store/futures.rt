@@ -1,6 +1,6 @@
 //! Futures, as streams of one value.
 //!
-//! Meaning: `Reactions.antt` of `strm_machine`. Source: Canonical ABI, `canon future.new` and the others.
+//! Meaning: `Reactions.antt` of `strm_machine`. Source: Canonical ABI, `canon future.write` and the others.
 
 ghost use Rattle.std.specs.Prelude.{◌≢◌, Err};
 ghost use Rattle.strm_codes.specs.declared.codes.TransmitIndex.TheVariants as index;
@@ -14,22 +14,11 @@ use crate::guest_store::{GuestStore, no_hosts};
 use strm_codes::codes::{ReturnCode, TransmitIndex};
 use strm_codes::payloads::Payload;
 use strm_machine::acts::NamedEnd;
-use strm_machine::replies::Pair;
 use strm_machine::streams::Side;
 use strm_transmit::errors::StoreError;
 
 #[tactic(auto, using(crate::proofs::AmongLemmas::plain_among, crate::proofs::BaseLemmas::plain_stays))]
 impl GuestStore {
-    /// A new future whose ends one guest gets: their handles go into its table, the read end's first.
-    /// `canon future.new`. Refused as `stream_new` is.
-    pub fn future_new(&mut self, guest: u32, payload: Payload) -> Result<Pair, StoreError>
-        ensures meets { Meets self.old self.new (as_reply replies.Pair result)
-            (react self.old (steps.New guest (index.Future payload))) }
-        ensures stays { BasesStay self.old.guests self.new.guests }
-    {
-        self.store.future_new(guest, payload)
-    }
-
     /// Writes the value that lies at an address of the guest's memory. `canon future.write`.
     pub fn future_write(
         &mut self,

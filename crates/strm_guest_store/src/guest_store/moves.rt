@@ -14,26 +14,10 @@ ghost use Rattle.strm_transmit.specs.Meets.{Meets, as_reply};
 use crate::guest_store::{GuestStore, no_hosts};
 use strm_codes::codes::TransmitIndex;
 use strm_codes::payloads::Payload;
-use strm_machine::replies::Pair;
 use strm_transmit::errors::StoreError;
 
 #[tactic(auto, using(crate::proofs::AmongLemmas::plain_among, crate::proofs::BaseLemmas::plain_stays))]
 impl GuestStore {
-    /// A stream or future between two guests, which may be one: the read end's handle goes into the
-    /// reader's table first, and then the write end's into the writer's. Refused as `stream_new` is.
-    pub fn new_between(
-        &mut self,
-        writer: u32,
-        reader: u32,
-        ty: TransmitIndex,
-    ) -> Result<Pair, StoreError>
-        ensures meets { Meets self.old self.new (as_reply replies.Pair result)
-            (react self.old (steps.Between writer reader ty)) }
-        ensures stays { BasesStay self.old.guests self.new.guests }
-    {
-        self.store.new_between(writer, reader, ty)
-    }
-
     /// An end of a stream, read or write, from one guest to another, which may be the same. Answers the
     /// handle there.
     pub fn stream_transfer(

@@ -1,6 +1,6 @@
-//! Streams: made, written, read, cancelled and dropped, and what an end is told.
+//! Streams: written, read, cancelled and dropped, and what an end is told.
 //!
-//! Meaning: `Reactions.antt` of `strm_machine`. Source: Canonical ABI, `canon stream.new` and the others.
+//! Meaning: `Reactions.antt` of `strm_machine`. Source: Canonical ABI, `canon stream.write` and the others.
 
 ghost use Rattle.std.specs.Prelude.{◌≢◌, Err};
 ghost use Rattle.strm_codes.specs.declared.codes.TransmitIndex.TheVariants as index;
@@ -14,23 +14,11 @@ use crate::guest_store::{GuestStore, no_hosts};
 use strm_codes::codes::{ReturnCode, TransmitIndex};
 use strm_codes::payloads::Payload;
 use strm_machine::acts::NamedEnd;
-use strm_machine::replies::Pair;
 use strm_machine::streams::Side;
 use strm_transmit::errors::StoreError;
 
 #[tactic(auto, using(crate::proofs::AmongLemmas::plain_among, crate::proofs::BaseLemmas::plain_stays))]
 impl GuestStore {
-    /// A new stream whose ends one guest gets: their handles go into its table, the read end's first.
-    /// `canon stream.new`. Refused, in this order, are an unknown guest, a table without a number left,
-    /// handles past their limit, and a stream past the limit on places.
-    pub fn stream_new(&mut self, guest: u32, payload: Payload) -> Result<Pair, StoreError>
-        ensures meets { Meets self.old self.new (as_reply replies.Pair result)
-            (react self.old (steps.New guest (index.Stream payload))) }
-        ensures stays { BasesStay self.old.guests self.new.guests }
-    {
-        self.store.stream_new(guest, payload)
-    }
-
     /// Writes items from an address of the guest's memory on. `canon stream.write`. Items of a write that
     /// waits are read from the memory when they move.
     pub fn stream_write(

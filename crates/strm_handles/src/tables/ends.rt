@@ -26,8 +26,7 @@ impl HandleTable {
         ensures { Inserts self.old self.new counter.old counter.new
             (Entry.Stream (read_end ty rep)) result }
     {
-        self.slots
-            .insert(counter, Entry::Stream(TransmitEnd::read(ty, rep)))
+        self.insert(counter, Entry::Stream(TransmitEnd::read(ty, rep)))
     }
 
     /// Adds the write end of a stream of this payload, idle and not done.
@@ -40,8 +39,7 @@ impl HandleTable {
         ensures { Inserts self.old self.new counter.old counter.new
             (Entry.Stream (write_end ty rep)) result }
     {
-        self.slots
-            .insert(counter, Entry::Stream(TransmitEnd::write(ty, rep)))
+        self.insert(counter, Entry::Stream(TransmitEnd::write(ty, rep)))
     }
 
     /// Adds the read end of a future of this payload, idle and not done.
@@ -54,8 +52,7 @@ impl HandleTable {
         ensures { Inserts self.old self.new counter.old counter.new
             (Entry.Future (read_end ty rep)) result }
     {
-        self.slots
-            .insert(counter, Entry::Future(TransmitEnd::read(ty, rep)))
+        self.insert(counter, Entry::Future(TransmitEnd::read(ty, rep)))
     }
 
     /// Adds the write end of a future of this payload, idle and not done.
@@ -68,8 +65,7 @@ impl HandleTable {
         ensures { Inserts self.old self.new counter.old counter.new
             (Entry.Future (write_end ty rep)) result }
     {
-        self.slots
-            .insert(counter, Entry::Future(TransmitEnd::write(ty, rep)))
+        self.insert(counter, Entry::Future(TransmitEnd::write(ty, rep)))
     }
 
     #[inline(always)]
@@ -156,7 +152,7 @@ impl HandleTable {
             state,
             ..*self.stream(&ty, idx)?
         };
-        self.slots.change(idx, Entry::Stream(end));
+        self.change(idx, Entry::Stream(end));
         Ok(())
     }
 
@@ -179,7 +175,7 @@ impl HandleTable {
             state,
             ..*self.future(&ty, idx)?
         };
-        self.slots.change(idx, Entry::Future(end));
+        self.change(idx, Entry::Future(end));
         Ok(())
     }
 
@@ -196,7 +192,7 @@ impl HandleTable {
     {
         let end = self.stream(&ty, idx)?;
         let (rep, done) = (end.rep, end.state.readable()?);
-        self.slots.remove(counter, idx);
+        self.remove(counter, idx);
         Ok((rep, done))
     }
 
@@ -214,7 +210,7 @@ impl HandleTable {
         let end = self.stream(&ty, idx)?;
         let rep = end.rep;
         end.state.writable()?;
-        self.slots.remove(counter, idx);
+        self.remove(counter, idx);
         Ok(rep)
     }
 
@@ -231,7 +227,7 @@ impl HandleTable {
     {
         let end = self.future(&ty, idx)?;
         let (rep, done) = (end.rep, end.state.readable()?);
-        self.slots.remove(counter, idx);
+        self.remove(counter, idx);
         Ok((rep, done))
     }
 
@@ -248,7 +244,7 @@ impl HandleTable {
     {
         let end = self.future(&ty, idx)?;
         let (rep, done) = (end.rep, end.state.writable()?);
-        self.slots.remove(counter, idx);
+        self.remove(counter, idx);
         Ok((rep, done))
     }
 }

@@ -22,7 +22,7 @@ impl HandleTable {
         ensures { Inserts self.old self.new counter.old counter.new
             (Entry.ErrorContext rep) result }
     {
-        self.slots.insert(counter, Entry::ErrorContext { rep })
+        self.insert(counter, Entry::ErrorContext { rep })
     }
 
     /// The number of an error context.
@@ -48,7 +48,7 @@ impl HandleTable {
         ensures removes { Removes self.old self.new counter.old counter.new idx result }
     {
         let rep = self.error_context_rep(idx)?;
-        self.slots.remove(counter, idx);
+        self.remove(counter, idx);
         Ok(rep)
     }
 
@@ -61,7 +61,7 @@ impl HandleTable {
         ensures { Inserts self.old self.new counter.old counter.new
             (Entry.Subtask rep false) result }
     {
-        self.slots.insert(
+        self.insert(
             counter,
             Entry::Subtask {
                 rep,
@@ -79,8 +79,7 @@ impl HandleTable {
         ensures { Inserts self.old self.new counter.old counter.new
             (Entry.Subtask rep true) result }
     {
-        self.slots
-            .insert(counter, Entry::Subtask { rep, is_host: true })
+        self.insert(counter, Entry::Subtask { rep, is_host: true })
     }
 
     /// The number of a subtask, and whether it is a host task.
@@ -106,7 +105,7 @@ impl HandleTable {
         ensures removes { Removes self.old self.new counter.old counter.new idx result }
     {
         let task = self.subtask_rep(idx)?;
-        self.slots.remove(counter, idx);
+        self.remove(counter, idx);
         Ok(task)
     }
 
@@ -119,7 +118,7 @@ impl HandleTable {
         ensures { Inserts self.old self.new counter.old counter.new
             (Entry.WaitableSet rep) result }
     {
-        self.slots.insert(counter, Entry::WaitableSet { rep })
+        self.insert(counter, Entry::WaitableSet { rep })
     }
 
     /// The number of a waitable set.
@@ -145,7 +144,7 @@ impl HandleTable {
         ensures removes { Removes self.old self.new counter.old counter.new idx result }
     {
         let rep = self.waitable_set_rep(idx)?;
-        self.slots.remove(counter, idx);
+        self.remove(counter, idx);
         Ok(rep)
     }
 

@@ -24,7 +24,7 @@ impl HandleTable {
         ensures { Inserts self.old self.new counter.old counter.new
             (Entry.ResourceOwn resource 0) result }
     {
-        self.slots.insert(
+        self.insert(
             counter,
             Entry::ResourceOwn {
                 resource,
@@ -43,8 +43,7 @@ impl HandleTable {
         ensures { Inserts self.old self.new counter.old counter.new
             (Entry.ResourceBorrow resource scope) result }
     {
-        self.slots
-            .insert(counter, Entry::ResourceBorrow { resource, scope })
+        self.insert(counter, Entry::ResourceBorrow { resource, scope })
     }
 
     /// The number of a resource, own or borrowed.
@@ -91,7 +90,7 @@ impl HandleTable {
                     return Err(HandleError::HandleLimit);
                 }
                 let lend_count = lend_count + 1;
-                self.slots.change(
+                self.change(
                     idx.index,
                     Entry::ResourceOwn {
                         resource,
@@ -133,7 +132,7 @@ impl HandleTable {
                 },
             ) => {
                 let (resource, lend_count) = (*resource, *lend_count - 1);
-                self.slots.change(
+                self.change(
                     idx.index,
                     Entry::ResourceOwn {
                         resource,
@@ -159,7 +158,7 @@ impl HandleTable {
         ensures removes { Removes self.old self.new counter.old counter.new idx.index result }
     {
         let resource = self.removable_resource(idx)?;
-        self.slots.remove(counter, idx.index);
+        self.remove(counter, idx.index);
         Ok(resource)
     }
 

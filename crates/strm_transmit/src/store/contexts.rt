@@ -4,10 +4,10 @@
 //! `Reactions.antt`. Source: Canonical ABI, `canon error-context.{new,debug-message,drop}`; wasmtime,
 //! `error_context_transfer` and `lower_error_context`. Ours: a message is kept and told whole.
 
-ghost use Rattle.std.specs.Prelude.{◌≡◌, ◌≢◌, ◌<◌, ◌≤◌, ◌∷◌, [], false, length, Err, None, IfErr, IfOk};
+ghost use Rattle.std.specs.Prelude.{◌≡◌, ◌≢◌, ◌<◌, ◌≤◌, ◌∷◌, ◌++◌, [], false, length, Err, None, IfErr, IfOk};
 ghost use Rattle.strm_codes.specs.declared.refusals.Refusal.TheVariants as refusals;
 ghost use Rattle.strm_error_contexts.specs.Contexts.{message_at};
-ghost use Rattle.strm_machine.specs.Tests.{are_bytes_out_of_bounds};
+ghost use Rattle.strm_machine.specs.Tests.{are_bytes_out_of_bounds, are_places_full};
 ghost use Rattle.strm_machine.specs.ErrorContexts.{context_named, context_number, is_message_too_long, is_bad_text, bytes_of_message, message_limit, without_context_handle};
 ghost use Rattle.strm_machine.specs.Refusals.{where_, refusal, first_of, slot_reasons, context_reasons, handle_more_reasons, lower_context_reasons};
 ghost use Rattle.strm_machine.specs.Reactions.{goes, texts, shares, performs, react, lowers_context};
@@ -83,6 +83,21 @@ impl Store {
         None
     }
 
+    // Why a guest may not have a handle more of what takes a place.
+    pub(crate) fn placed_refusal(&self, guest: u32) -> Option<Refusal>
+        requires { guest < length self.now.guests }
+        ensures { result ≡ first_of (handle_more_reasons self.now guest
+            ++ where_ (are_places_full self.now 1) refusals.Full ∷ []) }
+    {
+        if let Some(refusal) = self.handle_more_refusal(guest) {
+            return Some(refusal);
+        }
+        if self.are_places_full(1) {
+            return Some(Refusal::Full);
+        }
+        None
+    }
+
     // Whether so many bytes pass the end of a guest's memory.
     pub(crate) fn is_outside(&self, guest: u32, address: u32, count: usize) -> bool
         requires { guest < length self.now.guests }
@@ -133,13 +148,10 @@ impl Store {
         if let Some(refusal) = self.message_refusal(guest, address, len) {
             return Err(refusal);
         }
-        if let Some(refusal) = self.handle_more_refusal(guest) {
-            return Err(refusal);
+        match self.placed_refusal(guest) {
+            Some(refusal) => Err(refusal),
+            None => Ok(()),
         }
-        if self.are_places_full(1) {
-            return Err(Refusal::Full);
-        }
-        Ok(())
     }
 
     // An error context more. After running out of memory nothing has changed.

@@ -22,6 +22,7 @@ ghost use Rattle.strm_transmit.specs.Turning.{across};
 
 use crate::errors::StoreError;
 use crate::host_ends::HostEnds;
+use crate::places::{append, make_room};
 use crate::store::Store;
 use crate::store::moves::same_kind;
 use std::alloc::Global;
@@ -193,11 +194,10 @@ impl Store {
         ensures err { OnErr result (self.new ≡ self.old) }
     {
         let stream = self.streams.len() as u32;
-        self.streams.reserve(1)?;
+        make_room(&mut self.streams, &mut self.places)?;
         let hosted = Channel::new(kind, payload, Owner::Host { number }, Owner::Loose);
         make_place(self.alloc, &mut self.kept, number as usize, &hosted)?;
-        self.streams.push_reserved(hosted);
-        self.live_streams += 1;
+        append(&mut self.streams, &mut self.places, hosted);
         self.producers[number as usize] = Producer {
             duty: Duty::Serves { stream },
             over: false,
@@ -318,7 +318,7 @@ impl Store {
     {
         self.served();
         if let Owner::Host { number } = self.stream(stream).owner(Side::Writing) {
-            self.own(stream, Side::Writing, Owner::Gone);
+            self.lose(stream, Side::Writing);
             self.retire(stream, number);
             hosts.close_writer(number as usize);
         }
@@ -338,7 +338,7 @@ impl Store {
     {
         self.served();
         if let Owner::Host { number } = self.stream(stream).owner(Side::Reading) {
-            self.own(stream, Side::Reading, Owner::Gone);
+            self.lose(stream, Side::Reading);
             self.retire_reader(stream, number);
             hosts.close_reader(number as usize);
         }

@@ -7,25 +7,32 @@ ghost use Rattle.std.specs.Prelude.{◌≡◌, ◌<◌, ◌+◌, ◌*◌, nat_lt
 ghost use Rattle.std.specs.Vec.{vec_capacity};
 ghost use Rattle.strm_codes.specs.declared.codes.TransmitIndex.{TransmitIndex};
 ghost use Rattle.strm_codes.specs.declared.codes.TransmitIndex.TheVariants as index;
+ghost use Rattle.strm_codes.specs.Types.{kind_of, payload_of};
 ghost use Rattle.strm_handles.specs.Handles.{next_index};
 ghost use Rattle.strm_machine.specs.State.{guest_in};
-ghost use Rattle.strm_machine.specs.Making.{writer_index};
+ghost use Rattle.strm_machine.specs.Making.{writer_index, made_stream};
 ghost use Rattle.strm_machine.specs.Tests.{is_no_handle, are_handles_full, are_places_full, are_streams_full};
 ghost use Rattle.strm_machine.specs.Refusals.{refusal};
+ghost use Rattle.strm_machine.specs.Soundness.{IsSound};
 ghost use Rattle.strm_machine.specs.Reactions.{react, performs};
 ghost use Rattle.strm_machine.specs.declared.acts.Act.TheVariants.{Make};
 ghost use Rattle.strm_machine.specs.declared.acts.Making.TheVariants.{Between};
 ghost use Rattle.strm_machine.specs.declared.replies.Reply.TheVariants as replies;
 ghost use Rattle.strm_machine.specs.declared.steps.Step.TheVariants as steps;
+ghost use Rattle.strm_host_machine.specs.Does.{Fits};
+ghost use Rattle.strm_places.specs.Again.{performs_at, reacts_at};
+ghost use Rattle.strm_transmit.specs.Again.{MeetsAt, GrowsFull};
+ghost use Rattle.strm_transmit.specs.Guests.{nobody};
 ghost use Rattle.strm_transmit.specs.Meets.{Meets, as_reply, or_found};
 ghost use Rattle.strm_transmit.specs.Hosted.{StillFits};
 
 use crate::errors::StoreError;
+use crate::places::{append, make_room, reuse};
 use crate::store::Store;
 use crate::telling::retell;
 use strm_channels::channels::Channel;
 use strm_channels::ends::insert_ends;
-use strm_codes::codes::TransmitIndex;
+use strm_codes::codes::{TransmitIndex, TransmitKind};
 use strm_codes::payloads::Payload;
 use strm_codes::refusals::Refusal;
 use strm_handles::entries::MAX_HANDLE;
@@ -42,6 +49,34 @@ fn pass_limit(limit: u32, streams: u32, sets: u32, contexts: usize, needed: u32)
 {
     let taken = 3 * u128::from(streams) + u128::from(sets) + contexts as u128;
     u128::from(limit) < taken + u128::from(needed)
+}
+
+// The handles of a new stream's ends, the read end's first, and its number.
+fn pair_of(numbers: (u32, u32), stream: u32) -> Pair
+    ensures { result ≡ record { read = numbers.0; write = numbers.1; stream = stream } }
+{
+    let (read, write) = numbers;
+    Pair {
+        read,
+        write,
+        stream,
+    }
+}
+
+// A stream whose ends two guests have under these handles.
+fn stream_of(kind: TransmitKind, payload: Payload, writer: u32, reader: u32, pair: &Pair) -> Channel
+    ensures { (ty : TransmitIndex) → kind ≡ kind_of ty → payload ≡ payload_of ty
+        → result ≡ made_stream ty writer pair.now.write reader pair.now.read }
+{
+    let write = Owner::Held {
+        guest: writer,
+        handle: pair.write,
+    };
+    let read = Owner::Held {
+        guest: reader,
+        handle: pair.read,
+    };
+    Channel::new(kind, payload, write, read)
 }
 
 impl Store {
@@ -84,7 +119,7 @@ impl Store {
     {
         pass_limit(
             self.limits.places,
-            self.live_streams,
+            self.places.live(),
             self.live_sets,
             self.contexts.len(),
             needed,
@@ -128,7 +163,7 @@ impl Store {
     {
         let stream = self.streams.len() as u32;
         let (kind, payload) = (ty.kind(), ty.payload());
-        self.streams.reserve(1)?;
+        make_room(&mut self.streams, &mut self.places)?;
         let (guests, counter) = (&mut self.guests, &mut self.counter);
         let numbers = insert_ends(
             guests,
@@ -138,32 +173,51 @@ impl Store {
             ty,
             stream,
         )?;
-        let (read, write) = numbers;
-        let joined = Channel::new(
-            kind,
-            payload,
-            Owner::Held {
-                guest: writer,
-                handle: write,
-            },
-            Owner::Held {
-                guest: reader,
-                handle: read,
-            },
-        );
+        let pair = pair_of(numbers, stream);
+        let joined = stream_of(kind, payload, writer, reader, &pair);
         retell(&mut self.ready, &self.guests, &joined);
-        self.streams.push_reserved(joined);
-        self.live_streams += 1;
-        Ok(Pair {
-            read,
-            write,
+        append(&mut self.streams, &mut self.places, joined);
+        Ok(pair)
+    }
+
+    // A stream in the free place that was freed last, or behind the last where none is free. After running
+    // out of memory nothing has changed.
+    fn make_again(
+        &mut self,
+        writer: u32,
+        reader: u32,
+        ty: TransmitIndex,
+    ) -> Result<Pair, StoreError>
+        requires may { refusal self.old (Make (Between writer reader ty)) ≡ None }
+        requires unserved { Fits self.old nobody }
+        ensures meets { MeetsAt self.old self.new (as_reply replies.Pair result)
+            (λ n. performs_at n self.old (Make (Between writer reader ty))) }
+        ensures grows { GrowsFull self.old.streams self.new.streams }
+    {
+        let Some(stream) = self.places.next() else {
+            return self.make(writer, reader, ty);
+        };
+        let (kind, payload) = (ty.kind(), ty.payload());
+        let (guests, counter) = (&mut self.guests, &mut self.counter);
+        let numbers = insert_ends(
+            guests,
+            counter,
+            writer as usize,
+            reader as usize,
+            ty,
             stream,
-        })
+        )?;
+        let pair = pair_of(numbers, stream);
+        let joined = stream_of(kind, payload, writer, reader, &pair);
+        retell(&mut self.ready, &self.guests, &joined);
+        reuse(&mut self.streams, &mut self.places, stream, joined);
+        Ok(pair)
     }
 
     /// A stream or future between two guests, which may be one: the read end's handle goes into the
-    /// reader's table first, and then the write end's into the writer's. Refused: UnknownGuest
-    /// (either), IndexOverflow, HandleLimit, Full. OutOfMemory.
+    /// reader's table first, and then the write end's into the writer's. Its number is behind the last, and
+    /// never one that was given. Refused: UnknownGuest (either), IndexOverflow, HandleLimit, Full.
+    /// OutOfMemory.
     pub fn new_between(
         &mut self,
         writer: u32,
@@ -176,6 +230,28 @@ impl Store {
     {
         self.admit(self.pair_fits(writer, reader))?;
         self.make(writer, reader, ty)
+    }
+
+    /// The same for a store that needs no host end; but the number may be that of a stream both of whose
+    /// ends are gone, and is a new one only where there is none. Refused: UnknownGuest (either),
+    /// IndexOverflow, HandleLimit, Full. OutOfMemory. wasmtime, `ResourceTable::push`.
+    pub fn new_between_again(
+        &mut self,
+        writer: u32,
+        reader: u32,
+        ty: TransmitIndex,
+    ) -> Result<Pair, StoreError>
+        requires unserved { Fits self.old nobody }
+        ensures meets { MeetsAt self.old self.new (as_reply replies.Pair result)
+            (λ n. reacts_at n self.old (steps.Between writer reader ty)) }
+        ensures grows { GrowsFull self.old.streams self.new.streams }
+        ensures sound { IsSound self.new }
+        ensures fits { StillFits self.old self.new }
+    {
+        self.admit(self.pair_fits(writer, reader))?;
+        let made = self.make_again(writer, reader, ty);
+        self.sound();
+        made
     }
 
     /// A stream whose ends one guest gets: their handles go into its table, the read end's first.

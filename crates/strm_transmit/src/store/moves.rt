@@ -18,6 +18,7 @@ ghost use Rattle.strm_machine.specs.declared.acts.EndAct.TheVariants.{Lift};
 ghost use Rattle.strm_machine.specs.declared.acts.LooseAct.TheVariants.{Lower, Close};
 ghost use Rattle.strm_machine.specs.declared.replies.Reply.TheVariants as replies;
 ghost use Rattle.strm_machine.specs.declared.steps.Step.TheVariants as steps;
+ghost use Rattle.strm_machine.specs.declared.streams.Owner.TheVariants.{Gone};
 ghost use Rattle.strm_machine.proofs.RefusalLemmas.{LeaveFits};
 ghost use Rattle.strm_host_machine.specs.Does.{Fits};
 ghost use Rattle.strm_transmit.specs.Meets.{Meets, as_reply, or_found};
@@ -25,10 +26,10 @@ ghost use Rattle.strm_transmit.specs.Hosted.{StillFits, MeetsHosted};
 
 use crate::errors::StoreError;
 use crate::host_ends::HostEnds;
+use crate::places::set_owner;
 use crate::store::Store;
 use crate::telling::{home_of, leave, retell};
 use strm_channels::ends::{give_end, move_end, remove_end};
-use strm_channels::owners::set_owner;
 use strm_codes::codes::{TransmitIndex, TransmitKind};
 use strm_codes::payloads::Payload;
 use strm_codes::refusals::Refusal;
@@ -48,17 +49,15 @@ pub(crate) fn same_kind(one: TransmitKind, other: TransmitKind) -> bool
 }
 
 impl Store {
-    // An end of a stream has another owner.
-    pub(crate) fn own(&mut self, stream: u32, side: Side, owner: Owner)
+    // An end of a stream, which no guest has, is gone.
+    pub(crate) fn lose(&mut self, stream: u32, side: Side)
         requires there { stream < length self.old.streams }
         requires unheld { is_held (end_of side (stream_at self.old stream)).owner ≡ false }
-        requires owner { is_host owner ≡ false }
-        requires given { is_held owner ≡ false }
         ensures { self.new ≡ with_stream_at self.old stream
-            (with_owner side (stream_at self.old stream) owner) }
+            (with_owner side (stream_at self.old stream) Gone) }
     {
-        let (streams, live_streams) = (&mut self.streams, &mut self.live_streams);
-        set_owner(streams, live_streams, stream as usize, side, owner);
+        let (streams, places) = (&mut self.streams, &mut self.places);
+        set_owner(streams, places, stream, side, Owner::Gone);
         retell(
             &mut self.ready,
             &self.guests,
@@ -78,8 +77,8 @@ impl Store {
         let home = home_of(&self.guests, end.guest as usize, end.handle);
         let (guests, counter) = (&mut self.guests, &mut self.counter);
         remove_end(guests, counter, side, end);
-        let (streams, live_streams) = (&mut self.streams, &mut self.live_streams);
-        set_owner(streams, live_streams, stream as usize, side, owner);
+        let (streams, places) = (&mut self.streams, &mut self.places);
+        set_owner(streams, places, stream, side, owner);
         leave(&mut self.ready, end.guest as usize, home, end.handle);
         retell(
             &mut self.ready,
@@ -156,8 +155,8 @@ impl Store {
         let (guests, counter) = (&mut self.guests, &mut self.counter);
         let handle = move_end(guests, counter, side, end, to as usize, stream)?;
         let owner = Owner::Held { guest: to, handle };
-        let (streams, live_streams) = (&mut self.streams, &mut self.live_streams);
-        set_owner(streams, live_streams, stream as usize, side, owner);
+        let (streams, places) = (&mut self.streams, &mut self.places);
+        set_owner(streams, places, stream, side, owner);
         leave(&mut self.ready, end.guest as usize, home, end.handle);
         retell(
             &mut self.ready,
@@ -303,8 +302,8 @@ impl Store {
         let (guests, counter) = (&mut self.guests, &mut self.counter);
         let handle = give_end(guests, counter, guest as usize, Side::Reading, ty, reader)?;
         let owner = Owner::Held { guest, handle };
-        let (streams, live_streams) = (&mut self.streams, &mut self.live_streams);
-        set_owner(streams, live_streams, reader as usize, Side::Reading, owner);
+        let (streams, places) = (&mut self.streams, &mut self.places);
+        set_owner(streams, places, reader, Side::Reading, owner);
         retell(
             &mut self.ready,
             &self.guests,
@@ -347,7 +346,7 @@ impl Store {
         self.sound();
         self.served();
         self.admit(self.close_fits(reader))?;
-        self.own(reader, Side::Reading, Owner::Gone);
+        self.lose(reader, Side::Reading);
         self.forsake(hosts, reader, Side::Reading);
         Ok(())
     }

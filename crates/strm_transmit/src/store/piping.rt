@@ -23,12 +23,12 @@ ghost use Rattle.strm_transmit.specs.Piping.{PipeFits, report_withdrawn, handed_
 
 use crate::errors::StoreError;
 use crate::host_ends::HostEnds;
+use crate::places::set_owner;
 use crate::store::hosting::is_unknown_host;
 use crate::store::moves::same_kind;
 use crate::store::{Store, type_with};
 use crate::telling::retell;
 use strm_channels::channels::Channel;
-use strm_channels::owners::set_owner;
 use strm_codes::codes::TransmitIndex;
 use strm_codes::refusals::Refusal;
 use strm_machine::streams::{Consumer, Duty, Owner, Side};
@@ -101,9 +101,9 @@ impl Store {
         requires unused { (consumer_at self.old host).duty ≡ Unused }
         ensures { self.new ≡ handed_to self.old stream host }
     {
-        let (streams, live_streams) = (&mut self.streams, &mut self.live_streams);
+        let (streams, places) = (&mut self.streams, &mut self.places);
         let owner = Owner::Host { number: host };
-        set_owner(streams, live_streams, stream as usize, Side::Reading, owner);
+        set_owner(streams, places, stream, Side::Reading, owner);
         retell(
             &mut self.ready,
             &self.guests,
@@ -142,8 +142,8 @@ impl Store {
         ensures { self.new
             ≡ with_stream_at self.old stream (without_ends (stream_at self.old stream)) }
     {
-        self.own(stream, Side::Reading, Owner::Gone);
-        self.own(stream, Side::Writing, Owner::Gone);
+        self.lose(stream, Side::Reading);
+        self.lose(stream, Side::Writing);
     }
 
     // A pipe ends: both ends of the stream are gone, and host ends are closed.

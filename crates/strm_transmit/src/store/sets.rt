@@ -73,13 +73,10 @@ impl Store {
         if self.is_unknown_guest(guest) {
             return Err(Refusal::UnknownGuest);
         }
-        if let Some(refusal) = self.handle_more_refusal(guest) {
-            return Err(refusal);
+        match self.placed_refusal(guest) {
+            Some(refusal) => Err(refusal),
+            None => Ok(()),
         }
-        if self.are_places_full(1) {
-            return Err(Refusal::Full);
-        }
-        Ok(())
     }
 
     // A set more. After running out of memory nothing has changed.

@@ -94,7 +94,7 @@ impl Store {
         let (guests, place) = (&mut self.guests, number as usize);
         let turned = hosts.writer_turn_at(self.alloc, guests, served, producer, place, read);
         retell(&mut self.ready, &self.guests, served);
-        self.live_streams = self.live_streams - u32::from(was_live) + u32::from(is_live(served));
+        self.places.settle(stream, was_live, is_live(served));
         turned
     }
 
@@ -117,7 +117,7 @@ impl Store {
         let (guests, place) = (&mut self.guests, number as usize);
         let taken = hosts.reader_turn_at(self.alloc, guests, served, consumer, place, write);
         retell(&mut self.ready, &self.guests, served);
-        self.live_streams = self.live_streams - u32::from(was_live) + u32::from(is_live(served));
+        self.places.settle(stream, was_live, is_live(served));
         taken
     }
 

@@ -1,3 +1,4 @@
+use Rattle.strm_guest_store.proofs.AgainLemmas.{step_at-bases}
 use Rattle.strm_guest_store.proofs.BaseLemmas.{step-bases, lowering-bases}
 use Rattle.strm_guest_store.proofs.laws.memories_stay.Goals as goal
 
@@ -6,3 +7,6 @@ returns-clause-steps c = step-bases
 
 pub returns-clause-lowerings : goal.returns-clause-lowerings
 returns-clause-lowerings c = lowering-bases
+
+pub returns-clause-makings : goal.returns-clause-makings
+returns-clause-makings c = step_at-bases

@@ -1,7 +1,8 @@
 use Rattle.std.proofs.Common.{◌≡◌, ◌≤◌, ◌∷◌, [], List, length, ap, subst, ◌∙◌, arith}
 use Rattle.strm_laws.specs.Conservation.{got, state_after_steps, moments, replies_of}
 use Rattle.strm_machine.specs.Plays.{play, Ends}
-use Rattle.strm_session.specs.Runs.{run_start, counts_of}
+use Rattle.strm_laws.specs.Starts.{run_start}
+use Rattle.strm_session.specs.Runs.{counts_of}
 use Rattle.strm_frames.specs.Demuxes.{IsDemuxFed}
 use Rattle.strm_machine.specs.declared.steps.Step.{Step}
 use Rattle.strm_carry_laws.specs.OneStream.{script_of, bytes_as_items, CanCarry, dumped}

@@ -1,8 +1,9 @@
 use Rattle.std.proofs.Common.{Err, ap, subst, ◌∙◌}
+use Rattle.std.proofs.lemmas.Result.{IfOk-weaker}
 use Rattle.strm_tape.specs.Spelling.{TapeOf, IsTape}
 use Rattle.strm_tape.specs.declared.errors.TapeError.TheVariants.{NotATape, Differs}
 use Rattle.strm_tape_runs.specs.Playing.{IsPlayOf}
-use Rattle.strm_tape_program.proofs.TakeLemmas.{on_ok, none_first}
+use Rattle.strm_tape_program.proofs.TakeLemmas.{none_first}
 use Rattle.strm_tape_program.proofs.taking.taped.Goals as goal
 
 pub unreachable-requires : goal.unreachable-requires
@@ -19,10 +20,10 @@ unreachable-requires-in-Err-Differs g c =
 pub returns-in-Ok-clause-taped : goal.returns-in-Ok-clause-taped
 returns-in-Ok-clause-taped g c =
     let taped = c.in-Ok.ensures.taped in
-    on_ok c.tape_bytes.result _ (record {
+    IfOk-weaker c.tape_bytes.result _ _ (λ _ _. record {
       is_tape = subst IsTape taped.tape_is c.sound.ensures;
       end = c.in-Ok.taped.end;
       run = taped.ran;
       memory = taped.memory;
       plays = subst (λ (t : TapeOf). IsPlayOf t c.in-Ok.taped.end) taped.tape_is taped.plays;
-    })
+    }) c.tape_bytes.ensures

@@ -1,5 +1,6 @@
--- Each call is the machine's step, so what is known is what is known of a store with host ends.
-use Rattle.strm_uses.proofs.TransmitLemmas.{Known, known}
+-- Each call is the machine's step, and the first stream has the number 0, so what is known is what is known of a
+-- store with host ends.
+use Rattle.strm_uses.proofs.TransmitLemmas.{Known, known, first_made}
 use Rattle.strm_uses.proofs.embed.hand_three.Goals as goal
 use Rattle.strm_uses.proofs.embed.hand_three.Goals.{In_ok-told}
 
@@ -11,7 +12,7 @@ all_known c =
     (record {
       one = rw c.new-store.ensures at c.in_ok-writer.ensures.meets;
       two = c.in_ok-reader.ensures.meets;
-      joined = c.in_ok-pair.ensures.meets;
+      joined = first_made _ _ _ _ _ _ (rw c.new-store.ensures at c.in_ok-writer.ensures.meets) c.in_ok-reader.ensures.meets c.in_ok-pair.ensures.meets;
       poked = rw c.as_slice.ensures.exact at c.in_ok-write_memory.ensures.meets;
       written = λ u. c.in_ok-stream_write.ensures.meets;
       read = λ u. c.in_ok-read.ensures.meets;

@@ -6,4 +6,4 @@ use Rattle.strm_chain.proofs.playing.Player.new.Goals as goal
 
 pub invariant_of-result : goal.invariant_of-result
 invariant_of-result c =
-    rw (c.new.ensures.exact, c.new-2.ensures, c.new-3.ensures) (follows_start (subst (λ s. Fits s nobody) c.new.ensures.exact (c.new.ensures.fits _)))
+    rw (c.new.ensures.exact, c.new-2.ensures.steps, c.new-2.ensures.replies) (follows_start (subst (λ s. Fits s nobody) c.new.ensures.exact (c.new.ensures.fits _)))

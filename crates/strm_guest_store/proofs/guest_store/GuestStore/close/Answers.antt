@@ -11,7 +11,7 @@ close-requires c = record { fits = fits_nobody c.self.inside.store _ c.self.inva
 
 pub invariant_of-self : goal.invariant_of-self
 invariant_of-self c =
-    hosted_among c.self.inside.store c.close.new.self _ _ _ _ c.self.invariant c.no_hosts-hosts.ensures refl c.close.ensures.meets
+    hosted_among c.self.inside.store c.close.new.self _ _ _ _ c.self.invariant c.no_hosts-hosts.ensures refl refl c.close.ensures.meets
 
 pub returns-clause-stays : goal.returns-clause-stays
 returns-clause-stays c =

@@ -11,7 +11,7 @@ future_drop_readable-requires c = record { fits = fits_nobody c.self.inside.stor
 
 pub invariant_of-self : goal.invariant_of-self
 invariant_of-self c =
-    hosted_among c.self.inside.store c.future_drop_readable.new.self _ _ _ _ c.self.invariant c.no_hosts-hosts.ensures refl c.future_drop_readable.ensures.meets
+    hosted_among c.self.inside.store c.future_drop_readable.new.self _ _ _ _ c.self.invariant c.no_hosts-hosts.ensures refl refl c.future_drop_readable.ensures.meets
 
 pub returns-clause-stays : goal.returns-clause-stays
 returns-clause-stays c =

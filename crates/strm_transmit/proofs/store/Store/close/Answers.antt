@@ -7,21 +7,21 @@ use Rattle.strm_transmit.proofs.DropLemmas.{drops-loose, drops-loose-alone, drop
 use Rattle.strm_transmit.proofs.MoveLemmas.{close_made, close_unheld}
 use Rattle.strm_transmit.proofs.store.Store.close.Goals as goal
 
-pub own-requires-clause-there : goal.own-requires-clause-there
-own-requires-clause-there g c = close_made c.args.self.now c.args.reader (is_admitted c.args.self.now _ _ _ _ c.close_fits.ensures c.in_ok-admit.ensures.exact).none
+pub lose-requires-clause-there : goal.lose-requires-clause-there
+lose-requires-clause-there g c = close_made c.args.self.now c.args.reader (is_admitted c.args.self.now _ _ _ _ c.close_fits.ensures c.in_ok-admit.ensures.exact).none
 
 pub forsake-requires-clause-fits : goal.forsake-requires-clause-fits
 forsake-requires-clause-fits g c =
     let found = is_admitted c.args.self.now _ _ _ _ c.close_fits.ensures c.in_ok-admit.ensures.exact in
     dropped-fits _ _ _ _ _ _
-    (drops-loose c.args.self.now c.own.new.self _ c.args.reader (record { sound = c.sound.ensures; served = c.served.ensures; fits = c.requires.fits })
-    found (close_made c.args.self.now c.args.reader found.none) c.own.ensures)
+    (drops-loose c.args.self.now c.lose.new.self _ c.args.reader (record { sound = c.sound.ensures; served = c.served.ensures; fits = c.requires.fits })
+    found (close_made c.args.self.now c.args.reader found.none) c.lose.ensures)
 
 pub returns-clause-meets : goal.returns-clause-meets
 returns-clause-meets g c =
     let found = is_admitted c.args.self.now _ _ _ _ c.close_fits.ensures c.in_ok-admit.ensures.exact in
-    let drops = drops-loose c.args.self.now c.own.new.self _ c.args.reader (record { sound = c.sound.ensures; served = c.served.ensures; fits = c.requires.fits })
-    found (close_made c.args.self.now c.args.reader found.none) c.own.ensures in
+    let drops = drops-loose c.args.self.now c.lose.new.self _ c.args.reader (record { sound = c.sound.ensures; served = c.served.ensures; fits = c.requires.fits })
+    found (close_made c.args.self.now c.args.reader found.none) c.lose.ensures in
     drops-hosted _ _ _ _ _ _ drops _ _ c.forsake.ensures.does c.forsake.ensures.fits
     (λ u. c.forsake.ensures.alone (drops-loose-alone _ _ _ c.args.reader drops u))
     (λ u. c.forsake.ensures.untold (drops-loose-alone _ _ _ c.args.reader drops u))
@@ -34,9 +34,9 @@ returns-in_err-admit-clause-meets g c =
 
 pub forsake-requires-clause-there : goal.forsake-requires-clause-there
 forsake-requires-clause-there g c =
-    still_made c.args.self.now c.own.new.self c.args.reader _ c.own.ensures
+    still_made c.args.self.now c.lose.new.self c.args.reader _ c.lose.ensures
     (close_made c.args.self.now c.args.reader (is_admitted c.args.self.now _ _ _ _ c.close_fits.ensures c.in_ok-admit.ensures.exact).none)
 
-pub own-requires-clause-unheld : goal.own-requires-clause-unheld
-own-requires-clause-unheld g c =
+pub lose-requires-clause-unheld : goal.lose-requires-clause-unheld
+lose-requires-clause-unheld g c =
     close_unheld c.args.self.now c.args.reader (is_admitted c.args.self.now _ _ _ _ c.close_fits.ensures c.in_ok-admit.ensures.exact).none

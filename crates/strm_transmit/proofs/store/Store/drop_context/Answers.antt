@@ -26,7 +26,7 @@ pub invariant_of-self : goal.invariant_of-self
 invariant_of-self c =
     let state = state_of c.self.inside in
     IsStore-contexts c.self.inside _ c.args.guest _ _
-    (record { tag = refl; limits = refl; trapped = refl; streams = refl; producers = refl; kept = refl; consumers = refl; live_streams = refl; live_sets = refl; bytes = refl; ready = refl })
+    (record { tag = refl; limits = refl; trapped = refl; streams = refl; producers = refl; kept = refl; consumers = refl; places = refl; live_sets = refl; bytes = refl; ready = refl })
     (record { guests = c.remove_context.ensures.frees.guests; others = c.remove_context.ensures.contexts })
     (less_counted c.self.inside _ refl c.remove_context.ensures.frees.counter c.remove_context.ensures.frees.live c.self.invariant)
     (rw (rw (← c.self.view_is) at c.requires.context) (on_context-sound state c.args.guest c.args.handle Drop c.self.invariant.sound (rw (← c.self.view_is) at c.requires.may)))

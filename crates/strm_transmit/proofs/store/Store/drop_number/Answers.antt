@@ -25,7 +25,7 @@ remove_set-requires-clause-empty c =
 pub invariant_of-self : goal.invariant_of-self
 invariant_of-self c =
     IsStore-dropped_set c.self.inside _ c.args.guest c.args.set c.args.number
-    (record { same = record { tag = refl; limits = refl; producers = refl; kept = refl; consumers = refl; contexts = refl; trapped = refl }; streams = refl; live_streams = refl; bytes = refl })
+    (record { same = record { tag = refl; limits = refl; producers = refl; kept = refl; consumers = refl; contexts = refl; trapped = refl }; streams = refl; places = refl; bytes = refl })
     (record {
       counter = c.remove_set.ensures.frees.counter;
       live = c.remove_set.ensures.frees.live;

@@ -1,10 +1,21 @@
 use Rattle.std.proofs.Common.{refl, subst, arith}
+use Rattle.strm_machine.specs.State.{stream_at}
+use Rattle.strm_machine.specs.Moves.{with_owner}
+use Rattle.strm_machine.specs.declared.streams.Owner.TheVariants.{Host}
+use Rattle.strm_machine.specs.declared.streams.Side.TheVariants.{Reading}
 use Rattle.strm_machine.specs.declared.streams.Stream.{Stream}
 use Rattle.strm_channels.specs.Guests.{guests_of}
+use Rattle.strm_transmit.specs.Inside.{state_of}
 use Rattle.strm_transmit.specs.Telling.{Retells}
+use Rattle.strm_transmit.proofs.PlaceLemmas.{loose_live, live_stays}
 use Rattle.strm_transmit.proofs.StoreLemmas.{set_at}
 use Rattle.strm_transmit.proofs.PipeStoreLemmas.{IsStore-handed}
 use Rattle.strm_transmit.proofs.store.Store.hand_to.Goals as goal
+
+pub set_owner-requires-clause-gone : goal.set_owner-requires-clause-gone
+set_owner-requires-clause-gone c =
+    let old = stream_at (state_of c.self.inside) c.args.stream in
+    live_stays old (with_owner Reading old (Host c.args.host)) (loose_live old (rw (← c.self.view_is) at c.requires.loose))
 
 pub invariant_of-self : goal.invariant_of-self
 invariant_of-self c =
@@ -21,7 +32,7 @@ invariant_of-self c =
       guests = refl;
       live_sets = refl;
       bytes = refl;
-      counted = c.set_owner.ensures.counted;
+      counted = c.set_owner.ensures.places;
       streams = c.set_owner.ensures.streams;
       producers = refl;
       same_kept = refl;

@@ -1,9 +1,33 @@
-use Rattle.std.proofs.Common.{◌≡◌, ◌+◌, length, set, ap, ◌∙◌, refl, arith}
-use Rattle.strm_machine.specs.State.{State, no_producer}
+use Rattle.std.proofs.Common.{◌≡◌, List, length, set, ap, ◌∙◌, refl, arith}
+use Rattle.strm_machine.specs.State.{State, no_producer, is_live}
 use Rattle.strm_machine.specs.declared.streams.Duty.TheVariants.{Serves}
 use Rattle.strm_machine.specs.declared.streams.Stream.{Stream}
+use Rattle.strm_transmit.proofs.StoreLemmas.{IsStore-room}
 use Rattle.strm_transmit.proofs.HostingLemmas.{IsStore-hosted, IsStore-grown, hosted_is}
 use Rattle.strm_transmit.proofs.store.Store.host.Goals as goal
+
+pub append-requires-clause-few : goal.append-requires-clause-few
+append-requires-clause-few c =
+    let few = rw (← c.self.view_is) at c.requires.few in
+    omega (arith, few, ap (λ (xs : List Stream). length xs) c.in_ok-make_room.ensures.streams)
+
+pub append-requires-clause-live : goal.append-requires-clause-live
+append-requires-clause-live c = ap is_live c.new-hosted.ensures
+
+pub invariant_of-self : goal.invariant_of-self
+invariant_of-self c =
+    IsStore-room c.self.inside _
+    (record {
+      same = record { tag = refl; limits = refl; producers = refl; kept = refl; consumers = refl; contexts = refl; trapped = refl };
+      counter = refl;
+      live_sets = refl;
+      bytes = refl;
+      guests = refl;
+      ready = refl;
+      streams = c.in_err-make_room.ensures.streams;
+      places = c.in_err-make_room.ensures.places;
+    })
+    c.self.invariant
 
 pub invariant_of-self-2 : goal.invariant_of-self-2
 invariant_of-self-2 c =
@@ -23,10 +47,10 @@ invariant_of-self-2 c =
       trapped = refl;
       counter = refl;
       guests = refl;
-      live_streams = refl;
+      places = c.append.ensures.places;
       live_sets = refl;
       bytes = refl;
-      streams = c.push_reserved.ensures.items ∙ rw c.in_ok-reserve.ensures.items refl;
+      streams = c.append.ensures.streams ∙ rw c.in_ok-make_room.ensures.streams refl;
       producers = refl;
       place = c.in_ok-make_place.ensures.ok;
       consumers = refl;
@@ -42,10 +66,10 @@ invariant_of-self-in_err-make_place c =
       contexts = refl;
       counter = refl;
       guests = refl;
-      live_streams = refl;
+      places = c.in_ok-make_room.ensures.places;
       live_sets = refl;
       bytes = refl;
-      streams = c.in_ok-reserve.ensures.items;
+      streams = c.in_ok-make_room.ensures.streams;
       producers = refl;
       consumers = refl;
       grown = c.in_err-make_place.ensures.err;
@@ -58,10 +82,10 @@ returns-clause-ok c =
     let old = c.self.inside in
     let number : c.len-stream.result ≡ length old.streams.items = omega (arith, c.len-stream.ensures, old.streams.ok) in
     let after = record old {
-      streams = c.push_reserved.new.self;
+      streams = c.append.new.streams;
       producers = set old.producers c.args.number (record no_producer { duty = Serves c.len-stream.result; holding = c.args.holding });
       kept = c.make_place.new.kept;
-      live_streams = old.live_streams + 1;
+      places = c.append.new.places;
     } in
     hosted_is old after c.args.number c.new-hosted.result _
     (record {
@@ -77,10 +101,10 @@ returns-clause-ok c =
       trapped = refl;
       counter = refl;
       guests = refl;
-      live_streams = refl;
+      places = c.append.ensures.places;
       live_sets = refl;
       bytes = refl;
-      streams = c.push_reserved.ensures.items ∙ rw c.in_ok-reserve.ensures.items refl;
+      streams = c.append.ensures.streams ∙ rw c.in_ok-make_room.ensures.streams refl;
       producers = refl;
       place = c.in_ok-make_place.ensures.ok;
       consumers = refl;

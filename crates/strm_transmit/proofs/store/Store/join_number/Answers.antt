@@ -15,7 +15,7 @@ leave_set-requires c =
 pub invariant_of-self : goal.invariant_of-self
 invariant_of-self c =
     IsStore-left c.self.inside _
-    (record { same = record { tag = refl; limits = refl; producers = refl; kept = refl; consumers = refl; contexts = refl; trapped = refl }; streams = refl; live_streams = refl; bytes = refl })
+    (record { same = record { tag = refl; limits = refl; producers = refl; kept = refl; consumers = refl; contexts = refl; trapped = refl }; streams = refl; places = refl; bytes = refl })
     (record { counter = refl; live_sets = refl })
     c.self.invariant c.args.guest c.args.set c.args.handle (rw (← c.self.view_is) at c.requires.may)
     c.home_of-home.result c.if-set-eq0.true c.home_of-home.ensures c.leave.ensures c.leave_set.ensures.guests
@@ -52,7 +52,7 @@ is_ready-is_ready-requires c =
 pub invariant_of-self-2 : goal.invariant_of-self-2
 invariant_of-self-2 c =
     IsStore-joined c.self.inside _
-    (record { same = record { tag = refl; limits = refl; producers = refl; kept = refl; consumers = refl; contexts = refl; trapped = refl }; streams = refl; live_streams = refl; bytes = refl })
+    (record { same = record { tag = refl; limits = refl; producers = refl; kept = refl; consumers = refl; contexts = refl; trapped = refl }; streams = refl; places = refl; bytes = refl })
     (record { counter = refl; live_sets = refl })
     c.self.invariant c.args.guest c.args.set c.args.handle (rw (← c.self.view_is) at c.requires.may)
     c.args.number (not c.has_member-is_empty.result) c.is_ready-is_ready.result c.if-set-eq0.false (rw (← c.self.view_is) at c.requires.number)

@@ -1,6 +1,11 @@
 use Rattle.std.proofs.Common.{◌≡◌, List, length, refl, ap, ◌∙◌, subst, arith}
+use Rattle.strm_machine.specs.State.{stream_at}
+use Rattle.strm_machine.specs.Moves.{with_owner}
+use Rattle.strm_machine.specs.declared.streams.Owner.TheVariants.{Held}
+use Rattle.strm_machine.specs.declared.streams.Side.TheVariants.{Reading}
 use Rattle.strm_machine.specs.declared.streams.Stream.{Stream}
 use Rattle.strm_transmit.specs.Telling.{Retells}
+use Rattle.strm_transmit.proofs.PlaceLemmas.{loose_live, live_stays}
 use Rattle.strm_transmit.proofs.StoreLemmas.{set_at}
 use Rattle.std.proofs.lemmas.List.{length-map, length-set}
 use Rattle.strm_machine.proofs.RefusalLemmas.{lower_fits}
@@ -26,6 +31,12 @@ give_end-requires-clause-below c =
 pub set_owner-requires-clause-there : goal.set_owner-requires-clause-there
 set_owner-requires-clause-there c = lower_made (state_of c.self.inside) c.args.reader c.args.guest c.args.ty (rw (← c.self.view_is) at c.requires.may)
 
+pub set_owner-requires-clause-gone : goal.set_owner-requires-clause-gone
+set_owner-requires-clause-gone c =
+    let old = stream_at (state_of c.self.inside) c.args.reader in
+    live_stays old (with_owner Reading old (Held c.args.guest c.in_ok-handle.handle))
+    (loose_live old (lower_fits (state_of c.self.inside) c.args.reader c.args.guest c.args.ty (rw (← c.self.view_is) at c.requires.may)).loose)
+
 pub index-requires : goal.index-requires
 index-requires c =
     let made = lower_made (state_of c.self.inside) c.args.reader c.args.guest c.args.ty (rw (← c.self.view_is) at c.requires.may) in
@@ -39,7 +50,7 @@ invariant_of-self-2 c =
       same = record { tag = refl; limits = refl; producers = refl; kept = refl; consumers = refl; contexts = refl; trapped = refl };
       bytes = refl;
       live_sets = refl;
-      counted = c.set_owner.ensures.counted;
+      counted = c.set_owner.ensures.places;
       streams = c.set_owner.ensures.streams;
       retold = subst (λ (x : Stream). Retells (guests_of c.give_end.new.guests.items) x c.self.inside.ready.items c.retell.new.ready.items)
           (set_at c.self.inside.streams.items c.set_owner.new.streams.items c.args.reader _ c.index.result.now (lower_made (state_of c.self.inside) c.args.reader c.args.guest c.args.ty (rw (← c.self.view_is) at c.requires.may)) c.set_owner.ensures.streams c.index.ensures) c.retell.ensures;

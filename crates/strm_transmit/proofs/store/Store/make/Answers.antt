@@ -1,6 +1,5 @@
-use Rattle.std.proofs.Common.{◌≡◌, subst, ◌+◌, ◌<◌, ◌∷◌, [], ◌++◌, length, refl, sym, ap, ◌∙◌, arith}
+use Rattle.std.proofs.Common.{◌≡◌, subst, ◌<◌, List, ◌∷◌, [], ◌++◌, length, refl, sym, ap, ◌∙◌, arith}
 use Rattle.std.proofs.lemmas.List.{length-map}
-use Rattle.std.proofs.lemmas.List.Sums.{count_by-le-length}
 use Rattle.strm_machine.specs.State.{is_live, guest_in}
 use Rattle.strm_machine.proofs.RefusalLemmas.{pair_fits}
 use Rattle.strm_handles.specs.Handles.{next_index}
@@ -10,6 +9,7 @@ use Rattle.strm_channels.specs.Guests.{guest_of, guests_of}
 use Rattle.strm_transmit.proofs.MakingLemmas.{MakesStream, IsStore-made, performs-made, numbers_of, joined_is, pair_is}
 use Rattle.strm_transmit.specs.Inside.{state_of}
 use Rattle.strm_transmit.specs.Telling.{Retells}
+use Rattle.strm_transmit.proofs.StoreLemmas.{IsStore-room}
 use Rattle.strm_transmit.proofs.store.Store.make.Goals as goal
 
 pub insert_ends-requires-clause-writer : goal.insert_ends-requires-clause-writer
@@ -38,27 +38,60 @@ insert_ends-requires-clause-below c =
     let fits = pair_fits (state_of c.self.inside) c.args.writer c.args.reader c.args.ty (rw (← c.self.view_is) at c.requires) in
     omega (arith, fits.handles, c.self.invariant.limit, c.self.invariant.live)
 
-pub overflow_add-self : goal.overflow_add-self
-overflow_add-self c =
+pub append-requires-clause-few : goal.append-requires-clause-few
+append-requires-clause-few c =
     let fits = pair_fits (state_of c.self.inside) c.args.writer c.args.reader c.args.ty (rw (← c.self.view_is) at c.requires) in
-    omega (arith, fits.streams, c.self.invariant.streams, count_by-le-length is_live c.self.inside.streams.items)
+    omega (arith, fits.streams, ap (λ (xs : List Stream). length xs) c.in_ok-make_room.ensures.streams)
+
+pub append-requires-clause-live : goal.append-requires-clause-live
+append-requires-clause-live c = ap is_live (c.stream_of-joined.ensures c.args.ty c.kind-kind.ensures c.payload-payload.ensures)
+
+pub invariant_of-self : goal.invariant_of-self
+invariant_of-self c =
+    IsStore-room c.self.inside _
+    (record {
+      same = record { tag = refl; limits = refl; producers = refl; kept = refl; consumers = refl; contexts = refl; trapped = refl };
+      counter = refl;
+      live_sets = refl;
+      bytes = refl;
+      guests = refl;
+      ready = refl;
+      streams = c.in_err-make_room.ensures.streams;
+      places = c.in_err-make_room.ensures.places;
+    })
+    c.self.invariant
+
+pub invariant_of-self-in_err-numbers : goal.invariant_of-self-in_err-numbers
+invariant_of-self-in_err-numbers c =
+    IsStore-room c.self.inside _
+    (record {
+      same = record { tag = refl; limits = refl; producers = refl; kept = refl; consumers = refl; contexts = refl; trapped = refl };
+      counter = c.in_err-numbers.ensures.gives.kept;
+      live_sets = refl;
+      bytes = refl;
+      guests = c.in_err-numbers.ensures.gives.err;
+      ready = refl;
+      streams = c.in_ok-make_room.ensures.streams;
+      places = c.in_ok-make_room.ensures.places;
+    })
+    c.self.invariant
 
 pub invariant_of-self-2 : goal.invariant_of-self-2
 invariant_of-self-2 c =
     let old = c.self.inside in
     let number : c.len-stream.result ≡ length old.streams.items = omega (arith, c.len-stream.ensures, old.streams.ok) in
-    let joined = joined_is old c.args.writer c.args.reader c.args.ty c.in_ok-numbers.numbers c.new-joined.result
+    let joined = joined_is old c.args.writer c.args.reader c.args.ty c.in_ok-numbers.numbers c.stream_of-joined.result
     (c.in_ok-numbers.ensures.gives.numbers ∙ ap (numbers_of old c.args.writer c.args.reader c.args.ty) number)
-    (rw (c.new-joined.ensures, c.kind-kind.ensures, c.payload-payload.ensures) refl) in
-    let made : MakesStream c.self.inside (record c.self.inside { counter = c.insert_ends.new.counter; guests = c.insert_ends.new.guests; streams = c.push_reserved.new.self; live_streams = c.self.inside.live_streams + 1; ready = c.retell.new.ready }) c.args.writer c.args.reader c.args.ty = record {
+    (c.stream_of-joined.ensures c.args.ty c.kind-kind.ensures c.payload-payload.ensures ∙ rw c.pair_of-pair.ensures refl) in
+    let made : MakesStream c.self.inside (record c.self.inside { counter = c.insert_ends.new.counter; guests = c.insert_ends.new.guests; streams = c.append.new.streams; places = c.append.new.places; ready = c.retell.new.ready }) c.args.writer c.args.reader c.args.ty = record {
       same = record { tag = refl; limits = refl; producers = refl; kept = refl; consumers = refl; contexts = refl; trapped = refl };
       counter = c.in_ok-numbers.ensures.gives.counter;
       live = c.in_ok-numbers.ensures.gives.live;
-      live_streams = refl;
+      places = c.append.ensures.places;
       live_sets = refl;
       bytes = refl;
       guests = c.in_ok-numbers.ensures.gives.guests ∙ ap (with_ends (guests_of old.guests.items) c.args.writer c.args.reader c.args.ty) number;
-      streams = c.push_reserved.ensures.items ∙ rw c.in_ok-reserve.ensures.items (ap (λ (s : Stream). old.streams.items ++ s ∷ []) joined);
+      streams = c.append.ensures.streams ∙ rw c.in_ok-make_room.ensures.streams (ap (λ (s : Stream). old.streams.items ++ s ∷ []) joined);
       retold = subst (λ (s : Stream). Retells (guests_of c.insert_ends.new.guests.items) s old.ready.items c.retell.new.ready.items) joined c.retell.ensures;
     } in
     IsStore-made old _ c.args.writer c.args.reader c.args.ty made (rw (← c.self.view_is) at c.requires) c.self.invariant
@@ -67,20 +100,20 @@ pub returns : goal.returns
 returns c =
     let old = c.self.inside in
     let number : c.len-stream.result ≡ length old.streams.items = omega (arith, c.len-stream.ensures, old.streams.ok) in
-    let joined = joined_is old c.args.writer c.args.reader c.args.ty c.in_ok-numbers.numbers c.new-joined.result
+    let joined = joined_is old c.args.writer c.args.reader c.args.ty c.in_ok-numbers.numbers c.stream_of-joined.result
     (c.in_ok-numbers.ensures.gives.numbers ∙ ap (numbers_of old c.args.writer c.args.reader c.args.ty) number)
-    (rw (c.new-joined.ensures, c.kind-kind.ensures, c.payload-payload.ensures) refl) in
-    let made : MakesStream c.self.inside (record c.self.inside { counter = c.insert_ends.new.counter; guests = c.insert_ends.new.guests; streams = c.push_reserved.new.self; live_streams = c.self.inside.live_streams + 1; ready = c.retell.new.ready }) c.args.writer c.args.reader c.args.ty = record {
+    (c.stream_of-joined.ensures c.args.ty c.kind-kind.ensures c.payload-payload.ensures ∙ rw c.pair_of-pair.ensures refl) in
+    let made : MakesStream c.self.inside (record c.self.inside { counter = c.insert_ends.new.counter; guests = c.insert_ends.new.guests; streams = c.append.new.streams; places = c.append.new.places; ready = c.retell.new.ready }) c.args.writer c.args.reader c.args.ty = record {
       same = record { tag = refl; limits = refl; producers = refl; kept = refl; consumers = refl; contexts = refl; trapped = refl };
       counter = c.in_ok-numbers.ensures.gives.counter;
       live = c.in_ok-numbers.ensures.gives.live;
-      live_streams = refl;
+      places = c.append.ensures.places;
       live_sets = refl;
       bytes = refl;
       guests = c.in_ok-numbers.ensures.gives.guests ∙ ap (with_ends (guests_of old.guests.items) c.args.writer c.args.reader c.args.ty) number;
-      streams = c.push_reserved.ensures.items ∙ rw c.in_ok-reserve.ensures.items (ap (λ (s : Stream). old.streams.items ++ s ∷ []) joined);
+      streams = c.append.ensures.streams ∙ rw c.in_ok-make_room.ensures.streams (ap (λ (s : Stream). old.streams.items ++ s ∷ []) joined);
       retold = subst (λ (s : Stream). Retells (guests_of c.insert_ends.new.guests.items) s old.ready.items c.retell.new.ready.items) joined c.retell.ensures;
     } in
     rw (← c.self.view_is)
     (performs-made old _ c.args.writer c.args.reader c.args.ty _ made
-    (pair_is old c.args.writer c.args.reader c.args.ty c.len-stream.result c.in_ok-numbers.numbers number c.in_ok-numbers.ensures.gives.numbers))
+    (c.pair_of-pair.ensures ∙ pair_is old c.args.writer c.args.reader c.args.ty c.len-stream.result c.in_ok-numbers.numbers number c.in_ok-numbers.ensures.gives.numbers))

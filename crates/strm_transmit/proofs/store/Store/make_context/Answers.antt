@@ -26,7 +26,7 @@ invariant_of-self c =
     let fits = context_fits (state_of c.self.inside) c.args.guest c.args.address c.args.len may in
     let did = c.give_context.ensures in
     IsStore-gives c.self.inside _ c.args.guest _ _
-    (record { tag = refl; limits = refl; trapped = refl; streams = refl; producers = refl; kept = refl; consumers = refl; live_streams = refl; live_sets = refl; bytes = refl; ready = refl })
+    (record { tag = refl; limits = refl; trapped = refl; streams = refl; producers = refl; kept = refl; consumers = refl; places = refl; live_sets = refl; bytes = refl; ready = refl })
     c.give_context.result
     (record { gives = did.gives; others = did.contexts; same = did.same })
     (fits_below c.self.inside c.self.invariant fits.handle.handles)
@@ -40,7 +40,7 @@ invariant_of-self-2 c =
     let fits = context_fits (state_of c.self.inside) c.args.guest c.args.address c.args.len may in
     let did = c.give_context.ensures in
     IsStore-gives c.self.inside _ c.args.guest _ _
-    (record { tag = refl; limits = refl; trapped = refl; streams = refl; producers = refl; kept = refl; consumers = refl; live_streams = refl; live_sets = refl; bytes = refl; ready = refl })
+    (record { tag = refl; limits = refl; trapped = refl; streams = refl; producers = refl; kept = refl; consumers = refl; places = refl; live_sets = refl; bytes = refl; ready = refl })
     c.give_context.result
     (record { gives = did.gives; others = did.contexts; same = did.same })
     (fits_below c.self.inside c.self.invariant fits.handle.handles)

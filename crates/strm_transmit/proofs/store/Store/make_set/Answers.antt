@@ -27,7 +27,7 @@ one_more-self-inside-requires c =
 pub invariant_of-self-2 : goal.invariant_of-self-2
 invariant_of-self-2 c =
     IsStore-made_set c.self.inside _ c.args.guest
-    (record { same = record { tag = refl; limits = refl; producers = refl; kept = refl; consumers = refl; contexts = refl; trapped = refl }; streams = refl; live_streams = refl; bytes = refl })
+    (record { same = record { tag = refl; limits = refl; producers = refl; kept = refl; consumers = refl; contexts = refl; trapped = refl }; streams = refl; places = refl; bytes = refl })
     (record {
       counter = c.in_ok-handle.ensures.gives.ok.counter;
       live = c.in_ok-handle.ensures.gives.ok.live;

@@ -16,7 +16,7 @@ invariant_of-self c =
       same = record { tag = refl; limits = refl; producers = refl; kept = refl; consumers = refl; contexts = refl; trapped = refl };
       counter = refl;
       streams = refl;
-      live_streams = refl;
+      places = refl;
       live_sets = refl;
       count = refl;
       ready = refl;
@@ -32,7 +32,7 @@ returns-clause-told c =
       same = record { tag = refl; limits = refl; producers = refl; kept = refl; consumers = refl; contexts = refl; trapped = refl };
       counter = refl;
       streams = refl;
-      live_streams = refl;
+      places = refl;
       live_sets = refl;
       count = refl;
       ready = refl;

@@ -1,14 +1,18 @@
 use Rattle.std.proofs.Common.{◌≡◌, ℕ, List, length, refl, ap, ◌∙◌, subst, arith}
 use Rattle.strm_machine.specs.declared.streams.Stream.{Stream}
 use Rattle.strm_transmit.specs.Telling.{Retells}
+use Rattle.strm_transmit.proofs.PlaceLemmas.{live_stays}
 use Rattle.strm_transmit.proofs.StoreLemmas.{set_at}
 use Rattle.std.proofs.lemmas.List.{length-map, length-set}
+use Rattle.strm_machine.specs.State.{stream_at}
+use Rattle.strm_machine.specs.Moves.{with_owner}
+use Rattle.strm_machine.specs.declared.streams.Owner.TheVariants.{Held}
 use Rattle.strm_machine.specs.Tests.{named, side_named}
 use Rattle.strm_machine.specs.declared.streams.Side.{Side}
 use Rattle.strm_machine.proofs.RefusalLemmas.{move_fits}
 use Rattle.strm_channels.specs.Guests.{guest_of, guests_of}
 use Rattle.strm_transmit.specs.Inside.{state_of}
-use Rattle.strm_transmit.proofs.EndingLemmas.{removable_named, named_made}
+use Rattle.strm_transmit.proofs.EndingLemmas.{removable_named, named_made, named_live}
 use Rattle.strm_transmit.proofs.MoveLemmas.{IsStore-moved}
 use Rattle.strm_transmit.proofs.store.Store.move_named.Goals as goal
 
@@ -46,6 +50,15 @@ set_owner-requires-clause-there c =
     named_made state (side_named (named state c.args.end.now)) c.args.end.now c.args.found.0 c.self.invariant.sound fits.leaves
     (ap (λ (q : ℕ × Side). q.0) (rw (← c.self.view_is) at c.requires.found))
 
+pub set_owner-requires-clause-gone : goal.set_owner-requires-clause-gone
+set_owner-requires-clause-gone c =
+    let fits = move_fits (state_of c.self.inside) c.args.end.now c.args.to (rw (← c.self.view_is) at c.requires.may) in
+    let state = state_of c.self.inside in
+    let old = stream_at state c.args.found.0 in
+    live_stays old (with_owner c.args.found.1 old (Held c.args.to c.in_ok-handle.handle))
+    (named_live state (side_named (named state c.args.end.now)) c.args.end.now c.args.found.0 c.self.invariant.sound c.self.invariant.held fits.leaves
+    (ap (λ (q : ℕ × Side). q.0) (rw (← c.self.view_is) at c.requires.found)))
+
 pub index-requires : goal.index-requires
 index-requires c =
     let fits = move_fits (state_of c.self.inside) c.args.end.now c.args.to (rw (← c.self.view_is) at c.requires.may) in
@@ -64,7 +77,7 @@ invariant_of-self-2 c =
       same = record { tag = refl; limits = refl; producers = refl; kept = refl; consumers = refl; contexts = refl; trapped = refl };
       bytes = refl;
       live_sets = refl;
-      counted = c.set_owner.ensures.counted;
+      counted = c.set_owner.ensures.places;
       streams = c.set_owner.ensures.streams;
       retold = subst (λ (x : Stream). Retells (guests_of c.move_end.new.guests.items) x c.leave.new.ready.items c.retell.new.ready.items)
           (set_at c.self.inside.streams.items c.set_owner.new.streams.items c.args.found.0 _ c.index.result.now made c.set_owner.ensures.streams c.index.ensures) c.retell.ensures;

@@ -5,6 +5,7 @@ use Rattle.strm_machine.proofs.EmptyLemmas.{IsSound-empty, StateIsHeld-empty}
 use Rattle.strm_transmit.specs.Telling.{SaysOf, AreTold, has_report}
 use Rattle.strm_transmit.proofs.StoreLemmas.{IsSound-same}
 use Rattle.strm_transmit.proofs.KeptLemmas.{have_none}
+use Rattle.strm_transmit.proofs.PlaceLemmas.{ArePlaces-none}
 use Rattle.strm_transmit.proofs.ServedLemmas.{not_unused, all_unused, AreServed-none}
 use Rattle.strm_transmit.proofs.store.Store.new.Goals as goal
 
@@ -25,11 +26,11 @@ pub invariant_of-result : goal.invariant_of-result
 invariant_of-result c = record {
   sound = rw (c.new-2.ensures.items, c.new-3.ensures.items, c.new-5.ensures) (IsSound-same (empty c.args.tag c.args.limits) _ refl refl refl (IsSound-empty c.args.tag c.args.limits));
   held = rw (c.new-2.ensures.items, c.new-3.ensures.items) (StateIsHeld-empty c.args.tag c.args.limits);
-  told = rw (c.new-2.ensures.items, c.new-3.ensures.items, c.new-6.ensures.items) told_none;
+  told = rw (c.new-2.ensures.items, c.new-3.ensures.items, c.new-7.ensures.items) told_none;
   limit = rw c.new.ensures refl;
   live = rw (c.new.ensures, c.new-2.ensures.items) refl;
   within = rw c.new.ensures (omega arith);
-  streams = rw c.new-3.ensures.items refl;
+  places = rw (c.new-3.ensures.items, c.new-6.ensures) ArePlaces-none;
   served = rw c.new-3.ensures.items AreServed-none;
   kept = rw (c.new-3.ensures.items, c.new-4.ensures.items) have_none;
   sets = rw c.new-2.ensures.items refl;

@@ -16,7 +16,7 @@ invariant_of-self-2 c =
       same = record { tag = refl; limits = refl; producers = refl; kept = refl; consumers = refl; contexts = refl; trapped = refl };
       counter = refl;
       streams = refl;
-      live_streams = refl;
+      places = refl;
       live_sets = refl;
       guests = c.push_reserved.ensures.items ∙ rw c.in_ok-reserve.ensures.items refl;
       bytes = refl;
@@ -35,7 +35,7 @@ returns c =
       same = record { tag = refl; limits = refl; producers = refl; kept = refl; consumers = refl; contexts = refl; trapped = refl };
       counter = refl;
       streams = refl;
-      live_streams = refl;
+      places = refl;
       live_sets = refl;
       guests = c.push_reserved.ensures.items ∙ rw c.in_ok-reserve.ensures.items refl;
       bytes = refl;

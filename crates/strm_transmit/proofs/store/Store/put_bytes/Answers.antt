@@ -21,7 +21,7 @@ invariant_of-self c =
       same = record { tag = refl; limits = refl; producers = refl; kept = refl; consumers = refl; contexts = refl; trapped = refl };
       counter = refl;
       streams = refl;
-      live_streams = refl;
+      places = refl;
       live_sets = refl;
       count = refl;
       ready = refl;
@@ -37,7 +37,7 @@ returns c =
       same = record { tag = refl; limits = refl; producers = refl; kept = refl; consumers = refl; contexts = refl; trapped = refl };
       counter = refl;
       streams = refl;
-      live_streams = refl;
+      places = refl;
       live_sets = refl;
       count = refl;
       ready = refl;

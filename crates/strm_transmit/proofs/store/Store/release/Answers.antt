@@ -1,13 +1,16 @@
 use Rattle.std.proofs.Common.{◌≡◌, true, List, length, refl, sym, ap, ◌∙◌, subst, arith}
 use Rattle.std.proofs.lemmas.List.{length-set}
 use Rattle.strm_machine.specs.Moments.{is_end}
+use Rattle.strm_machine.specs.State.{stream_at}
+use Rattle.strm_machine.specs.Moves.{with_owner}
 use Rattle.strm_machine.specs.Tests.{end_named}
 use Rattle.strm_machine.specs.declared.streams.Stream.{Stream}
 use Rattle.strm_channels.specs.Guests.{guests_of}
 use Rattle.strm_transmit.specs.Telling.{Retells}
+use Rattle.strm_transmit.proofs.PlaceLemmas.{live_stays}
 use Rattle.strm_transmit.proofs.StoreLemmas.{set_at}
 use Rattle.strm_transmit.specs.Inside.{state_of}
-use Rattle.strm_transmit.proofs.EndingLemmas.{removable_named, named_made, named_end_is}
+use Rattle.strm_transmit.proofs.EndingLemmas.{removable_named, named_made, named_end_is, named_live}
 use Rattle.strm_transmit.proofs.MoveLemmas.{IsStore-released}
 use Rattle.strm_transmit.proofs.store.Store.release.Goals as goal
 
@@ -19,6 +22,12 @@ pub set_owner-requires-clause-there : goal.set_owner-requires-clause-there
 set_owner-requires-clause-there c =
     named_made (state_of c.self.inside) c.args.side c.args.end.now c.args.stream c.self.invariant.sound
     (rw (← c.self.view_is) at c.requires.fits) (rw (← c.self.view_is) at c.requires.stream)
+
+pub set_owner-requires-clause-gone : goal.set_owner-requires-clause-gone
+set_owner-requires-clause-gone c =
+    let state = state_of c.self.inside in
+    let fits = rw (← c.self.view_is) at c.requires.fits in
+    live_stays (stream_at state c.args.stream) (with_owner c.args.side (stream_at state c.args.stream) c.args.owner) (named_live state c.args.side c.args.end.now c.args.stream c.self.invariant.sound c.self.invariant.held fits (rw (← c.self.view_is) at c.requires.stream))
 
 pub index-requires : goal.index-requires
 index-requires c =
@@ -39,7 +48,7 @@ invariant_of-self c =
       same = record { tag = refl; limits = refl; producers = refl; kept = refl; consumers = refl; contexts = refl; trapped = refl };
       bytes = refl;
       live_sets = refl;
-      counted = c.set_owner.ensures.counted;
+      counted = c.set_owner.ensures.places;
       streams = c.set_owner.ensures.streams;
       retold = subst (λ (x : Stream). Retells (guests_of c.remove_end.new.guests.items) x c.leave.new.ready.items c.retell.new.ready.items)
           (set_at i.streams.items c.set_owner.new.streams.items c.args.stream _ c.index.result.now made c.set_owner.ensures.streams c.index.ensures) c.retell.ensures;

@@ -25,7 +25,7 @@ invariant_of-self c =
     let fits = rw (← c.self.view_is) at c.requires in
     let did = c.share_context.ensures in
     IsStore-gives c.self.inside _ c.args.guest c.args.context _
-    (record { tag = refl; limits = refl; trapped = refl; streams = refl; producers = refl; kept = refl; consumers = refl; live_streams = refl; live_sets = refl; bytes = refl; ready = refl })
+    (record { tag = refl; limits = refl; trapped = refl; streams = refl; producers = refl; kept = refl; consumers = refl; places = refl; live_sets = refl; bytes = refl; ready = refl })
     c.share_context.result
     (record { gives = did.gives; others = did.contexts; same = did.same })
     (fits_below c.self.inside c.self.invariant fits.handle.handles)
@@ -38,7 +38,7 @@ invariant_of-self-2 c =
     let fits = rw (← c.self.view_is) at c.requires in
     let did = c.share_context.ensures in
     IsStore-gives c.self.inside _ c.args.guest c.args.context _
-    (record { tag = refl; limits = refl; trapped = refl; streams = refl; producers = refl; kept = refl; consumers = refl; live_streams = refl; live_sets = refl; bytes = refl; ready = refl })
+    (record { tag = refl; limits = refl; trapped = refl; streams = refl; producers = refl; kept = refl; consumers = refl; places = refl; live_sets = refl; bytes = refl; ready = refl })
     c.share_context.result
     (record { gives = did.gives; others = did.contexts; same = did.same })
     (fits_below c.self.inside c.self.invariant fits.handle.handles)

@@ -26,7 +26,7 @@ invariant_of-self c =
       same = record { tag = refl; limits = refl; producers = refl; kept = refl; consumers = refl; contexts = refl; trapped = refl };
       counter = refl;
       streams = refl;
-      live_streams = refl;
+      places = refl;
       live_sets = refl;
       count = refl;
       ready = refl;
@@ -43,7 +43,7 @@ returns c =
       same = record { tag = refl; limits = refl; producers = refl; kept = refl; consumers = refl; contexts = refl; trapped = refl };
       counter = refl;
       streams = refl;
-      live_streams = refl;
+      places = refl;
       live_sets = refl;
       count = refl;
       ready = refl;

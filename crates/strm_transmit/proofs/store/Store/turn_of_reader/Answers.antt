@@ -1,12 +1,14 @@
-use mir.Val.{bool_byte}
-use Rattle.std.proofs.Common.{◌≡◌, refl, ap, ◌∙◌, subst}
-use Rattle.strm_machine.specs.State.{State, stream_at}
+use Rattle.std.proofs.Common.{◌≡◌, set, refl, sym, ap, ◌∙◌, subst}
+use Rattle.strm_machine.specs.State.{State, stream_at, is_live}
+use Rattle.strm_machine.specs.declared.streams.Side.TheVariants.{Reading}
 use Rattle.strm_machine.specs.declared.streams.Stream.{Stream}
 use Rattle.strm_machine.proofs.SoundLemmas.{placed_at}
 use Rattle.strm_transmit.specs.Inside.{state_of}
+use Rattle.strm_transmit.specs.Places.{Places, ArePlaces}
+use Rattle.strm_transmit.proofs.PlaceLemmas.{ArePlaces-settled, some_live, some_room, host_live, live_stays}
 use Rattle.strm_transmit.proofs.StoreLemmas.{stream_at-there}
 use Rattle.strm_transmit.proofs.ReaderTurnLemmas.{take_keeps}
-use Rattle.strm_transmit.proofs.SceneStoreLemmas.{live_counted, taking_of, IsStore-taking, reader_kept, reading_fits}
+use Rattle.strm_transmit.proofs.SceneStoreLemmas.{taking_of, IsStore-taking, reader_kept, reading_fits}
 use Rattle.strm_transmit.proofs.store.Store.turn_of_reader.Goals as goal
 
 pub bounds-self-inside-number : goal.bounds-self-inside-number
@@ -23,6 +25,15 @@ reader_turn_at-taken-requires-clause-payload g c =
     let now = subst (λ (x : State). stream_at x c.args.stream ≡ c.index_mut-served.result.now) c.self.view_is here in
     (reading_fits c.self.inside c.args.self.now c.args.number c.args.stream c.self.view_is c.self.invariant c.requires.owner _ c.requires.fits).payload
     ∙ ap (λ (x : Stream). x.payload) now
+
+pub settle-requires-clause-live : goal.settle-requires-clause-live
+settle-requires-clause-live g c =
+    λ was. some_live c.self.inside.places c.self.inside.streams.items c.args.stream (rw (← c.self.view_is) at c.requires.there)
+    (host_live (stream_at (state_of c.self.inside) c.args.stream) Reading c.args.number (rw (← c.self.view_is) at c.requires.owner)) c.self.invariant.places
+
+pub settle-requires-clause-room : goal.settle-requires-clause-room
+settle-requires-clause-room g c =
+    λ was. some_room c.self.inside.places c.self.inside.streams.items (settle-requires-clause-live g c was) c.self.invariant.places
 
 pub invariant_of-self : goal.invariant_of-self
 invariant_of-self g c =
@@ -41,9 +52,9 @@ invariant_of-self g c =
       counter = refl;
       live_sets = refl;
       bytes = refl;
-      counted = live_counted c.self.inside.streams.items c.args.stream c.index_mut-served.result.now c.reader_turn_at-taken.new.stream
-          c.self.inside.live_streams c.from.result c.from-2.result there c.index_mut-served.ensures.value c.self.invariant.streams
-          (c.from.ensures ∙ ap bool_byte c.is_live-was_live.ensures) (c.from-2.ensures ∙ ap bool_byte c.is_live.ensures);
+      counted = subst (λ (p : Places). ArePlaces p (set c.self.inside.streams.items c.args.stream c.reader_turn_at-taken.new.stream)) (sym c.settle.ensures)
+          (ArePlaces-settled c.self.inside.streams.items c.args.stream c.reader_turn_at-taken.new.stream there c.self.inside.places c.is_live-was_live.result c.is_live.result
+          (c.is_live-was_live.ensures ∙ ap is_live (sym here)) c.is_live.ensures (live_stays (stream_at (state_of c.self.inside) c.args.stream) c.reader_turn_at-taken.new.stream (host_live (stream_at (state_of c.self.inside) c.args.stream) Reading c.args.number owner)) c.self.invariant.places);
       guests = refl;
       streams = refl;
       producers = refl;

@@ -22,7 +22,7 @@ invariant_of-self c =
       same = record { tag = refl; limits = refl; producers = refl; kept = refl; consumers = refl; contexts = refl; trapped = refl };
       counter = refl;
       guests = refl;
-      live_streams = refl;
+      places = refl;
       live_sets = refl;
       bytes = refl;
       streams = ap (set c.self.inside.streams.items c.args.stream) (c.withdraw.ensures ∙ ap report_withdrawn (sym here));

@@ -7,4 +7,4 @@ invariant_of-self-2 c =
     let s = c.self.inside in
     let is : s.sets.items ≡ c.as_slice.result.now = sym c.as_slice.ensures.value in
     let number = c.first_free-number.result in
-    tied-placed s.sets.items c.place.new.slots.items s.homes s.hint number c.self.invariant (rw is c.first_free-number.ensures.inside) (rw is c.first_free-number.ensures.taken) c.in_ok-place.ensures.flags c.in_ok-place.ensures.members
+    tied-placed s.sets.items c.place.new.slots.items s.homes.items s.hint number c.self.invariant (rw is c.first_free-number.ensures.inside) (rw is c.first_free-number.ensures.taken) c.in_ok-place.ensures.flags c.in_ok-place.ensures.counts

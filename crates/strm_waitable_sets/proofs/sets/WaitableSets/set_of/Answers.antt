@@ -1,9 +1,11 @@
 use Rattle.std.proofs.Common.{ap, sym, ◌∙◌}
-use Rattle.std.specs.FinMap as map
+use Rattle.strm_waitable_sets.specs.Homes.{home_at}
+use Rattle.strm_waitable_sets.specs.Sets.{set_of}
 use Rattle.strm_waitable_sets.proofs.HomeLemmas.{get-seen}
 use Rattle.strm_waitable_sets.proofs.sets.WaitableSets.set_of.Goals as goal
 
 pub returns : goal.returns
 returns c =
-    c.copied.ensures ∙ c.get.ensures.value ∙ sym (get-seen c.self.inside.homes c.args.handle)
-    ∙ ap (λ s. map.get s.homes c.args.handle) c.self.view_is
+    c.home_at.ensures ∙ ap (λ homes. home_at homes c.args.handle) c.as_slice.ensures.value
+    ∙ sym (get-seen c.self.inside.homes.items c.args.handle)
+    ∙ ap (λ sets. set_of sets c.args.handle) c.self.view_is

@@ -1,0 +1,5 @@
+pub mod Renaming
+pub mod Runs
+pub mod Lives
+pub mod Isolation
+pub mod Shares
