@@ -5,7 +5,7 @@ use Rattle.std.proofs.lemmas.Option.{none-some}
 use Rattle.strm_machine.specs.declared.steps.Step.{Step}
 use Rattle.strm_machine.specs.declared.steps.Step.TheVariants.{Guest, New, Between, Write, Read, DropWrite, DropRead, CancelWrite, CancelRead, Move, Lift, Lower, Close, HostNew, Feed, Pipe, Grant, Drive, Event, SetNew, SetJoin, SetPoll, SetDrop, ErrNew, ErrText, ErrMove, ErrDrop, Poke, Dump}
 use Rattle.strm_lines.specs.Grammar.{Argument, line_of, spelling, HasLine}
-use Rattle.strm_lines.specs.Reading.{Command, command, behind, read_by, explaining, gathering, hosting, moving, ending, pairing, making, touching, often, step_of}
+use Rattle.strm_lines.specs.Reading.{Command, command, behind, read_by, explaining, gathering, hosting, moving, ending, pairing, opening, making, touching, often, step_of}
 use Rattle.strm_lines.proofs.CutLemmas.{option_map_some}
 use Rattle.strm_lines.proofs.ReadingLemmas.{behind_sound}
 use Rattle.strm_lines.proofs.ArgumentLemmas.{text, AreArguments, AreArguments-from_all, All-from_arguments, AreRead, AreRead-nothing, AreRead-number, AreRead-two_numbers, AreRead-three_numbers, AreRead-number_and_type, AreRead-two_numbers_and_type, AreRead-named_end, AreRead-end_and_guest, AreRead-operands, AreRead-number_and_fed, AreRead-place_and_bytes, AreRead-place_and_len}
@@ -102,12 +102,13 @@ pairing_sound : AreSound pairing
 unfolding pairing
 pairing_sound = (made _ _ AreRead-two_numbers_and_type (λ v. refl) (λ v. refl), ending_sound)
 
+opening_sound : AreSound opening
+unfolding opening
+opening_sound = (made _ _ AreRead-number_and_type (λ v. refl) (λ v. refl), pairing_sound)
+
 making_sound : AreSound making
 unfolding making
-making_sound = (
-  made _ _ AreRead-number (λ v. refl) (λ v. refl),
-  (made _ _ AreRead-number_and_type (λ v. refl) (λ v. refl), pairing_sound),
-)
+making_sound = (made _ _ AreRead-number (λ v. refl) (λ v. refl), opening_sound)
 
 touching_sound : AreSound touching
 unfolding touching
@@ -142,7 +143,7 @@ step_sound line s e = read_by_sound often line s often_sound e
 -- what is spelled is read as the step
 
 step_read : (s : Step) → AreArguments (line_of s).arguments → step_of (spelling s) ≡ Some s
-unfolding step_of behind often touching making pairing ending moving hosting gathering explaining
+unfolding step_of behind often touching making opening pairing ending moving hosting gathering explaining
 step_read (Guest size) h = rw (AreRead-number.reading.complete size h) refl
 step_read (New guest ty) h = rw (AreRead-number_and_type.reading.complete (guest, ty) h) refl
 step_read (Between writer reader ty) h = rw (AreRead-two_numbers_and_type.reading.complete (writer, reader, ty) h) refl

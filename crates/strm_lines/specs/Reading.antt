@@ -278,11 +278,13 @@ ending =
 unfoldable pub pairing : List Command
 pairing = command (codes "pair ") two_numbers_and_type (λ v. Between v.0 v.1 v.2) ∷ ending
 
--- those that make guests and streams
+-- the one that makes streams of one guest
+unfoldable pub opening : List Command
+opening = command (codes "new ") number_and_type (λ v. New v.0 v.1) ∷ pairing
+
+-- the one that makes guests
 unfoldable pub making : List Command
-making =
-    command (codes "guest ") decimal_number Guest
-    ∷ command (codes "new ") number_and_type (λ v. New v.0 v.1) ∷ pairing
+making = command (codes "guest ") decimal_number Guest ∷ opening
 
 -- those of a guest's memory
 unfoldable pub touching : List Command
@@ -302,6 +304,7 @@ abbrev pub commands_of : Group → List Command
 commands_of groups.Often = often
 commands_of groups.Touching = touching
 commands_of groups.Making = making
+commands_of groups.Opening = opening
 commands_of groups.Pairing = pairing
 commands_of groups.Ending = ending
 commands_of groups.Moving = moving

@@ -5,7 +5,7 @@
 
 ghost use Rattle.std.specs.Prelude.{◌≡◌, ◌<◌, [], ◌∷◌, ◌++◌, true, is_some, slice_index_or};
 ghost use Rattle.std.specs.Option.{option_to_list};
-ghost use Rattle.strm_lines.specs.Reading.{often, touching, making, pairing, ending, moving, hosting, gathering, explaining, commands_of, read_by, step_of};
+ghost use Rattle.strm_lines.specs.Reading.{often, touching, making, opening, pairing, ending, moving, hosting, gathering, explaining, commands_of, read_by, step_of};
 
 mod arguments;
 
@@ -23,6 +23,7 @@ enum Group {
     Often,
     Touching,
     Making,
+    Opening,
     Pairing,
     Ending,
     Moving,
@@ -56,8 +57,9 @@ fn group_of(line: &[u8]) -> Group
             _ => Group::Often,
         },
         b'f' | b'h' => Group::Hosting,
-        b'g' | b'n' => Group::Making,
+        b'g' => Group::Making,
         b'l' | b'm' => Group::Moving,
+        b'n' => Group::Opening,
         b'p' => match byte_at(line, 1) {
             b'a' => Group::Pairing,
             b'i' => Group::Hosting,
@@ -91,6 +93,7 @@ pub(crate) fn keep_line<L: TakesSteps>(steps: &mut L, line: &[u8]) -> bool
         Group::Often => keep_often(steps, line),
         Group::Touching => keep_touching(steps, line),
         Group::Making => keep_making(steps, line),
+        Group::Opening => keep_opening(steps, line),
         Group::Pairing => keep_pairing(steps, line),
         Group::Ending => keep_ending(steps, line),
         Group::Moving => keep_moving(steps, line),
@@ -184,8 +187,8 @@ fn keep_touching<L: TakesSteps>(steps: &mut L, line: &[u8]) -> bool
     }
 }
 
-// The same of what makes guests and streams.
-#[tactic(auto, unfolding(crate::specs::Reading::making, crate::specs::Reading::behind))]
+// The same of what makes guests.
+#[tactic(auto, unfolding(crate::specs::Reading::making))]
 fn keep_making<L: TakesSteps>(steps: &mut L, line: &[u8]) -> bool
     requires room { 0 < L.room steps.old }
     ensures items { L.steps steps.new
@@ -197,7 +200,20 @@ fn keep_making<L: TakesSteps>(steps: &mut L, line: &[u8]) -> bool
             return false;
         };
         keep(steps, Step::Guest { size })
-    } else if let Some(rest) = behind(line, b"new ") {
+    } else {
+        keep_opening(steps, line)
+    }
+}
+
+// The same of streams of one guest.
+#[tactic(auto, unfolding(crate::specs::Reading::opening))]
+fn keep_opening<L: TakesSteps>(steps: &mut L, line: &[u8]) -> bool
+    requires room { 0 < L.room steps.old }
+    ensures items { L.steps steps.new
+        ≡ L.steps steps.old ++ option_to_list (read_by opening line.now) }
+    ensures found { result ≡ is_some (read_by opening line.now) }
+{
+    if let Some(rest) = behind(line, b"new ") {
         let Some((guest, ty)) = number_and_type(rest) else {
             return false;
         };
