@@ -221,14 +221,7 @@ IsWord-type = record { spaceless = type_spaceless }
 pub leading_bytes : (line rest : List ℕ) → behind (codes "stream:u8 ") line ≡ Some rest → leading type_read line ≡ Some (Stream (One U8), rest)
 leading_bytes line rest e = ap (leading type_read) (behind_sound (codes "stream:u8 ") line rest e) ∙ leading_complete IsReading-type IsWord-type (Stream (One U8)) rest tt
 
-pub leading_byte : (line rest : List ℕ) → behind (codes "future:u8 ") line ≡ Some rest → leading type_read line ≡ Some (Future (One U8), rest)
-leading_byte line rest e = ap (leading type_read) (behind_sound (codes "future:u8 ") line rest e) ∙ leading_complete IsReading-type IsWord-type (Future (One U8)) rest tt
-
 -- a word that is this type
-pub whole_byte : (word rest : List ℕ) → behind (codes "future:u8") word ≡ Some rest → length rest ≡ 0 → type_read word ≡ Some (Future (One U8))
-whole_byte word [] e h = ap type_read (behind_sound (codes "future:u8") word [] e) ∙ type_complete (Future (One U8)) tt
-whole_byte word (x ∷ rest) e h = absurd (omega (arith, h))
-
 pub whole_bytes : (word rest : List ℕ) → behind (codes "stream:u8") word ≡ Some rest → length rest ≡ 0 → type_read word ≡ Some (Stream (One U8))
 whole_bytes word [] e h = ap type_read (behind_sound (codes "stream:u8") word [] e) ∙ type_complete (Stream (One U8)) tt
 whole_bytes word (x ∷ rest) e h = absurd (omega (arith, h))

@@ -256,21 +256,9 @@ pub(crate) fn transmit_type(word: &[u8]) -> Option<TransmitIndex>
     other_type(word)
 }
 
-// The same of any other type: that of most futures first.
-fn other_type(word: &[u8]) -> Option<TransmitIndex>
-    ensures { result ≡ type_read word.now }
-{
-    if let Some(rest) = behind_both(word, b"future:u", b"8") {
-        if rest.is_empty() {
-            return Some(TransmitIndex::Future(Payload::One(Scalar::U8)));
-        }
-    }
-    any_type(word)
-}
-
 // The same of any type of a stream or future: a kind, a colon and a payload.
 #[tactic(auto, unfolding(crate::specs::Reading::type_read))]
-fn any_type(word: &[u8]) -> Option<TransmitIndex>
+fn other_type(word: &[u8]) -> Option<TransmitIndex>
     ensures { result ≡ type_read word.now }
 {
     if let Some(rest) = behind(word, b"stream:") {
@@ -294,24 +282,14 @@ pub(crate) fn leading_type(line: &[u8]) -> Option<(TransmitIndex, &[u8])>
     }
 }
 
-// The same of any other type: that of most futures first.
+// The same of any type.
 #[inline(never)]
+#[tactic(auto, unfolding(crate::specs::Reading::leading))]
 fn leading_other_type(line: &[u8]) -> Option<(TransmitIndex, &[u8])>
     ensures { option_map (λ p. (p.0, p.1.now)) result ≡ leading type_read line.now }
 {
-    match behind_both(line, b"future:u", b"8 ") {
-        Some(rest) => Some((TransmitIndex::Future(Payload::One(Scalar::U8)), rest)),
-        None => leading_any_type(line),
-    }
-}
-
-// The same of any type.
-#[tactic(auto, unfolding(crate::specs::Reading::leading))]
-fn leading_any_type(line: &[u8]) -> Option<(TransmitIndex, &[u8])>
-    ensures { option_map (λ p. (p.0, p.1.now)) result ≡ leading type_read line.now }
-{
     let (word, rest) = cut(b' ', line)?;
-    let ty = any_type(word)?;
+    let ty = other_type(word)?;
     Some((ty, rest))
 }
 
