@@ -13,18 +13,6 @@ use strm_codes::payloads::Payload;
 use strm_codes::scalars::Scalar;
 use strm_memory::payloaded::Payloaded;
 
-#[test]
-fn what_is_moved_leaves_the_front(rt: HostRuntime) {
-    let mut buffer = VecBuffer::from_vec(vector(&rt, rt.alloc(), &[1, 2, 3]));
-    let mut out: Vec<u8> = Vec::with_capacity(rt.alloc(), 1).expect(&rt, "memory");
-    out.move_from(&mut buffer, 1);
-    is(&rt, buffer.remaining(), [2, 3].as_slice());
-    let mut one: Option<u8> = None;
-    one.move_from(&mut buffer, 1);
-    is(&rt, buffer.remaining(), [3].as_slice());
-    is(&rt, one, Some(2));
-}
-
 // One byte of three to a vector, and one to a buffer of `bytes`.
 fn two_are_moved<B: WriteBuffer<u8>>(rt: &impl Abort, alloc: Global, mut buffer: B) -> B
     requires { B.items buffer ≡ 1 ∷ 2 ∷ 3 ∷ [] }
@@ -46,6 +34,8 @@ fn blocks_of_bytes_are_buffers(rt: HostRuntime) {
     let bytes = Bytes::from_vec(vector(&rt, alloc, &[1, 2, 3])).expect(&rt, "memory");
     let _ = two_are_moved(&rt, alloc, bytes);
     let bytes = BytesMut::from_vec(vector(&rt, alloc, &[1, 2, 3]));
+    let _ = two_are_moved(&rt, alloc, bytes);
+    let bytes = VecBuffer::from_vec(vector(&rt, alloc, &[1, 2, 3]));
     let _ = two_are_moved(&rt, alloc, bytes);
 }
 

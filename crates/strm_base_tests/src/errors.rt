@@ -95,15 +95,15 @@ const HANDLE_ERRORS: [(HandleError, &str); 10] = [
 
 #[test]
 fn refusals_print(rt: HostRuntime) {
-    for (refusal, text) in REFUSALS {
-        display_is(&rt, rt.alloc(), &refusal, text);
+    for (refusal, text) in &REFUSALS {
+        display_is(&rt, rt.alloc(), refusal, text);
     }
 }
 
 #[test]
 fn handle_errors_print(rt: HostRuntime) {
-    for (error, text) in HANDLE_ERRORS {
-        display_is(&rt, rt.alloc(), &error, text);
+    for (error, text) in &HANDLE_ERRORS {
+        display_is(&rt, rt.alloc(), error, text);
     }
 }
 

@@ -1,6 +1,5 @@
-//! What no clause of the base crates says: worked cases of codes, payloads, ids, memories, reports,
-//! waitable sets, error contexts, both tables, buffers and the program's host ends, and each of their calls
-//! once with ample memory.
+//! What no clause of the base crates says: worked cases of codes, payloads, ids, memories, both tables,
+//! buffers and host ends, and each of their calls once with ample memory that no script of `examples/` comes to.
 //!
 //! Public calls alone, so that the crates below are not proved once more for them.
 #![tactic(auto)]
@@ -11,8 +10,6 @@ mod answers;
 mod buffers;
 #[cfg(test)]
 mod codes;
-#[cfg(test)]
-mod contexts;
 #[cfg(test)]
 mod ends;
 #[cfg(test)]
@@ -29,10 +26,6 @@ mod memories;
 mod messages;
 #[cfg(test)]
 mod payloads;
-#[cfg(test)]
-mod queues;
-#[cfg(test)]
-mod reports;
 #[cfg(test)]
 mod resources;
 #[cfg(test)]

@@ -11,91 +11,10 @@ use strm_codes::counts::ItemCount;
 use strm_codes::payloads::Payload;
 use strm_codes::scalars::Scalar;
 use strm_codes::values::Value;
-use strm_memory::copies::{BadItem, copy_items};
 use strm_memory::items::{LiftError, lift_items, lower_items};
-use strm_memory::memories::{GuestMemory, OutOfBounds, RegionError};
-use strm_memory::moves::{copy_within_items, move_bytes, move_within};
+use strm_memory::memories::{GuestMemory, OutOfBounds};
 
 const BYTES: Payload = Payload::One(Scalar::U8);
-
-const WORD: Payload = Payload::One(Scalar::U32);
-
-const WIDE: Payload = Payload::One(Scalar::U64);
-
-// Eight bytes copied over eight bytes aa.
-fn copied(payload: Payload, count: ItemCount, source: &[u8; 8]) -> Option<[u8; 8]> {
-    let mut destination = [0xaa; 8];
-    if payload.size() as usize * count.as_usize() > 8 {
-        return None;
-    }
-    match copy_items(source, &mut destination, payload, count) {
-        Ok(()) => Some(destination),
-        Err(BadItem) => None,
-    }
-}
-
-fn copies(
-    rt: &impl Abort,
-    payload: Payload,
-    count: u32,
-    source: &[u8; 8],
-    wanted: Option<[u8; 8]>,
-) {
-    is(rt, copied(payload, items(count), source), wanted);
-}
-
-#[test]
-fn copies_lift_and_lower(rt: HostRuntime) {
-    copies(
-        &rt,
-        tuple(&[Scalar::U8, Scalar::U32]),
-        1,
-        b"\x07\xff\xff\xff\x78\x56\x34\x12",
-        Some(*b"\x07\xaa\xaa\xaa\x78\x56\x34\x12"),
-    );
-    copies(
-        &rt,
-        tuple(&[Scalar::Bool, Scalar::U16, Scalar::Bool]),
-        1,
-        b"\x05\xff\x34\x12\x02\xff\xff\xff",
-        Some(*b"\x01\xaa\x34\x12\x01\xaa\xaa\xaa"),
-    );
-    copies(
-        &rt,
-        Payload::One(Scalar::Bool),
-        4,
-        b"\x05\x00\x01\xff\xff\xff\xff\xff",
-        Some(*b"\x01\x00\x01\x01\xaa\xaa\xaa\xaa"),
-    );
-    copies(
-        &rt,
-        Payload::One(Scalar::S16),
-        3,
-        b"\x01\x02\x03\x04\x05\x06\x07\x08",
-        Some(*b"\x01\x02\x03\x04\x05\x06\xaa\xaa"),
-    );
-    copies(
-        &rt,
-        Payload::One(Scalar::Char),
-        1,
-        b"\x41\x00\x00\x00\x00\xd8\x00\x00",
-        Some(*b"\x41\x00\x00\x00\xaa\xaa\xaa\xaa"),
-    );
-    copies(
-        &rt,
-        Payload::One(Scalar::Char),
-        2,
-        b"\x41\x00\x00\x00\x00\xd8\x00\x00",
-        None,
-    );
-    copies(
-        &rt,
-        Payload::Nothing,
-        9,
-        b"\x01\x02\x03\x04\x05\x06\x07\x08",
-        Some([0xaa; 8]),
-    );
-}
 
 fn value(rt: &impl Abort, numbers: &[i128]) -> Value {
     Value::new(numbers).expect(rt, "a value")
@@ -150,88 +69,6 @@ fn items_are_lowered(rt: HostRuntime) {
     is(&rt, found, *b"\xfe\xff\xaa\xaa\xff\xff\xff\xff");
 }
 
-// The numbers 0 to 47, and three items of them copied from 16 to another address.
-fn shifted(payload: Payload, to: u32) -> [u8; 48] {
-    let mut memory = [0; 48];
-    for k in 0..48u8 {
-        memory[k as usize] = k;
-    }
-    let count = items(3);
-    let len = payload.size() as usize * count.as_usize();
-    if payload.is_number() && len <= 16 && to <= 32 {
-        copy_within_items(&mut memory, 16, to, payload, count);
-    }
-    memory
-}
-
-// Each byte is its address, or that of the byte that was copied to it, `len` of them to `to`.
-fn is_shifted(rt: &impl Abort, memory: &[u8; 48], to: u8, len: u8) {
-    for k in 0..48u8 {
-        let from = if k >= to && k - to < len {
-            16 + (k - to)
-        } else {
-            k
-        };
-        assert!(rt; memory[k as usize] == from, "{len} bytes to {to} at {k}");
-    }
-}
-
-fn numbers_move(rt: &impl Abort, scalar: Scalar, len: u8) {
-    for to in 0..=32u8 {
-        is_shifted(rt, &shifted(Payload::One(scalar), u32::from(to)), to, len);
-    }
-}
-
-#[test]
-fn numbers_move_over_each_other(rt: HostRuntime) {
-    numbers_move(&rt, Scalar::U8, 3);
-    numbers_move(&rt, Scalar::U32, 12);
-}
-
-#[test]
-fn bytes_move(rt: HostRuntime) {
-    let mut memory = *b"\x01\x02\x03\x04\x05\x06\x07\x08";
-    move_within(&mut memory, 0, 2, 6);
-    is(&rt, memory, *b"\x01\x02\x01\x02\x03\x04\x05\x06");
-    move_bytes(b"\x08\x07\x06\x05\x04\x03\x02\x01", &mut memory);
-    is(&rt, memory, *b"\x08\x07\x06\x05\x04\x03\x02\x01");
-}
-
-type Region = Result<(), RegionError>;
-
-const INSIDE: Region = Ok(());
-
-const NOT_ALIGNED: Region = Err(RegionError::NotAligned);
-
-const OUT_OF_BOUNDS: Region = Err(RegionError::OutOfBounds);
-
-fn region_is(
-    rt: &impl Abort,
-    memory: &GuestMemory,
-    payload: Payload,
-    address: u32,
-    count: u32,
-    wanted: Region,
-) {
-    is(rt, memory.region(payload, address, items(count)), wanted);
-}
-
-#[test]
-fn regions_are_inside_and_aligned(rt: HostRuntime) {
-    let memory = made(&rt, rt.alloc(), 16);
-    region_is(&rt, &memory, WORD, 2, 1, NOT_ALIGNED);
-    region_is(&rt, &memory, WORD, 16, 1, OUT_OF_BOUNDS);
-    region_is(&rt, &memory, WORD, 13, 1, OUT_OF_BOUNDS);
-    region_is(&rt, &memory, WORD, 2, 0, INSIDE);
-    region_is(&rt, &memory, WORD, 12, 1, INSIDE);
-    let most = 268_435_455;
-    region_is(&rt, &memory, Payload::Nothing, u32::MAX, most, INSIDE);
-    region_is(&rt, &memory, WIDE, 1, most, OUT_OF_BOUNDS);
-    let pair = [Scalar::U8, Scalar::U16];
-    region_is(&rt, &memory, tuple(&pair), 4, 3, INSIDE);
-    region_is(&rt, &memory, tuple(&pair), 5, 1, NOT_ALIGNED);
-}
-
 fn made(rt: &impl Abort, alloc: Global, size: u32) -> GuestMemory
     ensures { length result.bytes ≡ size }
 {
@@ -264,22 +101,6 @@ fn three(rt: &impl Abort) -> ItemCount
     let count = items(3);
     is(rt, count.as_u32(), 3);
     count
-}
-
-#[test]
-fn memories_receive_items(rt: HostRuntime) {
-    let writer = filled(&rt, rt.alloc(), 1);
-    let mut reader = made(&rt, rt.alloc(), 8);
-    is(
-        &rt,
-        reader.receive(4, &writer, 1, BYTES, three(&rt)),
-        Ok(()),
-    );
-    is(
-        &rt,
-        reader.bytes(),
-        b"\x00\x00\x00\x00\x01\x02\x03\x00".as_slice(),
-    );
 }
 
 #[test]

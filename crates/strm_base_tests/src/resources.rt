@@ -183,7 +183,7 @@ fn the_number_freed_last_is_given_first(rt: HostRuntime) {
     is(&rt, table.is_empty(), false);
 }
 
-const CAPACITIES: [(Call, Answer); 11] = [
+const CAPACITIES: [(Call, Answer); 22] = [
     (Call::SetMaxCapacity(0), Ok(0)),
     (Call::PushRed(0), Err(ResourceTableError::Full)),
     (Call::SetMaxCapacity(1), Ok(0)),
@@ -195,6 +195,17 @@ const CAPACITIES: [(Call, Answer); 11] = [
     (Call::PushRed(0), Ok(0)),
     (Call::DeleteRed(0), Ok(0)),
     (Call::SetMaxCapacity(10), Ok(0)),
+    (Call::PushRed(0), Ok(0)),
+    (Call::PushRed(0), Ok(1)),
+    (Call::PushRed(0), Ok(2)),
+    (Call::PushRed(0), Ok(3)),
+    (Call::PushRed(0), Ok(4)),
+    (Call::PushRed(0), Ok(5)),
+    (Call::PushRed(0), Ok(6)),
+    (Call::PushRed(0), Ok(7)),
+    (Call::PushRed(0), Ok(8)),
+    (Call::PushRed(0), Ok(9)),
+    (Call::PushRed(0), Err(ResourceTableError::Full)),
 ];
 
 #[test]
@@ -202,14 +213,6 @@ fn a_table_is_full_at_its_capacity(rt: HostRuntime) {
     let mut table = ResourceTable::with_capacity(rt.alloc(), 3).expect(&rt, "memory");
     is(&rt, table.max_capacity(), 1_000_000);
     is(&rt, first_wrong(&mut table, &CAPACITIES), 0);
-    push_ten(&rt, &mut table);
-    is(&rt, push_red(&mut table, 0), Err(ResourceTableError::Full));
-}
-
-fn push_ten(rt: &impl Abort, table: &mut ResourceTable<Item>) {
-    for number in 0..10u32 {
-        is(rt, push_red(table, 0), Ok(number));
-    }
 }
 
 const REFUSED: [(Call, Answer); 20] = [
@@ -301,7 +304,7 @@ const TEXTS: [(ResourceTableError, &str); 7] = [
 
 #[test]
 fn errors_print(rt: HostRuntime) {
-    for (error, text) in TEXTS {
-        display_is(&rt, rt.alloc(), &error, text);
+    for (error, text) in &TEXTS {
+        display_is(&rt, rt.alloc(), error, text);
     }
 }

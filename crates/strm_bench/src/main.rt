@@ -1,34 +1,25 @@
-//! Times what a list of steps cannot time: the handle table under inserts, removals and look-ups, calls of the
-//! store, a demux that is fed in pieces, and the reading and writing of tapes. `words` has what the program's
-//! words choose of it.
+//! Times what a list of steps cannot time: calls of the store, copies of items, a demux that is fed in pieces, and
+//! the reading and writing of tapes. `words` has what the program's words choose of it.
 //!
 //! Sums go to standard output and are the same in every run; times go to standard error.
 #![tactic(auto)]
 
 mod copies;
-mod draws;
-mod filled;
-mod guests;
 mod hosted;
 mod lanes;
 mod piped;
 mod pipes;
 mod rounds;
 mod sums;
-mod tables;
 mod taken;
 mod tapes;
-mod windows;
 mod words;
 
 ghost use Rattle.strm_host_machine.specs.Does.{Fits};
 
 use crate::copies::{COUNTS, Copies};
-use crate::filled::{COUNT, Filled};
 use crate::hosted::{FED, LISTED, Reading};
-use crate::tables::Sums;
 use crate::taken::{BESIDE, DRIVES, Writing};
-use crate::windows::ITEMS;
 use crate::words::Timed;
 use std::io;
 use std::time::Instant;
@@ -42,13 +33,11 @@ use strm_codes::scalars::Scalar;
 use strm_host::erased::Erased;
 use strm_host::erased_readers::ErasedReader;
 use strm_host_tests::copying::Copying;
-use strm_memory::memories::GuestMemory;
-use strm_memory::payloaded::Payloaded;
 use strm_program_ends::credit_reader::CreditReader;
 use strm_program_ends::queue_writer::QueueWriter;
 use strm_transmit::host_ends::HostEnds;
 
-/// The payload of every stream in the handle tables, and without a second word of the rounds'.
+/// The payload of every stream, and without a second word of the rounds'.
 const BYTES: Payload = Payload::One(Scalar::U8);
 
 fn main(rt: HostRuntime) -> io::Result<()> {
@@ -67,19 +56,12 @@ fn main(rt: HostRuntime) -> io::Result<()> {
 // All but frames and tapes.
 fn time_store(rt: &HostRuntime) -> io::Result<()> {
     let turns = words::turns(rt)?;
-    time_mixed(rt, turns)?;
-    time_filled(rt, turns)?;
     time_rounds(rt, words::items(rt)?, turns)?;
     for (name, payload) in copies::layouts() {
         for count in COUNTS {
             time_copies(rt, name, payload, count, turns)?;
         }
     }
-    for room in windows::ROOMS {
-        time_windows(rt, room)?;
-    }
-    time_items(rt, "u32", 70_000u32)?;
-    time_items(rt, "(u8,u32)", (7u8, 70_000u32))?;
     time_feeds(rt, turns / 8)?;
     time_list(rt)?;
     time_grants(rt, turns / 8)?;
@@ -89,35 +71,14 @@ fn time_store(rt: &HostRuntime) -> io::Result<()> {
     time_drives(rt)
 }
 
-// What something adds up to.
-fn tell_sum(rt: &HostRuntime, name: &str, sum: u64) -> io::Result<()> {
-    println!(rt; "{name} {sum}")
-}
-
 // How long something took.
 pub(crate) fn tell_time(rt: &HostRuntime, what: &str, time: u128, unit: &str) -> io::Result<()> {
     eprintln!(rt; "{what}: {time} {unit}")
 }
 
-fn tell_turns(rt: &HostRuntime, sums: &Sums) -> io::Result<()> {
-    let (inserts, removals) = (sums.inserts, sums.removals);
-    println!(rt; "inserts {inserts} removals {removals}")?;
-    let (numbers, reps, live) = (sums.numbers, sums.reps, sums.live);
-    println!(rt; "numbers {numbers} reps {reps} live {live}")
-}
-
 fn tell_copies(rt: &HostRuntime, name: &str, count: u32, sum: u64, item: u128) -> io::Result<()> {
     println!(rt; "copied {count} of {name}: {sum}")?;
     eprintln!(rt; "{name} {count} {item}")
-}
-
-fn tell_windows(rt: &HostRuntime, room: u32, passed: u128, copied: u128) -> io::Result<()> {
-    eprintln!(rt; "16 MiB in windows of {room}: {passed} ns, copied: {copied} ns")
-}
-
-fn tell_items(rt: &HostRuntime, name: &str, count: u32, put: u128, taken: u128) -> io::Result<()> {
-    println!(rt; "took {count} of {name}")?;
-    eprintln!(rt; "put {name}: {put} ps, next: {taken} ps")
 }
 
 fn tell_reading(rt: &HostRuntime, name: &str, reading: &Reading) -> io::Result<()> {
@@ -128,60 +89,6 @@ fn tell_reading(rt: &HostRuntime, name: &str, reading: &Reading) -> io::Result<(
 fn tell_taken(rt: &HostRuntime, name: &str, writing: &Writing) -> io::Result<()> {
     let taken = writing.taken();
     println!(rt; "{name} {taken}")
-}
-
-// Inserts and removals in mixed order, on a table of up to 32,768 handles.
-fn time_mixed(rt: &HostRuntime, turns: u32) -> io::Result<()> {
-    let start = Instant::now(rt)?;
-    match tables::run(rt.alloc(), BYTES, turns) {
-        Ok(sums) => {
-            let spent = start.elapsed(rt)?.as_nanos();
-            tell_turns(rt, &sums)?;
-            let pairs = u128::from(turns / 2).max(1);
-            tell_time(rt, "an insert and a removal", spent / pairs, "ns")
-        }
-        Err(error) => eprintln!(rt; "{error:?}"),
-    }
-}
-
-// Look-ups in a full table, and removals each with an insert.
-fn time_filled(rt: &HostRuntime, turns: u32) -> io::Result<()> {
-    match Filled::new(rt.alloc(), BYTES) {
-        Ok(mut filled) => {
-            time_look_ups(rt, &filled, turns)?;
-            time_renewals(rt, &mut filled, turns)
-        }
-        Err(error) => eprintln!(rt; "{error:?}"),
-    }
-}
-
-// Look-ups in a full table.
-fn time_look_ups(rt: &HostRuntime, filled: &Filled, turns: u32) -> io::Result<()> {
-    let rounds = turns / COUNT as u32;
-    let start = Instant::now(rt)?;
-    match filled.look_up(rounds) {
-        Ok(sum) => {
-            let spent = start.elapsed(rt)?.as_nanos();
-            tell_sum(rt, "found", sum)?;
-            let picoseconds = spent / u128::from(rounds).max(1);
-            tell_time(rt, "a look-up", picoseconds, "ps")
-        }
-        Err(error) => eprintln!(rt; "{error:?}"),
-    }
-}
-
-// Removals in a full table, each with an insert.
-fn time_renewals(rt: &HostRuntime, filled: &mut Filled, turns: u32) -> io::Result<()> {
-    let start = Instant::now(rt)?;
-    match filled.renew(turns) {
-        Ok(sum) => {
-            let spent = start.elapsed(rt)?.as_nanos();
-            tell_sum(rt, "renewed", sum)?;
-            let picoseconds = spent.saturating_mul(1000) / u128::from(turns).max(1);
-            tell_time(rt, "a removal with an insert", picoseconds, "ps")
-        }
-        Err(error) => eprintln!(rt; "{error:?}"),
-    }
 }
 
 // Rounds of three calls on a store.
@@ -221,49 +128,6 @@ fn time_copies(
         }
         Err(error) => eprintln!(rt; "{error:?}"),
     }
-}
-
-// Bytes through windows of so much room, beside copies of as many each.
-fn time_windows(rt: &HostRuntime, room: u32) -> io::Result<()> {
-    let alloc = rt.alloc();
-    let source = GuestMemory::new(alloc, windows::BYTES);
-    let memory = GuestMemory::new(alloc, windows::BYTES);
-    let (Ok(source), Ok(mut memory)) = (source, memory) else {
-        return eprintln!(rt; "no memory");
-    };
-    for _ in 0..4 {
-        let start = Instant::now(rt)?;
-        windows::copy_bytes(&mut memory, source.bytes(), room);
-        let copied = start.elapsed(rt)?.as_nanos();
-        let start = Instant::now(rt)?;
-        memory = match windows::pass_bytes(memory, source.bytes(), room) {
-            Ok(memory) => memory,
-            Err(error) => return eprintln!(rt; "{error:?}"),
-        };
-        let passed = start.elapsed(rt)?.as_nanos();
-        tell_windows(rt, room, passed, copied)?;
-    }
-    let len = memory.len();
-    println!(rt; "passed {len} in windows of {room}")
-}
-
-// One item, put into a window and taken from an offer again and again.
-fn time_items<T: Payloaded>(rt: &HostRuntime, name: &str, value: T) -> io::Result<()> {
-    let mut window = match windows::new_window(rt.alloc(), T::payload()) {
-        Ok(window) => window,
-        Err(error) => return eprintln!(rt; "{error:?}"),
-    };
-    let item = value.lower();
-    let start = Instant::now(rt)?;
-    windows::put_all(&mut window, &item);
-    let put = start.elapsed(rt)?.as_nanos().saturating_mul(1000) / u128::from(ITEMS);
-    let Some(mut offer) = windows::offer_of(window) else {
-        return eprintln!(rt; "no offer");
-    };
-    let start = Instant::now(rt)?;
-    let count = windows::take_all(&mut offer);
-    let taken = start.elapsed(rt)?.as_nanos().saturating_mul(1000) / u128::from(ITEMS);
-    tell_items(rt, name, count, put, taken)
 }
 
 // Feeds of 64 bytes to a host writer, each read at once.

@@ -14,7 +14,7 @@ pub enum Timed {
     Tapes,
 }
 
-/// Turns without a word: about a million inserts and as many removals.
+/// Turns without a word.
 const TURNS: u32 = 2_000_000;
 
 /// The bytes of a stream of frames, or of a tape, without a word.

@@ -1,7 +1,5 @@
 //! The limits: eight stages, two that double, and 65,536 bytes; and one more of each.
 
-ghost use Rattle.std.specs.Prelude.{◌≤◌};
-
 use std::alloc::{AllocError, Global};
 use std::process::Abort;
 use strm_chain::chains::{Chain, ChainEnd, chain_all, chain_run};
@@ -41,30 +39,12 @@ fn is_whole(end: &ChainEnd, count: usize) -> bool {
     end.ended && is_four_times(end.output.as_slice(), count)
 }
 
-fn all_are_whole(alloc: Global, count: usize, chunk: u32) -> Result<bool, ChainError>
-    requires { (16 ≤ chunk) × (chunk ≤ 64) }
-{
-    let end = chain_all(alloc, FOUR_TIMES, bytes(alloc, count)?, chunk)?;
-    Ok(is_whole(&end, count))
-}
-
 fn holds(rt: &impl Abort, found: Result<bool, ChainError>) {
     assert_eq!(rt; found, Ok(true));
 }
 
 fn is_so(rt: &impl Abort, found: Result<bool, AllocError>) {
     assert_eq!(rt; found, Ok(true));
-}
-
-#[test]
-fn the_greatest_input_with_eight_stages(rt: HostRuntime) {
-    holds(&rt, all_are_whole(rt.alloc(), MAX_INPUT, 64));
-}
-
-// These pieces take the most steps.
-#[test]
-fn the_greatest_input_in_the_least_pieces(rt: HostRuntime) {
-    holds(&rt, all_are_whole(rt.alloc(), MAX_INPUT, 16));
 }
 
 // So many rounds of ten guests, the last one first.
@@ -122,7 +102,7 @@ const WORDS: [&str; 9] = [
 
 fn served_is_whole(alloc: Global, count: usize) -> Result<bool, AllocError> {
     let mut words = Vec::new(alloc);
-    for word in WORDS {
+    for word in &WORDS {
         words.push(String::from_str(alloc, word)?)?;
     }
     let mut source = BytesSource::new(bytes(alloc, count)?, 40_000, Vec::new(alloc));

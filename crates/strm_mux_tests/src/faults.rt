@@ -35,9 +35,9 @@ fn is_told(rt: &impl Abort, alloc: Global, stream: &[u8], cut: usize, fault: Mux
 
 #[test]
 fn each_fault_in_every_cut(rt: HostRuntime) {
-    for (stream, fault) in FAULTS {
+    for (stream, fault) in &FAULTS {
         for cut in 0..13usize {
-            is_told(&rt, rt.alloc(), stream, cut, fault);
+            is_told(&rt, rt.alloc(), stream, cut, *fault);
         }
     }
 }

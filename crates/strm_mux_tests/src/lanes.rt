@@ -67,9 +67,9 @@ fn come_back(rt: &impl Abort, alloc: Global, bytes: &[u8], wanted: usize) {
 
 #[test]
 fn long_puts_are_cut_into_frames(rt: HostRuntime) {
-    for (count, wanted) in LENGTHS {
-        let (bytes, _) = LONG.split_at(count.min(LONG.len()));
-        come_back(&rt, rt.alloc(), bytes, wanted);
+    for (count, wanted) in &LENGTHS {
+        let (bytes, _) = LONG.split_at((*count).min(LONG.len()));
+        come_back(&rt, rt.alloc(), bytes, *wanted);
     }
 }
 

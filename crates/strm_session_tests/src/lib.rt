@@ -12,9 +12,9 @@ mod pieces;
 #[cfg(test)]
 mod readers;
 #[cfg(test)]
-mod serving;
+mod scripts;
 #[cfg(test)]
-mod stops;
+mod serving;
 #[cfg(test)]
 mod texts;
 #[cfg(test)]

@@ -46,7 +46,7 @@ const GOOD: [&str; 20] = [
 
 #[test]
 fn good_lines(rt: HostRuntime) {
-    for input in GOOD {
+    for input in &GOOD {
         is_told(&rt, told(rt.alloc(), input.as_bytes()), 0, input);
     }
 }

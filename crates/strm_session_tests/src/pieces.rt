@@ -1,7 +1,5 @@
 //! A source and a sink in memory, which give and take bytes in pieces, and of which a call fails.
 
-ghost use Rattle.strm_session.specs.Runs.{HaveRoom};
-
 use std::alloc::{AllocError, Global};
 use std::process::Abort;
 use strm_session::in_memory::{BytesSink, BytesSource};
@@ -31,9 +29,10 @@ pub(crate) fn pieces_of_eight<H: HostEnds>(
     status: u8,
     text: &str,
     hosts: &mut H,
-) -> Result<bool, AllocError>
-    requires room { HaveRoom (H.tells hosts.old) }
-{
+) -> Result<bool, AllocError> {
+    if hosts.count_writers() > 64 || hosts.count_readers() > 64 {
+        return Ok(false);
+    }
     let mut words = Vec::new(alloc);
     words.push(String::from_str(alloc, "run")?)?;
     let read = vec![in alloc; failing.0]?;

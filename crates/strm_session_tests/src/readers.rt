@@ -1,43 +1,39 @@
 //! A host reader that follows a script, served: each rule that it owes, what comes where it is broken, and
 //! polls that are allowed beside it.
 
+use crate::scripts::{Takes, add_reader};
 use crate::serving::{BYTE, NONE, RUN, Row, is_served};
-use std::alloc::Global;
+use std::alloc::{AllocError, Global};
 use std::process::Abort;
-use std::test::Fail;
 use strm_buffers::answers::Answer;
 use strm_buffers::hosts::Hosts;
 use strm_codes::codes::TransmitKind;
 use strm_codes::payloads::Payload;
 use strm_codes::scalars::Scalar;
-use strm_program_ends::scripted_reader::{ReaderTurn, ScriptedReader};
 
 const CHAR: Payload = Payload::One(Scalar::Char);
 
 // How many items each poll takes at most, and what it answers; lines, their status and their text.
 struct Case {
-    turns: &'static [(u32, Answer)],
+    turns: &'static [Takes],
     input: &'static str,
     status: u8,
     text: &'static str,
 }
 
-// Whether a case comes so where the one host reader has this kind and payload.
-fn comes(alloc: Global, kind: TransmitKind, payload: Payload, case: &Case) -> Result<bool, Fail> {
-    let mut turns = Vec::new(alloc);
-    for (take, answer) in case.turns {
-        let turn = ReaderTurn {
-            take: *take,
-            answer: *answer,
-        };
-        turns.push(turn)?;
+// Each case comes so where the one host reader has this kind and payload.
+fn come(rt: &impl Abort, alloc: Global, kind: TransmitKind, payload: &Payload, cases: &[Case]) {
+    for case in cases {
+        comes(rt, alloc, kind, payload, case);
     }
-    let reader = ScriptedReader::new(alloc, kind, payload, turns);
+}
+
+fn comes(rt: &impl Abort, alloc: Global, kind: TransmitKind, payload: &Payload, case: &Case) {
     let mut hosts = Hosts {
         writers: Vec::new(alloc),
         readers: Vec::new(alloc),
     };
-    hosts.readers.push(Box::new(alloc, reader)?)?;
+    assert!(rt; add_reader(alloc, &mut hosts, kind, *payload, case.turns));
     let row = Row {
         words: RUN,
         input: case.input,
@@ -45,11 +41,11 @@ fn comes(alloc: Global, kind: TransmitKind, payload: Payload, case: &Case) -> Re
         status: case.status,
         text: case.text,
     };
-    Ok(is_served(alloc, &row, &mut hosts)?)
+    is_told(rt, is_served(alloc, &row, &mut hosts), case.input);
 }
 
-fn is_told(rt: &impl Abort, found: bool, input: &str) {
-    assert!(rt; found, "{input}");
+fn is_told(rt: &impl Abort, found: Result<bool, AllocError>, input: &str) {
+    assert!(rt; found == Ok(true), "{input}");
 }
 
 // On a stream: Completed with nothing taken, Cancelled unasked, Failed; and a run that ends with the
@@ -148,28 +144,16 @@ const OF_CHARS: [Case; 2] = [
 ];
 
 #[test]
-fn host_readers_of_streams(rt: HostRuntime) -> Result<(), Fail> {
-    for case in &OF_STREAMS {
-        let found = comes(rt.alloc(), TransmitKind::Stream, BYTE, case)?;
-        is_told(&rt, found, case.input);
-    }
-    Ok(())
+fn host_readers_of_streams(rt: HostRuntime) {
+    come(&rt, rt.alloc(), TransmitKind::Stream, &BYTE, &OF_STREAMS);
 }
 
 #[test]
-fn host_readers_of_futures(rt: HostRuntime) -> Result<(), Fail> {
-    for case in &OF_FUTURES {
-        let found = comes(rt.alloc(), TransmitKind::Future, BYTE, case)?;
-        is_told(&rt, found, case.input);
-    }
-    Ok(())
+fn host_readers_of_futures(rt: HostRuntime) {
+    come(&rt, rt.alloc(), TransmitKind::Future, &BYTE, &OF_FUTURES);
 }
 
 #[test]
-fn host_readers_of_chars(rt: HostRuntime) -> Result<(), Fail> {
-    for case in &OF_CHARS {
-        let found = comes(rt.alloc(), TransmitKind::Stream, CHAR, case)?;
-        is_told(&rt, found, case.input);
-    }
-    Ok(())
+fn host_readers_of_chars(rt: HostRuntime) {
+    come(&rt, rt.alloc(), TransmitKind::Stream, &CHAR, &OF_CHARS);
 }

@@ -5,7 +5,6 @@ use strm_codes::counts::OutOfMemory;
 use strm_codes::refusals::Refusal;
 use strm_machine::replies::Reply;
 use strm_session::lists::TextBytes;
-use strm_session::texts;
 use strm_session::texts::{bad_line_text, transcript_text};
 
 const REFUSED: [Reply; 1] = [Reply::Refused(Refusal::UnknownGuest)];
@@ -28,19 +27,4 @@ fn texts_of_runs(rt: HostRuntime) {
     is_text(&rt, text, COUNTED);
     is_text(&rt, transcript_text(rt.alloc(), &[], &[]), "done 0\n");
     is_text(&rt, bad_line_text(rt.alloc(), 262_144), "bad line 262144\n");
-}
-
-fn is_whole(rt: &impl Abort, found: &[u8], wanted: &str) {
-    assert!(rt; found == wanted.as_bytes(), "{wanted}");
-}
-
-#[test]
-fn texts_of_statuses(rt: HostRuntime) {
-    is_whole(
-        &rt,
-        texts::usage_text(),
-        "usage: strm run | strm gen N SEED\n",
-    );
-    is_whole(&rt, texts::too_long_text(), "too long\n");
-    is_whole(&rt, texts::read_fault_text(), "read fault\n");
 }

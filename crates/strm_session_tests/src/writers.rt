@@ -1,81 +1,37 @@
 //! A host writer that follows a script, served: each rule that it owes, what comes where it is broken, and
 //! polls that are allowed beside it; and each poll, read and write of the first eight that fails.
 
-ghost use Rattle.std.specs.Prelude.{◌≡◌, All, IfOk};
-ghost use Rattle.strm_codes.specs.declared.payloads.Payload.TheVariants.{One};
-ghost use Rattle.strm_codes.specs.declared.scalars.Scalar.TheVariants.{U8};
-
 use crate::pieces::pieces_of_eight;
-use crate::serving::{BYTE, NONE, RUN, Row, is_served};
-use std::alloc::Global;
+use crate::scripts::{Gives, add_writer};
+use crate::serving::{NONE, RUN, Row, is_served};
+use std::alloc::{AllocError, Global};
 use std::process::Abort;
-use std::test::Fail;
 use strm_buffers::answers::Answer;
 use strm_buffers::hosts::Hosts;
-use strm_buffers::items::Items;
 use strm_codes::codes::TransmitKind;
-use strm_program_ends::scripted_writer::{ScriptedWriter, WriterTurn};
-
-// What one poll produces, and what it answers.
-type Turn = (&'static [u8], Answer);
-
-// The turns of a host writer of bytes.
-#[derive(Drop)]
-struct Script {
-    turns: Vec<WriterTurn>,
-    ghost typed: { All (λ turn. turn.items.payload ≡ One U8) turns.items },
-}
-
-// These bytes, which are few.
-fn items_of(alloc: Global, bytes: &[u8]) -> Result<Items, Fail>
-    ensures { IfOk result (λ items. items.payload ≡ One U8) }
-{
-    if bytes.len() > 64 {
-        return Err(Fail::from("too many bytes"));
-    }
-    let values = bytes.to_vec(alloc)?;
-    Ok(Items::of_values(alloc, values)?)
-}
-
-impl Script {
-    fn push(&mut self, items: Items, answer: Answer) -> Result<(), Fail>
-        requires { items.payload ≡ One U8 }
-    {
-        self.turns.push(WriterTurn { items, answer })?;
-        Ok(())
-    }
-}
-
-fn scripted(alloc: Global, turns: &[Turn]) -> Result<Script, Fail> {
-    let mut script = Script {
-        turns: Vec::new(alloc),
-    };
-    for (bytes, answer) in turns {
-        let items = items_of(alloc, bytes)?;
-        script.push(items, *answer)?;
-    }
-    Ok(script)
-}
 
 // What each poll produces and answers; the kind of the writer's stream; lines, their status and their text.
 #[derive(Clone, Copy)]
 struct Case {
-    turns: &'static [Turn],
+    turns: &'static [Gives],
     kind: TransmitKind,
     input: &'static str,
     status: u8,
     text: &'static str,
 }
 
-// Whether a case comes so.
-fn comes(alloc: Global, case: &Case) -> Result<bool, Fail> {
-    let Script { turns } = scripted(alloc, case.turns)?;
-    let writer = ScriptedWriter::new(alloc, case.kind, BYTE, turns);
+// A host writer of these turns alone.
+fn hosts_of(rt: &impl Abort, alloc: Global, kind: TransmitKind, turns: &[Gives]) -> Hosts {
     let mut hosts = Hosts {
         writers: Vec::new(alloc),
         readers: Vec::new(alloc),
     };
-    hosts.writers.push(Box::new(alloc, writer)?)?;
+    assert!(rt; add_writer(alloc, &mut hosts, kind, turns));
+    hosts
+}
+
+fn comes(rt: &impl Abort, alloc: Global, case: &Case) {
+    let mut hosts = hosts_of(rt, alloc, case.kind, case.turns);
     let row = Row {
         words: RUN,
         input: case.input,
@@ -83,11 +39,11 @@ fn comes(alloc: Global, case: &Case) -> Result<bool, Fail> {
         status: case.status,
         text: case.text,
     };
-    Ok(is_served(alloc, &row, &mut hosts)?)
+    is_told(rt, is_served(alloc, &row, &mut hosts), case.text);
 }
 
-fn is_told(rt: &impl Abort, found: bool, text: &str) {
-    assert!(rt; found, "{text}");
+fn is_told(rt: &impl Abort, found: Result<bool, AllocError>, text: &str) {
+    assert!(rt; found == Ok(true), "{text}");
 }
 
 const CASES: [Case; 10] = [
@@ -178,12 +134,10 @@ const CASES: [Case; 10] = [
 ];
 
 #[test]
-fn rules_of_host_writers(rt: HostRuntime) -> Result<(), Fail> {
+fn rules_of_host_writers(rt: HostRuntime) {
     for case in &CASES {
-        let found = comes(rt.alloc(), case)?;
-        is_told(&rt, found, case.text);
+        comes(&rt, rt.alloc(), case);
     }
-    Ok(())
 }
 
 // The lines of a read that waits through nine drive rounds: 10 polls. They and their text are of more than 64
@@ -191,12 +145,12 @@ fn rules_of_host_writers(rt: HostRuntime) -> Result<(), Fail> {
 const LINES: &str =
     "host 0\nguest 16\nlower 0 0 stream:u8\nread 0 stream:u8 1 0 2\ndrive\ndrive\ndrive\ndrive\ndrive\ndrive\ndrive\ndrive\ndrive\n";
 
-const NOTHING: Turn = (b"", Answer::Pending);
+const NOTHING: Gives = (b"", Answer::Pending);
 
-const FAILED: Turn = (b"", Answer::Failed);
+const FAILED: Gives = (b"", Answer::Failed);
 
 // The turns before the poll that fails and that poll, and the text of the stop there.
-const FAILING_POLLS: [(&[Turn], &str); 8] = [
+const FAILING_POLLS: [(&[Gives], &str); 8] = [
     (&[FAILED], "0\n0\n1\nstopped 4 host-failed writer 0\n"),
     (
         &[NOTHING, FAILED],
@@ -231,8 +185,8 @@ const FAILING_POLLS: [(&[Turn], &str); 8] = [
 ];
 
 #[test]
-fn each_poll_fails(rt: HostRuntime) -> Result<(), Fail> {
-    for (turns, text) in FAILING_POLLS {
+fn each_poll_fails(rt: HostRuntime) {
+    for (turns, text) in &FAILING_POLLS {
         let case = Case {
             turns,
             kind: TransmitKind::Stream,
@@ -240,42 +194,27 @@ fn each_poll_fails(rt: HostRuntime) -> Result<(), Fail> {
             status: 6,
             text,
         };
-        let found = comes(rt.alloc(), &case)?;
-        is_told(&rt, found, text);
+        comes(&rt, rt.alloc(), &case);
     }
-    Ok(())
 }
 
-// Whether the lines are served with this status and text, where these calls of a source and a sink fail that
-// give and take eight bytes.
-fn is_served_in_pieces(
-    alloc: Global,
-    failing: (u32, u32),
-    status: u8,
-    text: &str,
-) -> Result<bool, Fail> {
-    let Script { turns } = scripted(alloc, &[])?;
-    let writer = ScriptedWriter::new(alloc, TransmitKind::Stream, BYTE, turns);
-    let mut hosts = Hosts {
-        writers: Vec::new(alloc),
-        readers: Vec::new(alloc),
-    };
-    hosts.writers.push(Box::new(alloc, writer)?)?;
-    Ok(pieces_of_eight(alloc, LINES, failing, status, text, &mut hosts)?)
+// The lines are served with this status and text, where these calls of a source and a sink fail that give and
+// take eight bytes.
+fn comes_in_pieces(rt: &impl Abort, alloc: Global, failing: (u32, u32), status: u8, text: &str) {
+    let mut hosts = hosts_of(rt, alloc, TransmitKind::Stream, &[]);
+    let found = pieces_of_eight(alloc, LINES, failing, status, text, &mut hosts);
+    is_told(rt, found, text);
 }
 
 const TEXT: &str =
     "0\n0\n1\nffffffff\nok\nok\nok\nok\nok\nok\nok\nok\nok\nstream 0 moved 0\ndone 13\n";
 
 #[test]
-fn each_read_fails(rt: HostRuntime) -> Result<(), Fail> {
-    for failing in [1, 2, 3, 4, 5, 6, 7, 8] {
-        let found = is_served_in_pieces(rt.alloc(), (failing, 999_999), 4, "read fault\n")?;
-        is_told(&rt, found, "read fault");
+fn each_read_fails(rt: HostRuntime) {
+    for failing in 1..9u32 {
+        comes_in_pieces(&rt, rt.alloc(), (failing, 999_999), 4, "read fault\n");
     }
-    let found = is_served_in_pieces(rt.alloc(), NONE, 0, TEXT)?;
-    is_told(&rt, found, TEXT);
-    Ok(())
+    comes_in_pieces(&rt, rt.alloc(), NONE, 0, TEXT);
 }
 
 // What was written before the write of each number.
@@ -297,10 +236,8 @@ const WRITTEN: [(u32, &str); 8] = [
 ];
 
 #[test]
-fn each_write_fails(rt: HostRuntime) -> Result<(), Fail> {
-    for (failing, text) in WRITTEN {
-        let found = is_served_in_pieces(rt.alloc(), (999_999, failing), 5, text)?;
-        is_told(&rt, found, text);
+fn each_write_fails(rt: HostRuntime) {
+    for (failing, text) in &WRITTEN {
+        comes_in_pieces(&rt, rt.alloc(), (999_999, *failing), 5, text);
     }
-    Ok(())
 }

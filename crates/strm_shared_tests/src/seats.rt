@@ -21,7 +21,7 @@ fn are_answers<R: Wait>(
     alloc: Global,
     store: &SharedStore,
     seat: &mut Seat,
-    rows: &[(Way, Step, Answer)],
+    rows: &[Row],
 ) -> bool
     requires { IsOf store.now seat.old }
     ensures { Same seat.old seat.new }
@@ -48,13 +48,7 @@ fn is_by(entry: Option<Entry>, seat: u64) -> bool {
 }
 
 // A store of so many streams answers these rows, and its history is then by these seats.
-fn answers<R: Wait>(
-    rt: &R,
-    alloc: Global,
-    streams: u32,
-    rows: &[(Way, Step, Answer)],
-    seats: &[u64],
-) -> bool {
+fn answers<R: Wait>(rt: &R, alloc: Global, streams: u32, rows: &[Row], seats: &[u64]) -> bool {
     let made = if streams == 0 {
         with_guests(rt, alloc, 0)
     } else {
@@ -99,56 +93,64 @@ const JOIN: Step = Step::SetJoin {
 
 const BLOCKED: Answer = Ok(Reply::Code(ReturnCode::Blocked));
 
+type Row = (Way, Step, Answer);
+
+const ONE_SEAT: [Row; 4] = [
+    (Way::Call, Step::Guest { size: 16 }, Ok(Reply::Number(0))),
+    (
+        Way::Call,
+        Step::New {
+            guest: 0,
+            ty: STREAM,
+        },
+        Ok(Reply::Pair(Pair {
+            read: 1,
+            write: 2,
+            stream: 0,
+        })),
+    ),
+    (
+        Way::Call,
+        Step::Write {
+            guest: 0,
+            ty: STREAM,
+            handle: 2,
+            address: 0,
+            count: 1,
+        },
+        BLOCKED,
+    ),
+    (Way::Call, Step::Drive, Err(SharedError::HostStep)),
+];
+
 /// A fresh store has no history. Three calls are three entries of the one seat, and a step that names a
 /// host end is none.
 #[test]
 fn one_seat(rt: HostRuntime) {
     is_right(&rt, answers(&rt, rt.alloc(), 0, &[], &[]));
-    let new = Step::New {
-        guest: 0,
-        ty: STREAM,
-    };
-    let write = Step::Write {
-        guest: 0,
-        ty: STREAM,
-        handle: 2,
-        address: 0,
-        count: 1,
-    };
-    let handles = Reply::Pair(Pair {
-        read: 1,
-        write: 2,
-        stream: 0,
-    });
-    let rows = [
-        (Way::Call, Step::Guest { size: 16 }, Ok(Reply::Number(0))),
-        (Way::Call, new, Ok(handles)),
-        (Way::Call, write, BLOCKED),
-        (Way::Call, Step::Drive, Err(SharedError::HostStep)),
-    ];
-    is_right(&rt, answers(&rt, rt.alloc(), 0, &rows, &[0, 0, 0]));
+    is_right(&rt, answers(&rt, rt.alloc(), 0, &ONE_SEAT, &[0, 0, 0]));
 }
+
+const NO_WAIT: [Row; 8] = [
+    (
+        Way::SyncMove,
+        Step::SetNew { guest: 1 },
+        Ok(Reply::Number(2)),
+    ),
+    (Way::Sync, JOIN, Ok(Reply::Done)),
+    (Way::Sync, READ, Err(SharedError::InSet)),
+    (Way::Sync, LIFT, Err(SharedError::HostStep)),
+    (Way::SyncMove, LIFT, Err(SharedError::HostStep)),
+    (Way::Call, LIFT, Err(SharedError::HostStep)),
+    (Way::SyncMove, MOVE, Ok(Reply::Refused(Refusal::LiftInSet))),
+    (Way::Call, READ, BLOCKED),
+];
 
 /// A step that names a host end is refused by all three calls, and a read that may wait where its handle
 /// is in a set. What may not wait is as a call.
 #[test]
 fn no_wait(rt: HostRuntime) {
-    let rows = [
-        (
-            Way::SyncMove,
-            Step::SetNew { guest: 1 },
-            Ok(Reply::Number(2)),
-        ),
-        (Way::Sync, JOIN, Ok(Reply::Done)),
-        (Way::Sync, READ, Err(SharedError::InSet)),
-        (Way::Sync, LIFT, Err(SharedError::HostStep)),
-        (Way::SyncMove, LIFT, Err(SharedError::HostStep)),
-        (Way::Call, LIFT, Err(SharedError::HostStep)),
-        (Way::SyncMove, MOVE, Ok(Reply::Refused(Refusal::LiftInSet))),
-        (Way::Call, READ, BLOCKED),
-    ];
-    let seats = [0, 0, 0, 0, 0, 0, 0];
-    is_right(&rt, answers(&rt, rt.alloc(), 1, &rows, &seats));
+    is_right(&rt, answers(&rt, rt.alloc(), 1, &NO_WAIT, &[0; 7]));
 }
 
 // Two calls of another seat, which then ends in the first, and one of the first.

@@ -4,9 +4,7 @@ ghost use Rattle.strm_shared.specs.Causes.{IsOf};
 ghost use Rattle.strm_shared.specs.Tokens.{Same};
 
 use crate::histories::ends_right;
-use crate::stores::{
-    Answer, PAIR, STREAM, Way, answer, calls, is_raised, is_right, read, with_guests, write,
-};
+use crate::stores::{Answer, PAIR, STREAM, Way, answer, calls, is_raised, is_right, with_guests};
 use std::alloc::Global;
 use std::sync::Wait;
 use std::sync::atomic::{AtomicBool, Ordering};
@@ -30,9 +28,6 @@ const LOOKS: u32 = 200;
 
 const CHARS: TransmitIndex = TransmitIndex::Stream(Payload::One(Scalar::Char));
 
-// A surrogate, which is no char.
-const SURROGATE: [u8; 4] = [0, 0xd8, 0, 0];
-
 // A move of the write end into the other guest.
 const MOVE: Step = Step::Move {
     guest: 0,
@@ -48,12 +43,11 @@ const NUDGE: Step = Step::Event {
 };
 
 // A call that sleeps, what it answers once it is woken, and the step that wakes it.
-#[derive(Clone, Copy)]
-struct Scene<'a> {
+struct Scene {
     way: Way,
-    sleeps: &'a Step,
-    answer: &'a Answer,
-    wakes: &'a Step,
+    sleeps: Step,
+    answer: Answer,
+    wakes: Step,
 }
 
 // Two flags: the one thread is about to sleep, and it was woken.
@@ -69,15 +63,15 @@ fn sleeps<R: Wait>(
     alloc: Global,
     store: &SharedStore,
     mut seat: Seat,
-    scene: Scene,
+    scene: &Scene,
     signs: Signs,
 ) -> bool
     requires { IsOf store.now seat }
 {
     signs.begun.store(true, Ordering::SeqCst);
-    let told = answer(rt, alloc, store, &mut seat, scene.way, scene.sleeps);
+    let told = answer(rt, alloc, store, &mut seat, scene.way, &scene.sleeps);
     signs.woken.store(true, Ordering::SeqCst);
-    told == *scene.answer
+    told == scene.answer
 }
 
 // Looks for a flag for ten seconds.
@@ -98,7 +92,7 @@ fn wakes<R: Wait + Clock>(
     alloc: Global,
     store: &SharedStore,
     mut seat: Seat,
-    scene: Scene,
+    scene: &Scene,
     signs: Signs,
 ) -> bool
     requires { IsOf store.now seat }
@@ -106,7 +100,7 @@ fn wakes<R: Wait + Clock>(
     let begun = is_raised(signs.begun);
     sleep(rt, Duration::from_millis(WHILE));
     let slept = !signs.woken.load(Ordering::SeqCst);
-    let done = store.call(rt, alloc, &mut seat, scene.wakes).is_ok();
+    let done = store.call(rt, alloc, &mut seat, &scene.wakes).is_ok();
     let woken = is_raised_in_time(rt, signs.woken);
     if !woken {
         let _ = store.call(rt, alloc, &mut seat, &NUDGE);
@@ -120,7 +114,7 @@ fn is_woken<R: Threads + Wait + Clock + Sync>(
     alloc: Global,
     store: &SharedStore,
     seat: &mut Seat,
-    scene: Scene,
+    scene: &Scene,
 ) -> bool
     requires { IsOf store.now seat.old }
     ensures { Same seat.old seat.new }
@@ -145,16 +139,32 @@ fn is_woken<R: Threads + Wait + Clock + Sync>(
     answered && ended
 }
 
-// Two guests, and these steps before the two threads begin.
-fn is_woken_after<R: Threads + Wait + Clock + Sync>(
+// A surrogate, which is no char, at the front of the first guest's memory.
+fn pokes<R: Wait>(rt: &R, alloc: Global, store: &SharedStore, seat: &mut Seat)
+    requires { IsOf store.now seat.old }
+    ensures { Same seat.old seat.new }
+{
+    if let Some(bytes) = Chunk::new(&[0, 0xd8, 0, 0]) {
+        let poke = Step::Poke {
+            guest: 0,
+            address: 0,
+            bytes,
+        };
+        calls(rt, alloc, store, seat, &poke, 1);
+    }
+}
+
+// Two guests, these steps, and the two threads.
+fn plays<R: Threads + Wait + Clock + Sync>(
     rt: &R,
     alloc: Global,
     before: &[Step],
-    scene: Scene,
+    scene: &Scene,
 ) -> bool {
     let Some((store, mut seat)) = with_guests(rt, alloc, 2) else {
         return false;
     };
+    pokes(rt, alloc, &store, &mut seat);
     all_called(rt, alloc, &store, &mut seat, before);
     let woken = is_woken(rt, alloc, &store, &mut seat, scene);
     ends_right(rt, alloc, store, seat) && woken
@@ -169,102 +179,109 @@ fn all_called<R: Wait>(rt: &R, alloc: Global, store: &SharedStore, seat: &mut Se
     }
 }
 
+// A read of two bytes by the second guest, and a write of two by the first.
+const READ: Step = Step::Read {
+    guest: 1,
+    ty: STREAM,
+    handle: 1,
+    address: 8,
+    count: 2,
+};
+
+const WRITE: Step = Step::Write {
+    guest: 0,
+    ty: STREAM,
+    handle: 1,
+    address: 0,
+    count: 2,
+};
+
+const DROP: Scene = Scene {
+    way: Way::Sync,
+    sleeps: READ,
+    answer: Ok(Reply::Code(ReturnCode::Dropped(ItemCount::ZERO))),
+    wakes: Step::DropWrite {
+        guest: 0,
+        ty: STREAM,
+        handle: 1,
+    },
+};
+
 /// A read that waits is told Dropped once the writer is dropped.
 #[test]
 fn a_drop_wakes_a_reader(rt: HostRuntime) {
-    let answer = Ok(Reply::Code(ReturnCode::Dropped(ItemCount::ZERO)));
-    let scene = Scene {
-        way: Way::Sync,
-        sleeps: &read(1, 1, 2),
-        answer: &answer,
-        wakes: &Step::DropWrite {
-            guest: 0,
-            ty: STREAM,
-            handle: 1,
-        },
-    };
-    is_right(&rt, is_woken_after(&rt, rt.alloc(), &[PAIR], scene));
+    is_right(&rt, plays(&rt, rt.alloc(), &[PAIR], &DROP));
 }
+
+const CANCEL: Scene = Scene {
+    way: Way::SyncMove,
+    sleeps: MOVE,
+    answer: Ok(Reply::Number(2)),
+    wakes: Step::CancelWrite {
+        guest: 0,
+        ty: STREAM,
+        handle: 1,
+    },
+};
 
 /// A move that waits for a write is done once the write is cancelled.
 #[test]
 fn a_cancel_wakes_a_move(rt: HostRuntime) {
-    let answer = Ok(Reply::Number(2));
-    let scene = Scene {
-        way: Way::SyncMove,
-        sleeps: &MOVE,
-        answer: &answer,
-        wakes: &Step::CancelWrite {
-            guest: 0,
-            ty: STREAM,
-            handle: 1,
-        },
-    };
-    let before = [PAIR, write(0, 1, 2)];
-    is_right(&rt, is_woken_after(&rt, rt.alloc(), &before, scene));
+    is_right(&rt, plays(&rt, rt.alloc(), &[PAIR, WRITE], &CANCEL));
 }
+
+const TOLD: [Step; 5] = [
+    PAIR,
+    Step::SetNew { guest: 0 },
+    Step::SetJoin {
+        guest: 0,
+        set: 2,
+        handle: 1,
+    },
+    WRITE,
+    READ,
+];
+
+const POLL: Scene = Scene {
+    way: Way::SyncMove,
+    sleeps: MOVE,
+    answer: Ok(Reply::Refused(Refusal::LiftInSet)),
+    wakes: Step::SetPoll { guest: 0, set: 2 },
+};
 
 /// A move that waits for a write that has its report is answered once a poll of a set told that.
 #[test]
 fn a_poll_wakes_a_move(rt: HostRuntime) {
-    let answer = Ok(Reply::Refused(Refusal::LiftInSet));
-    let scene = Scene {
-        way: Way::SyncMove,
-        sleeps: &MOVE,
-        answer: &answer,
-        wakes: &Step::SetPoll { guest: 0, set: 2 },
-    };
-    let join = Step::SetJoin {
-        guest: 0,
-        set: 2,
-        handle: 1,
-    };
-    let before = [
-        PAIR,
-        Step::SetNew { guest: 0 },
-        join,
-        write(0, 1, 2),
-        read(1, 1, 2),
-    ];
-    is_right(&rt, is_woken_after(&rt, rt.alloc(), &before, scene));
+    is_right(&rt, plays(&rt, rt.alloc(), &TOLD, &POLL));
 }
+
+const CHAR_PAIR: [Step; 1] = [Step::Between {
+    writer: 0,
+    reader: 1,
+    ty: CHARS,
+}];
+
+const TRAP: Scene = Scene {
+    way: Way::Sync,
+    sleeps: Step::Read {
+        guest: 1,
+        ty: CHARS,
+        handle: 1,
+        address: 0,
+        count: 1,
+    },
+    answer: Ok(Reply::StoreTrapped),
+    wakes: Step::Write {
+        guest: 0,
+        ty: CHARS,
+        handle: 1,
+        address: 0,
+        count: 1,
+    },
+};
 
 /// A read that waits is told that the store is trapped, once a write traps it.
 #[test]
 fn a_trap_wakes_a_reader(rt: HostRuntime) {
-    let Some(bytes) = Chunk::new(&SURROGATE) else {
-        return is_right(&rt, false);
-    };
-    let answer = Ok(Reply::StoreTrapped);
-    let scene = Scene {
-        way: Way::Sync,
-        sleeps: &Step::Read {
-            guest: 1,
-            ty: CHARS,
-            handle: 1,
-            address: 0,
-            count: 1,
-        },
-        answer: &answer,
-        wakes: &Step::Write {
-            guest: 0,
-            ty: CHARS,
-            handle: 1,
-            address: 0,
-            count: 1,
-        },
-    };
-    let before = [
-        Step::Between {
-            writer: 0,
-            reader: 1,
-            ty: CHARS,
-        },
-        Step::Poke {
-            guest: 0,
-            address: 0,
-            bytes,
-        },
-    ];
-    is_right(&rt, is_woken_after(&rt, rt.alloc(), &before, scene));
+    is_right(&rt, plays(&rt, rt.alloc(), &CHAR_PAIR, &TRAP));
 }

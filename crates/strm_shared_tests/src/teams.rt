@@ -161,8 +161,8 @@ pub(crate) fn four<R: Threads + Wait + Sync>(
     left.wrapping_add(right)
 }
 
-/// What eight threads come to together.
-pub(crate) fn eight<R: Threads + Wait + Sync>(
+// What eight threads come to together.
+fn eight<R: Threads + Wait + Sync>(
     rt: &R,
     alloc: Global,
     store: &SharedStore,

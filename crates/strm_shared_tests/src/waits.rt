@@ -6,7 +6,7 @@ ghost use Rattle.strm_shared.specs.Tokens.{Same};
 
 use crate::histories::ends_right;
 use crate::stores::{has_moved, is_awaited, is_right, meets, read, with_streams, write};
-use crate::teams::{Job, eight, nine};
+use crate::teams::{Job, nine};
 use std::alloc::Global;
 use std::sync::Wait;
 use std::sync::atomic::AtomicBool;
@@ -133,29 +133,45 @@ fn are_awaited<R: Wait>(
     all
 }
 
-// Once a seat waits for each of the eight handles, a write ends each wait; how many were answered at
-// once.
-fn wakes<R: Wait>(rt: &R, alloc: Global, store: &SharedStore, mut seat: Seat) -> u64
+// Once a seat waits for each of nine reads or writes, a step ends each wait; how many were answered at once.
+fn wakes<R: Wait>(rt: &R, alloc: Global, store: &SharedStore, mut seat: Seat, job: Job) -> u64
     requires { IsOf store.now seat }
 {
-    if !are_awaited(rt, alloc, store, &mut seat, 1, 8) {
+    if !are_awaited(rt, alloc, store, &mut seat, guest_of(job), 9) {
         return 0;
     }
     let mut done = 0u64;
-    for k in 1..9u32 {
-        if has_moved(&store.call(rt, alloc, &mut seat, &write(0, k, 1)), 1) {
+    for k in 1..10u32 {
+        if has_moved(&store.call(rt, alloc, &mut seat, &step_for(job, k)), 1) {
             done = done.wrapping_add(1);
         }
     }
     done
 }
 
-// How many of the eight that wait were answered, and how many of the writes that wake them.
+// Who waits.
+fn guest_of(job: Job) -> u32 {
+    match job {
+        Job::Read => 1,
+        _ => 0,
+    }
+}
+
+// What ends the wait of a handle.
+fn step_for(job: Job, handle: u32) -> Step {
+    match job {
+        Job::Read => write(0, handle, 1),
+        _ => read(1, handle, 1),
+    }
+}
+
+// How many of the nine that wait moved an item, and how many of the steps that wake them.
 fn woken<R: Threads + Wait + Sync>(
     rt: &R,
     alloc: Global,
     store: &SharedStore,
     seat: &mut Seat,
+    job: Job,
 ) -> (u64, u64)
     requires { IsOf store.now seat.old }
     ensures { Same seat.old seat.new }
@@ -163,83 +179,34 @@ fn woken<R: Threads + Wait + Sync>(
     let Ok(team) = store.seat_split(rt, seat) else {
         return (0, 0);
     };
-    let Ok(writer) = store.seat_split(rt, seat) else {
+    let Ok(other) = store.seat_split(rt, seat) else {
         return (0, 0);
     };
     join(
         rt,
         ||
             requires { IsSync R.row × IsOf store.now team }
-        { eight(rt, alloc, store, team, Job::Read) },
-        || wakes(rt, alloc, store, writer),
+        { nine(rt, alloc, store, team, job) },
+        || wakes(rt, alloc, store, other, job),
     )
 }
 
-fn are_woken<R: Threads + Wait + Sync>(rt: &R, alloc: Global) -> bool {
-    let Some((store, mut seat)) = with_streams(rt, alloc, 8) else {
-        return false;
-    };
-    let counts = woken(rt, alloc, &store, &mut seat);
-    ends_right(rt, alloc, store, seat) && counts == (8, 8)
-}
-
-/// Eight threads wait for eight handles, and one writer wakes them.
-#[test]
-fn eight_waits(rt: HostRuntime) {
-    is_right(&rt, are_woken(&rt, rt.alloc()));
-}
-
-// Once a seat waits for each of nine writes, a read ends each wait; how many were answered at once.
-fn takes<R: Wait>(rt: &R, alloc: Global, store: &SharedStore, mut seat: Seat) -> u64
-    requires { IsOf store.now seat }
-{
-    if !are_awaited(rt, alloc, store, &mut seat, 0, 9) {
-        return 0;
-    }
-    let mut done = 0u64;
-    for k in 1..10u32 {
-        if has_moved(&store.call(rt, alloc, &mut seat, &read(1, k, 1)), 1) {
-            done = done.wrapping_add(1);
-        }
-    }
-    done
-}
-
-// How many of the nine writes moved an item, and how many of the reads that wake them.
-fn taken<R: Threads + Wait + Sync>(
-    rt: &R,
-    alloc: Global,
-    store: &SharedStore,
-    seat: &mut Seat,
-) -> (u64, u64)
-    requires { IsOf store.now seat.old }
-    ensures { Same seat.old seat.new }
-{
-    let Ok(team) = store.seat_split(rt, seat) else {
-        return (0, 0);
-    };
-    let Ok(reader) = store.seat_split(rt, seat) else {
-        return (0, 0);
-    };
-    join(
-        rt,
-        ||
-            requires { IsSync R.row × IsOf store.now team }
-        { nine(rt, alloc, store, team, Job::Write) },
-        || takes(rt, alloc, store, reader),
-    )
-}
-
-fn are_taken<R: Threads + Wait + Sync>(rt: &R, alloc: Global) -> bool {
+fn are_woken<R: Threads + Wait + Sync>(rt: &R, alloc: Global, job: Job) -> bool {
     let Some((store, mut seat)) = with_streams(rt, alloc, 9) else {
         return false;
     };
-    let counts = taken(rt, alloc, &store, &mut seat);
+    let counts = woken(rt, alloc, &store, &mut seat, job);
     ends_right(rt, alloc, store, seat) && counts == (9, 9)
+}
+
+/// Nine threads read, each from a stream of its own, and one writer wakes each.
+#[test]
+fn nine_readers(rt: HostRuntime) {
+    is_right(&rt, are_woken(&rt, rt.alloc(), Job::Read));
 }
 
 /// Nine threads write, each on a stream of its own, and one reader takes what each wrote.
 #[test]
 fn nine_writers(rt: HostRuntime) {
-    is_right(&rt, are_taken(&rt, rt.alloc()));
+    is_right(&rt, are_woken(&rt, rt.alloc(), Job::Write));
 }

@@ -60,8 +60,8 @@ const OTHERS: [(usize, u8, u8); 40] = [
 
 // Whether another value at this place makes another tape.
 fn is_other(place: usize, value: u8) -> bool {
-    for (at, low, high) in OTHERS {
-        if place == at && low <= value && value <= high {
+    for (at, low, high) in &OTHERS {
+        if place == *at && *low <= value && value <= *high {
             return true;
         }
     }

@@ -16,8 +16,6 @@ mod most_ends;
 #[cfg(test)]
 mod others;
 #[cfg(test)]
-mod out_of_memory;
-#[cfg(test)]
 mod programs;
 #[cfg(test)]
 mod refused;

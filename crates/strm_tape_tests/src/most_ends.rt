@@ -2,12 +2,13 @@
 //! ends and among those that follow the tape. Memory is found for all of it.
 
 use crate::ends::{played, taken};
-use crate::scripts::{NONE, Taking, Turn, reader, writer};
+use crate::scripts::{Taking, Turn, most_hosts, no_hosts};
 use std::alloc::Global;
 use std::process::Abort;
-use std::test::Fail;
 use strm_buffers::answers::Answer;
 use strm_buffers::hosts::Hosts;
+use strm_buffers::readers::HostReader;
+use strm_buffers::writers::HostWriter;
 use strm_tape::tape::Tape;
 use strm_tape_ends::replay_reader::ReplayReader;
 use strm_tape_ends::replay_writer::ReplayWriter;
@@ -21,91 +22,99 @@ const TURNS: &[Turn] = &[
 const TAKINGS: &[Taking] = &[(2, Answer::Completed), (1, Answer::Completed)];
 
 // Lines that pipe each host writer to the host reader of its number, and poll both in two rounds.
-fn lines(alloc: Global) -> Result<String, Fail> {
+fn lines(rt: &impl Abort, alloc: Global) -> String {
     let mut lines = String::new(alloc);
     for n in 0..64u32 {
-        let pair = format!(in alloc; "host {n}\npipe {n} {n}\n")?;
-        lines.push_str(pair.as_str())?;
+        let pair = format!(in alloc; "host {n}\npipe {n} {n}\n").expect(rt, "memory");
+        lines.push_str(pair.as_str()).expect(rt, "memory");
     }
-    lines.push_str("drive\ndrive\n")?;
-    Ok(lines)
+    lines.push_str("drive\ndrive\n").expect(rt, "memory");
+    lines
 }
 
 // The tape of the run.
-fn tape_of(alloc: Global) -> Result<Tape, Fail> {
-    let mut hosts = Hosts {
-        writers: Vec::new(alloc),
-        readers: Vec::new(alloc),
-    };
-    for _ in 0..64 {
-        hosts
-            .writers
-            .push(Box::new(alloc, writer(alloc, TURNS, &NONE)?)?)?;
-        hosts
-            .readers
-            .push(Box::new(alloc, reader(alloc, TAKINGS, &NONE)?)?)?;
-    }
-    match taken(alloc, lines(alloc)?.as_str(), &mut hosts) {
-        Ok(Taped { end: Ok(_), tape }) => Ok(tape),
-        _ => Err(Fail::from("not taken")),
+fn tape_of(rt: &impl Abort, alloc: Global) -> Tape {
+    let mut hosts = most_hosts(rt, alloc, TURNS, TAKINGS);
+    match taken(alloc, lines(rt, alloc).as_str(), &mut hosts) {
+        Ok(taped) => whole(rt, taped),
+        Err(_) => panic!(rt; "not taken"),
     }
 }
 
-// Whether it is played among such ends to its end.
-fn is_played(alloc: Global, tape: &Tape) -> Result<bool, Fail> {
-    let mut hosts = Hosts {
-        writers: Vec::new(alloc),
-        readers: Vec::new(alloc),
-    };
-    for _ in 0..64 {
-        hosts
-            .writers
-            .push(Box::new(alloc, writer(alloc, TURNS, &NONE)?)?)?;
-        hosts
-            .readers
-            .push(Box::new(alloc, reader(alloc, TAKINGS, &NONE)?)?)?;
-    }
-    Ok(matches!(played(alloc, tape, &mut hosts), Ok(Ok(_))))
+// The tape of a run that came to its end.
+fn whole(rt: &impl Abort, taped: Taped) -> Tape {
+    let Taped { end, tape } = taped;
+    assert!(rt; end.is_ok());
+    tape
 }
 
-// And among those that follow it.
-fn is_followed(alloc: Global, tape: &Tape) -> Result<bool, Fail> {
-    let mut hosts = Hosts {
-        writers: Vec::new(alloc),
-        readers: Vec::new(alloc),
-    };
-    for n in 0..tape.writers() {
-        hosts
-            .writers
-            .push(Box::new(alloc, ReplayWriter::new(alloc, tape, n)?)?)?;
+// It is played to its end.
+fn is_played(rt: &impl Abort, alloc: Global, tape: &Tape, hosts: &mut Hosts) {
+    match played(alloc, tape, hosts) {
+        Ok(Ok(_)) => {}
+        _ => panic!(rt; "not played"),
     }
-    for r in 0..tape.readers() {
-        hosts
-            .readers
-            .push(Box::new(alloc, ReplayReader::new(alloc, tape, r)?)?)?;
-    }
-    Ok(matches!(played(alloc, tape, &mut hosts), Ok(Ok(_))))
 }
 
-// How many records it has of all host writers, and of all host readers.
-fn records(tape: &Tape) -> (usize, usize) {
-    let mut writers = 0usize;
-    for n in 0..tape.writers() {
-        writers = writers.saturating_add(tape.writer(n).len() as usize);
+fn add_writer(alloc: Global, hosts: &mut Hosts, tape: &Tape, n: u32) -> bool {
+    if n >= tape.writers() {
+        return false;
     }
-    let mut readers = 0usize;
-    for r in 0..tape.readers() {
-        readers = readers.saturating_add(tape.reader(r).said.len());
+    let Ok(writer) = ReplayWriter::new(alloc, tape, n) else {
+        return false;
+    };
+    let Ok(writer) = Box::new(alloc, writer) else {
+        return false;
+    };
+    let writer: Box<dyn HostWriter> = writer;
+    hosts.writers.push(writer).is_ok()
+}
+
+fn add_reader(alloc: Global, hosts: &mut Hosts, tape: &Tape, r: u32) -> bool {
+    if r >= tape.readers() {
+        return false;
     }
-    (writers, readers)
+    let Ok(reader) = ReplayReader::new(alloc, tape, r) else {
+        return false;
+    };
+    let Ok(reader) = Box::new(alloc, reader) else {
+        return false;
+    };
+    let reader: Box<dyn HostReader> = reader;
+    hosts.readers.push(reader).is_ok()
+}
+
+// Host ends that follow it.
+fn followers(rt: &impl Abort, alloc: Global, tape: &Tape) -> Hosts {
+    let mut hosts = no_hosts(alloc);
+    for n in 0..64u32 {
+        assert!(rt; add_writer(alloc, &mut hosts, tape, n));
+        assert!(rt; add_reader(alloc, &mut hosts, tape, n));
+    }
+    hosts
+}
+
+// Whether the host writer and the host reader of a number have two records each.
+fn have_two(tape: &Tape, n: u32) -> bool {
+    n < tape.writers()
+        && n < tape.readers()
+        && tape.writer(n).len() == 2
+        && tape.reader(n).said.len() == 2
+}
+
+fn have_records(rt: &impl Abort, tape: &Tape) {
+    assert!(rt; tape.writers() == 64 && tape.readers() == 64);
+    for n in 0..64u32 {
+        assert!(rt; have_two(tape, n));
+    }
 }
 
 #[test]
-fn memory_is_found_for_64_ends_of_each_side(rt: HostRuntime) -> Result<(), Fail> {
-    let tape = tape_of(rt.alloc())?;
-    assert!(rt; tape.writers() == 64 && tape.readers() == 64);
-    assert!(rt; records(&tape) == (128, 128));
-    assert!(rt; is_played(rt.alloc(), &tape)?);
-    assert!(rt; is_followed(rt.alloc(), &tape)?);
-    Ok(())
+fn memory_is_found_for_64_ends_of_each_side(rt: HostRuntime) {
+    let tape = tape_of(&rt, rt.alloc());
+    have_records(&rt, &tape);
+    let mut hosts = most_hosts(&rt, rt.alloc(), TURNS, TAKINGS);
+    is_played(&rt, rt.alloc(), &tape, &mut hosts);
+    let mut hosts = followers(&rt, rt.alloc(), &tape);
+    is_played(&rt, rt.alloc(), &tape, &mut hosts);
 }

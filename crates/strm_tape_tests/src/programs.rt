@@ -3,11 +3,9 @@
 //! `.ci/statuses`.
 
 use crate::ends::{is_played_to, is_taken_to};
-use crate::scripts::{NONE, reader, writer};
+use crate::scripts::most_hosts;
 use std::alloc::{AllocError, Global};
 use std::process::Abort;
-use std::test::Fail;
-use strm_buffers::hosts::Hosts;
 use strm_input_output::in_memory::{BytesSink, BytesSource};
 use strm_tape::tape::Tape;
 use strm_tape::taping::tape_bytes;
@@ -65,107 +63,70 @@ fn replies(alloc: Global) -> Result<Vec<u8>, AllocError> {
 }
 
 // A tape without steps, and such host ends.
-fn blank(alloc: Global) -> Result<Tape, Fail> {
-    let bytes = around(alloc, b"STRT\x01\0\0\0\0", b"", 0, &unpolled(alloc)?)?;
+fn blank(rt: &impl Abort, alloc: Global) -> Tape {
+    let ends = unpolled(alloc).expect(rt, "memory");
+    let bytes = around(alloc, b"STRT\x01\0\0\0\0", b"", 0, &ends).expect(rt, "memory");
     match untape(alloc, &bytes) {
-        Ok(tape) => Ok(tape),
-        Err(_) => Err(Fail::from("no tape")),
+        Ok(tape) => tape,
+        Err(_) => panic!(rt; "no tape"),
     }
 }
 
-fn are_taken(alloc: Global) -> Result<bool, Fail> {
-    let mut hosts = Hosts {
-        writers: Vec::new(alloc),
-        readers: Vec::new(alloc),
-    };
-    for _ in 0..64 {
-        hosts
-            .writers
-            .push(Box::new(alloc, writer(alloc, &[], &NONE)?)?)?;
-        hosts
-            .readers
-            .push(Box::new(alloc, reader(alloc, &[], &NONE)?)?)?;
-    }
-    let mut source = BytesSource::new(script(alloc)?, 65_536, Vec::new(alloc));
-    let wanted = spelled(alloc)?;
-    Ok(is_taken_to(alloc, &blank(alloc)?, &mut source, &mut hosts, &wanted))
+// All of these bytes.
+fn source(alloc: Global, bytes: Vec<u8>) -> BytesSource {
+    BytesSource::new(bytes, 65_536, Vec::new(alloc))
 }
 
 #[test]
-fn lines_are_taken_among_64_ends(rt: HostRuntime) -> Result<(), Fail> {
-    assert!(rt; are_taken(rt.alloc())?);
-    Ok(())
+fn lines_are_taken_among_64_ends(rt: HostRuntime) {
+    let alloc = rt.alloc();
+    let mut hosts = most_hosts(&rt, alloc, &[], &[]);
+    let mut lines = source(alloc, script(alloc).expect(&rt, "memory"));
+    let wanted = spelled(alloc).expect(&rt, "memory");
+    assert!(rt; is_taken_to(alloc, &blank(&rt, alloc), &mut lines, &mut hosts, &wanted));
 }
 
-// The tape that all of a source spells.
-fn read(alloc: Global, bytes: Vec<u8>) -> Result<Tape, Fail> {
-    let mut source = BytesSource::new(bytes, 65_536, Vec::new(alloc));
+// The tape that all of these bytes spell.
+fn read(rt: &impl Abort, alloc: Global, bytes: Vec<u8>) -> Tape {
+    let mut source = source(alloc, bytes);
     let mut sink = BytesSink::new(alloc, 65_536, Vec::new(alloc));
     match tape_read(alloc, &mut source, &mut sink) {
-        Ok(tape) => Ok(tape),
-        Err(_) => Err(Fail::from("not read")),
+        Ok(tape) => tape,
+        Err(_) => panic!(rt; "not read"),
     }
-}
-
-fn are_played(alloc: Global) -> Result<bool, Fail> {
-    let mut hosts = Hosts {
-        writers: Vec::new(alloc),
-        readers: Vec::new(alloc),
-    };
-    for _ in 0..64 {
-        hosts
-            .writers
-            .push(Box::new(alloc, writer(alloc, &[], &NONE)?)?)?;
-        hosts
-            .readers
-            .push(Box::new(alloc, reader(alloc, &[], &NONE)?)?)?;
-    }
-    let tape = read(alloc, spelled(alloc)?)?;
-    let wanted = replies(alloc)?;
-    Ok(is_played_to(alloc, &tape, &mut hosts, &wanted))
 }
 
 #[test]
-fn their_tape_is_played(rt: HostRuntime) -> Result<(), Fail> {
-    assert!(rt; are_played(rt.alloc())?);
-    Ok(())
-}
-
-// These bytes so many times, and those behind them, by doubling.
-fn doubled(alloc: Global, bytes: &[u8], times: u32) -> Result<Vec<u8>, AllocError> {
-    let mut all = bytes.to_vec(alloc)?;
-    for _ in 0..times {
-        let same = all.as_slice().to_vec(alloc)?;
-        all.extend_from_slice(&same)?;
-    }
-    Ok(all)
+fn their_tape_is_played(rt: HostRuntime) {
+    let alloc = rt.alloc();
+    let mut hosts = most_hosts(&rt, alloc, &[], &[]);
+    let tape = read(&rt, alloc, spelled(alloc).expect(&rt, "memory"));
+    let wanted = replies(alloc).expect(&rt, "memory");
+    assert!(rt; is_played_to(alloc, &tape, &mut hosts, &wanted));
 }
 
 // A tape of one host writer of bytes, whose one record has so many: 1,048,576 - 28.
 fn large(alloc: Global) -> Result<Vec<u8>, AllocError> {
     let front = b"STRT\x01\0\0\0\0\x01\x00\x01\x02\x01\0\0\0\xff\xff\xff\xff\0\xe4\xff\x0f\0";
-    let mut tape = front.to_vec(alloc)?;
-    let items = doubled(alloc, &[7; 64], 14)?;
-    if let Some(items) = items.get(28..) {
-        tape.extend_from_slice(items)?;
-    }
+    let mut tape = around(alloc, front, &[7; 4_096], 255, b"")?;
+    put_again(&mut tape, &[7; 12], 339)?;
     tape.extend_from_slice(b"\0\0")?;
     Ok(tape)
 }
 
-fn is_read(alloc: Global) -> Result<bool, Fail> {
-    let bytes = large(alloc)?;
-    let is_large = bytes.len() == 1_048_576;
-    let tape = read(alloc, bytes)?;
-    let is_one = tape.writers() == 1 && tape.writer(0).len() == 1;
-    let Ok(again) = tape_bytes(alloc, &tape) else {
-        return Err(Fail::from("no memory"));
-    };
-    Ok(is_large && is_one && again.as_slice() == large(alloc)?.as_slice())
+fn is_written(rt: &impl Abort, alloc: Global, tape: &Tape, bytes: &[u8]) {
+    match tape_bytes(alloc, tape) {
+        Ok(again) => assert!(rt; again.as_slice() == bytes),
+        Err(_) => panic!(rt; "no memory"),
+    }
 }
 
 #[test]
-fn a_large_tape_is_read(rt: HostRuntime) -> Result<(), Fail> {
-    assert!(rt; is_read(rt.alloc())?);
-    Ok(())
+fn a_large_tape_is_read(rt: HostRuntime) {
+    let alloc = rt.alloc();
+    let bytes = large(alloc).expect(&rt, "memory");
+    assert!(rt; bytes.len() == 1_048_576);
+    let tape = read(&rt, alloc, large(alloc).expect(&rt, "memory"));
+    assert!(rt; tape.writers() == 1 && tape.writer(0).len() == 1);
+    is_written(&rt, alloc, &tape, &bytes);
 }

@@ -1,13 +1,12 @@
 //! The store by example, in public calls alone: each call once, limits, what stops a store, and host
 //! ends that follow a script. What lines can show stands in `examples/`.
 //!
-//! A test is made of calls of `Play` alone, which promise nothing: so it is proved at once. What the
-//! store's calls promise is looked at once for each of them, in `play`, and answers are compared in
-//! `answers`, since a comparison in a test's own body takes ten times as long to prove.
+//! A test is a table of rows, each a call and what it answers, which `play` does one after another: so what
+//! the store's calls promise is looked at once for each call, and a test costs next to nothing to prove.
 #![tactic(auto)]
 
 #[cfg(test)]
-mod answers;
+mod calls;
 #[cfg(test)]
 mod contexts;
 #[cfg(test)]
@@ -23,18 +22,20 @@ mod moves;
 #[cfg(test)]
 mod pipes;
 #[cfg(test)]
-mod places;
-#[cfg(test)]
 mod play;
 #[cfg(test)]
 mod queries;
 #[cfg(test)]
 mod readers;
 #[cfg(test)]
+mod scripts;
+#[cfg(test)]
 mod sets;
 #[cfg(test)]
 mod shares;
 #[cfg(test)]
 mod streams;
+#[cfg(test)]
+mod told;
 #[cfg(test)]
 mod traps;

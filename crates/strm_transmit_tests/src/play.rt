@@ -1,24 +1,26 @@
-//! A store among host ends, each of whose calls is told what it is to answer.
+//! A store among host ends that does calls, row by row.
 //!
-//! The methods promise nothing, so that a test, which is made of them alone, is proved at once: what the
-//! store's calls promise is looked at once for each call, here.
+//! What the store's calls promise is looked at once for each call, here. A test is a table of rows, so that
+//! it costs next to nothing to prove.
 
-use crate::answers::{
-    BYTES, Ends, Number, WORDS, begins, is_bytes, is_code, is_done, is_event, is_member, is_number,
-    is_pair, keeps, must_fit,
+ghost use Rattle.strm_host_machine.specs.Does.{Fits};
+
+use crate::calls::{BYTES, Call, End, Type, WORDS, index_of};
+use crate::scripts::{Gives, Takes, add_reader, add_writer};
+use crate::told::{
+    Told, code, count, done, end, event, member, next, number, pair, reply, type_of,
 };
 use std::alloc::Global;
 use std::process::Abort;
 use strm_buffers::hosts::Hosts;
-use strm_codes::codes::TransmitIndex;
-use strm_codes::refusals::Refusal;
+use strm_codes::codes::{ReturnCode, TransmitKind};
+use strm_codes::payloads::Payload;
 use strm_machine::chunks::Chunk;
 use strm_machine::limits::Limits;
-use strm_transmit::errors::StoreError;
+use strm_machine::steps::Step;
+use strm_transmit::host_ends::HostEnds;
+use strm_transmit::steps::apply;
 use strm_transmit::store::Store;
-
-/// The guest and the handle of an end.
-pub(crate) type End = (u32, u32);
 
 /// More than any test needs.
 pub(crate) const AMPLE: Limits = Limits {
@@ -26,430 +28,298 @@ pub(crate) const AMPLE: Limits = Limits {
     places: 100,
 };
 
-/// A store among host ends.
-#[derive(Drop)]
-pub(crate) struct Play {
-    pub store: Store,
-    pub hosts: Hosts,
+/// A call, and what it is to answer.
+pub(crate) type Row = (Call, Told);
+
+/// A host writer of bytes, and what its polls give and answer.
+pub(crate) type Writer = (TransmitKind, &'static [Gives]);
+
+/// A host reader, and how much its polls take and what they answer.
+pub(crate) type Reader = (TransmitKind, Payload, &'static [Takes]);
+
+/// A store of this tag and these limits does calls, among no host ends.
+pub(crate) fn plays(rt: &impl Abort, alloc: Global, tag: u64, limits: Limits, rows: &[Row]) {
+    let mut store = Store::new(alloc, tag, limits);
+    let mut hosts = no_hosts(alloc);
+    play(rt, alloc, &mut store, &mut hosts, rows);
 }
 
-impl Play {
-    /// A store of no guest, and no host ends.
-    pub(crate) fn new(alloc: Global, tag: u64, limits: Limits) -> Play {
-        Play {
-            store: Store::new(alloc, tag, limits),
-            hosts: Hosts {
-                writers: Vec::new(alloc),
-                readers: Vec::new(alloc),
-            },
+/// A store does calls among these host ends.
+pub(crate) fn plays_among(
+    rt: &impl Abort,
+    alloc: Global,
+    writers: &[Writer],
+    readers: &[Reader],
+    rows: &[Row],
+) {
+    let mut store = Store::new(alloc, 0, AMPLE);
+    let mut hosts = no_hosts(alloc);
+    for (kind, turns) in writers {
+        assert!(rt; add_writer(alloc, &mut hosts, *kind, turns));
+    }
+    for (kind, payload, turns) in readers {
+        assert!(rt; add_reader(alloc, &mut hosts, *kind, *payload, turns));
+    }
+    play(rt, alloc, &mut store, &mut hosts, rows);
+}
+
+fn no_hosts(alloc: Global) -> Hosts {
+    Hosts {
+        writers: Vec::new(alloc),
+        readers: Vec::new(alloc),
+    }
+}
+
+fn play(rt: &impl Abort, alloc: Global, store: &mut Store, hosts: &mut Hosts, rows: &[Row]) {
+    for (at, (call, wanted)) in rows.iter().enumerate() {
+        let told = answer(rt, alloc, store, hosts, call);
+        assert!(rt; told == *wanted, "row {at}");
+    }
+}
+
+fn answer(
+    rt: &impl Abort,
+    alloc: Global,
+    store: &mut Store,
+    hosts: &mut Hosts,
+    call: &Call,
+) -> Told {
+    match *call {
+        Call::WriterPolls(writer) => writer_polls(hosts, writer),
+        Call::ReaderPolls(reader) => reader_polls(hosts, reader),
+        Call::Again => {
+            *store = Store::new(alloc, 0, AMPLE);
+            Told::Done
         }
-    }
-
-    /// A store of one guest with 16 bytes, within these limits.
-    pub(crate) fn within(rt: &impl Abort, alloc: Global, handles: usize, places: u32) -> Play {
-        let mut play = Play::new(alloc, 0, Limits { handles, places });
-        play.adds_guest(rt, 16, Ok(0));
-        play
-    }
-
-    /// A store of one guest with 16 bytes.
-    pub(crate) fn one_guest(rt: &impl Abort, alloc: Global) -> Play {
-        let mut play = Play::new(alloc, 0, AMPLE);
-        play.adds_guest(rt, 16, Ok(0));
-        play
-    }
-
-    /// A store of two guests with 16 bytes each.
-    pub(crate) fn two_guests(rt: &impl Abort, alloc: Global) -> Play {
-        let mut play = Play::one_guest(rt, alloc);
-        play.adds_guest(rt, 16, Ok(1));
-        play
-    }
-
-    /// Another store of one guest, among the same host ends.
-    pub(crate) fn begins_again(&mut self, rt: &impl Abort, alloc: Global) {
-        self.store = Store::new(alloc, 0, AMPLE);
-        self.adds_guest(rt, 16, Ok(0));
+        _ => hosted(rt, store, hosts, call),
     }
 }
 
-// Guests, and the streams between them.
-impl Play {
-    pub(crate) fn adds_guest(&mut self, rt: &impl Abort, size: u32, wanted: Number) {
-        is_number(rt, self.store.add_guest(size), wanted);
-    }
-
-    pub(crate) fn pokes(&mut self, rt: &impl Abort, guest: u32, address: u32, bytes: &[u8]) {
-        let bytes = Chunk::new(bytes).expect(rt, "at most 64 bytes");
-        is_done(rt, self.store.poke(guest, address, &bytes), Ok(()));
-    }
-
-    /// So many bytes of a guest's memory, at most 64, are these.
-    pub(crate) fn dumps(&self, rt: &impl Abort, guest: u32, address: u32, len: u32, bytes: &[u8]) {
-        assert!(rt; len <= 64);
-        is_bytes(rt, self.store.dump(guest, address, len), bytes);
-    }
-
-    /// A guest's memory begins with these bytes.
-    pub(crate) fn begins(&self, rt: &impl Abort, guest: u32, bytes: &[u8]) {
-        begins(rt, &self.store, guest, bytes);
-    }
-
-    /// A stream or future between two guests.
-    pub(crate) fn joins(
-        &mut self,
-        rt: &impl Abort,
-        writer: u32,
-        reader: u32,
-        ty: TransmitIndex,
-        wanted: Ends,
-    ) {
-        is_pair(rt, self.store.new_between(writer, reader, ty), wanted);
-    }
-
-    /// A stream of bytes within a guest.
-    pub(crate) fn makes_stream(&mut self, rt: &impl Abort, guest: u32, wanted: Ends) {
-        is_pair(rt, self.store.stream_new(guest, BYTES), wanted);
-    }
-
-    /// A future of a word within a guest.
-    pub(crate) fn makes_future(&mut self, rt: &impl Abort, guest: u32, wanted: Ends) {
-        is_pair(rt, self.store.future_new(guest, WORDS), wanted);
-    }
-
-    pub(crate) fn has_streams(&self, rt: &impl Abort, count: u32) {
-        assert_eq!(rt; self.store.streams(), count);
-    }
-
-    /// So many items were moved on a stream; none is told of one that was never made.
-    pub(crate) fn has_moved(&self, rt: &impl Abort, stream: u32, count: Option<u128>) {
-        assert_eq!(rt; self.store.moved(stream), count);
-    }
-
-    /// A stream's type, or that no end of it is there.
-    pub(crate) fn has_type(&self, rt: &impl Abort, stream: u32, ty: Option<TransmitIndex>) {
-        assert_eq!(rt; self.store.transmit_index(stream), ty);
-    }
-
-    /// Whether the store answers nothing any more.
-    pub(crate) fn is_trapped(&self, rt: &impl Abort, wanted: bool) {
-        assert_eq!(rt; self.store.trapped(), wanted);
-    }
-
-    /// What the cell of an end keeps for it to be told, where an end is there.
-    pub(crate) fn keeps(&self, rt: &impl Abort, end: End, wanted: Option<Option<u32>>) {
-        keeps(rt, &self.store, end, wanted);
+fn writer_polls(hosts: &Hosts, writer: usize) -> Told {
+    match hosts.writers.get(writer) {
+        Some(writer) => Told::Count(writer.records() as u128),
+        None => Told::Nothing,
     }
 }
 
-// Reads and writes, of bytes on a stream and of a word on a future.
-impl Play {
-    pub(crate) fn try_read(
-        &mut self,
-        rt: &impl Abort,
-        end: End,
-        address: u32,
-        count: u32,
-        wanted: Result<u32, StoreError>,
-    ) {
-        must_fit(rt, &self.store, &self.hosts);
-        let hosts = &mut self.hosts;
-        let code = self
-            .store
-            .stream_read(hosts, end.0, BYTES, end.1, address, count);
-        is_code(rt, code, wanted);
+fn reader_polls(hosts: &Hosts, reader: usize) -> Told {
+    match hosts.readers.get(reader) {
+        Some(reader) => Told::Count(reader.records() as u128),
+        None => Told::Nothing,
     }
+}
 
-    pub(crate) fn try_write(
-        &mut self,
-        rt: &impl Abort,
-        end: End,
-        address: u32,
-        count: u32,
-        wanted: Result<u32, StoreError>,
-    ) {
-        must_fit(rt, &self.store, &self.hosts);
-        let hosts = &mut self.hosts;
-        let code = self
-            .store
-            .stream_write(hosts, end.0, BYTES, end.1, address, count);
-        is_code(rt, code, wanted);
+// The host ends are those that the store needs.
+fn must_fit<H: HostEnds>(rt: &impl Abort, store: &Store, hosts: &H)
+    ensures { Fits store.now (H.tells hosts.now) }
+{
+    if store.fits(hosts) {
+        return;
     }
+    panic!(rt; "other host ends");
+}
 
-    pub(crate) fn reads(&mut self, rt: &impl Abort, end: End, address: u32, count: u32, code: u32) {
-        self.try_read(rt, end, address, count, Ok(code));
-    }
-
-    pub(crate) fn writes(
-        &mut self,
-        rt: &impl Abort,
-        end: End,
-        address: u32,
-        count: u32,
-        code: u32,
-    ) {
-        self.try_write(rt, end, address, count, Ok(code));
-    }
-
-    pub(crate) fn reads_value(&mut self, rt: &impl Abort, end: End, address: u32, code: u32) {
-        must_fit(rt, &self.store, &self.hosts);
-        let hosts = &mut self.hosts;
-        let found = self.store.future_read(hosts, end.0, WORDS, end.1, address);
-        is_code(rt, found, Ok(code));
-    }
-
-    pub(crate) fn writes_value(&mut self, rt: &impl Abort, end: End, address: u32, code: u32) {
-        must_fit(rt, &self.store, &self.hosts);
-        let hosts = &mut self.hosts;
-        let found = self.store.future_write(hosts, end.0, WORDS, end.1, address);
-        is_code(rt, found, Ok(code));
-    }
-
-    /// What an end is told, if anything.
-    pub(crate) fn tells(&mut self, rt: &impl Abort, end: End, wanted: Option<u32>) {
-        is_event(rt, self.store.take_event(end.0, end.1), wanted);
-    }
-
-    /// An end that is to be told nothing, since it is not there.
-    pub(crate) fn tells_none(&mut self, rt: &impl Abort, end: End, refusal: Refusal) {
-        let refused = StoreError::Refused(refusal);
-        assert_eq!(rt; self.store.take_event(end.0, end.1).err(), Some(refused));
-    }
-
-    pub(crate) fn cancels_read(
-        &mut self,
-        rt: &impl Abort,
-        end: End,
-        wanted: Result<u32, StoreError>,
-    ) {
-        is_code(
-            rt,
-            self.store.stream_cancel_read(end.0, BYTES, end.1),
-            wanted,
-        );
-    }
-
-    pub(crate) fn cancels_write(
-        &mut self,
-        rt: &impl Abort,
-        end: End,
-        wanted: Result<u32, StoreError>,
-    ) {
-        is_code(
-            rt,
-            self.store.stream_cancel_write(end.0, BYTES, end.1),
-            wanted,
-        );
-    }
-
-    pub(crate) fn cancels_read_value(&mut self, rt: &impl Abort, end: End, code: u32) {
-        let found = self.store.future_cancel_read(end.0, WORDS, end.1);
-        is_code(rt, found, Ok(code));
-    }
-
-    pub(crate) fn cancels_write_value(&mut self, rt: &impl Abort, end: End, code: u32) {
-        let found = self.store.future_cancel_write(end.0, WORDS, end.1);
-        is_code(rt, found, Ok(code));
+// Reads and writes, and what host ends have part in.
+fn hosted(rt: &impl Abort, store: &mut Store, hosts: &mut Hosts, call: &Call) -> Told {
+    must_fit(rt, store, hosts);
+    match *call {
+        Call::Read(end, address, count) => {
+            code(store.stream_read(hosts, end.0, BYTES, end.1, address, count))
+        }
+        Call::Write(end, address, count) => {
+            code(store.stream_write(hosts, end.0, BYTES, end.1, address, count))
+        }
+        Call::ReadValue(end, address) => {
+            code(store.future_read(hosts, end.0, WORDS, end.1, address))
+        }
+        Call::WriteValue(end, address) => {
+            code(store.future_write(hosts, end.0, WORDS, end.1, address))
+        }
+        Call::HostNew(writer) => number(store.host_new(hosts, writer)),
+        Call::Pipe(stream, reader) => done(store.pipe(hosts, stream, reader)),
+        Call::Drive => done(store.drive_once(hosts)),
+        _ => drops(rt, store, hosts, call),
     }
 }
 
 // Ends that go.
-impl Play {
-    pub(crate) fn drops_reader(&mut self, rt: &impl Abort, end: End) {
-        must_fit(rt, &self.store, &self.hosts);
-        let hosts = &mut self.hosts;
-        let done = self.store.stream_drop_readable(hosts, end.0, BYTES, end.1);
-        is_done(rt, done, Ok(()));
-    }
-
-    pub(crate) fn drops_writer(&mut self, rt: &impl Abort, end: End) {
-        must_fit(rt, &self.store, &self.hosts);
-        let hosts = &mut self.hosts;
-        let done = self.store.stream_drop_writable(hosts, end.0, BYTES, end.1);
-        is_done(rt, done, Ok(()));
-    }
-
-    pub(crate) fn drops_value_reader(&mut self, rt: &impl Abort, end: End) {
-        must_fit(rt, &self.store, &self.hosts);
-        let hosts = &mut self.hosts;
-        let done = self.store.future_drop_readable(hosts, end.0, WORDS, end.1);
-        is_done(rt, done, Ok(()));
-    }
-
-    pub(crate) fn drops_value_writer(
-        &mut self,
-        rt: &impl Abort,
-        end: End,
-        wanted: Result<(), StoreError>,
-    ) {
-        must_fit(rt, &self.store, &self.hosts);
-        let hosts = &mut self.hosts;
-        let done = self.store.future_drop_writable(hosts, end.0, WORDS, end.1);
-        is_done(rt, done, wanted);
-    }
-
-    /// The loose read end of a stream.
-    pub(crate) fn closes(&mut self, rt: &impl Abort, reader: u32, wanted: Result<(), StoreError>) {
-        must_fit(rt, &self.store, &self.hosts);
-        is_done(rt, self.store.close(&mut self.hosts, reader), wanted);
+fn drops(rt: &impl Abort, store: &mut Store, hosts: &mut Hosts, call: &Call) -> Told {
+    must_fit(rt, store, hosts);
+    match *call {
+        Call::DropReader(end) => done(store.stream_drop_readable(hosts, end.0, BYTES, end.1)),
+        Call::DropWriter(end) => done(store.stream_drop_writable(hosts, end.0, BYTES, end.1)),
+        Call::DropValueReader(end) => done(store.future_drop_readable(hosts, end.0, WORDS, end.1)),
+        Call::DropValueWriter(end) => done(store.future_drop_writable(hosts, end.0, WORDS, end.1)),
+        Call::Close(reader) => done(store.close(hosts, reader)),
+        Call::StepGuest(size) => steps(rt, store, hosts, &Step::Guest { size }),
+        Call::StepDump(guest) => steps(rt, store, hosts, &dump_of(guest)),
+        Call::StepWrite(end) => steps(rt, store, hosts, &write_of(end)),
+        Call::StepRead(end) => steps(rt, store, hosts, &read_of(end)),
+        _ => makes(store, call),
     }
 }
 
-// Ends that move.
-impl Play {
-    /// An end of a stream of bytes.
-    pub(crate) fn moves(&mut self, rt: &impl Abort, end: End, to: u32, wanted: Number) {
-        let found = self.store.stream_transfer(end.0, BYTES, end.1, to);
-        is_number(rt, found, wanted);
-    }
+fn steps(rt: &impl Abort, store: &mut Store, hosts: &mut Hosts, step: &Step) -> Told {
+    must_fit(rt, store, hosts);
+    reply(apply(store, hosts, step))
+}
 
-    /// An end of a future of a word.
-    pub(crate) fn moves_value(&mut self, rt: &impl Abort, end: End, to: u32, wanted: Number) {
-        let found = self.store.future_transfer(end.0, WORDS, end.1, to);
-        is_number(rt, found, wanted);
+fn dump_of(guest: u32) -> Step {
+    Step::Dump {
+        guest,
+        address: 0,
+        len: 5,
     }
+}
 
-    /// A read end leaves its guest: its stream's number.
-    pub(crate) fn lifts(&mut self, rt: &impl Abort, end: End, ty: TransmitIndex, wanted: Number) {
-        is_number(rt, self.store.lift(end.0, ty, end.1), wanted);
+fn write_of(end: End) -> Step {
+    Step::Write {
+        guest: end.0,
+        ty: index_of(Type::Chars),
+        handle: end.1,
+        address: 0,
+        count: 1,
     }
+}
 
-    /// A loose read end comes into a guest: its handle.
-    pub(crate) fn lowers(
-        &mut self,
-        rt: &impl Abort,
-        reader: u32,
-        guest: u32,
-        ty: TransmitIndex,
-        wanted: Number,
-    ) {
-        is_number(rt, self.store.lower(reader, guest, ty), wanted);
+fn read_of(end: End) -> Step {
+    Step::Read {
+        guest: end.0,
+        ty: index_of(Type::Chars),
+        handle: end.1,
+        address: 0,
+        count: 1,
+    }
+}
+
+// Guests, streams and futures.
+fn makes(store: &mut Store, call: &Call) -> Told {
+    match *call {
+        Call::Guest(size) => number(store.add_guest(size)),
+        Call::Poke(guest, address, bytes) => pokes(store, guest, address, bytes),
+        Call::Between(writer, reader, ty) => pair(store.new_between(writer, reader, index_of(ty))),
+        Call::Stream(guest) => pair(store.stream_new(guest, BYTES)),
+        Call::Future(guest) => pair(store.future_new(guest, WORDS)),
+        _ => ends(store, call),
+    }
+}
+
+fn pokes(store: &mut Store, guest: u32, address: u32, bytes: [u8; 4]) -> Told {
+    match Chunk::new(&bytes) {
+        Some(chunk) => done(store.poke(guest, address, &chunk)),
+        None => Told::Nothing,
+    }
+}
+
+// What ends are told, cancels, and ends that move.
+fn ends(store: &mut Store, call: &Call) -> Told {
+    match *call {
+        Call::Event(end) => event(store.take_event(end.0, end.1)),
+        Call::CancelRead(end) => code(store.stream_cancel_read(end.0, BYTES, end.1)),
+        Call::CancelWrite(end) => code(store.stream_cancel_write(end.0, BYTES, end.1)),
+        Call::CancelReadValue(end) => code(store.future_cancel_read(end.0, WORDS, end.1)),
+        Call::CancelWriteValue(end) => code(store.future_cancel_write(end.0, WORDS, end.1)),
+        _ => moves(store, call),
+    }
+}
+
+fn moves(store: &mut Store, call: &Call) -> Told {
+    match *call {
+        Call::Move(end, to) => number(store.stream_transfer(end.0, BYTES, end.1, to)),
+        Call::MoveValue(end, to) => number(store.future_transfer(end.0, WORDS, end.1, to)),
+        Call::Lift(end, ty) => number(store.lift(end.0, index_of(ty), end.1)),
+        Call::Lower(reader, guest, ty) => number(store.lower(reader, guest, index_of(ty))),
+        _ => sets(store, call),
     }
 }
 
 // Waitable sets.
-impl Play {
-    pub(crate) fn makes_set(&mut self, rt: &impl Abort, guest: u32, wanted: Number) {
-        is_number(rt, self.store.set_new(guest), wanted);
-    }
-
-    /// An end joins a set; with set 0 it leaves its own.
-    pub(crate) fn joins_set(&mut self, rt: &impl Abort, end: End, set: u32) {
-        is_done(rt, self.store.set_join(end.0, set, end.1), Ok(()));
-    }
-
-    pub(crate) fn polls_set(
-        &mut self,
-        rt: &impl Abort,
-        guest: u32,
-        set: u32,
-        wanted: Option<(u32, u32)>,
-    ) {
-        is_member(rt, self.store.set_poll(guest, set), wanted);
-    }
-
-    pub(crate) fn drops_set(
-        &mut self,
-        rt: &impl Abort,
-        guest: u32,
-        set: u32,
-        wanted: Result<(), StoreError>,
-    ) {
-        is_done(rt, self.store.set_drop(guest, set), wanted);
+fn sets(store: &mut Store, call: &Call) -> Told {
+    match *call {
+        Call::SetNew(guest) => number(store.set_new(guest)),
+        Call::SetJoin(end, set) => done(store.set_join(end.0, set, end.1)),
+        Call::SetPoll(guest, set) => member(store.set_poll(guest, set)),
+        Call::SetDrop(guest, set) => done(store.set_drop(guest, set)),
+        _ => contexts(store, call),
     }
 }
 
 // Error contexts.
-impl Play {
-    /// A message of so many bytes at address 0.
-    pub(crate) fn makes_context(&mut self, rt: &impl Abort, guest: u32, len: u32, wanted: Number) {
-        is_number(rt, self.store.error_context_new(guest, 0, len), wanted);
-    }
-
-    /// A handle more of a guest to the error context of a handle.
-    pub(crate) fn shares(&mut self, rt: &impl Abort, context: End, to: u32, wanted: Number) {
-        let found = self.store.error_context_transfer(context.0, context.1, to);
-        is_number(rt, found, wanted);
-    }
-
-    /// The message is put at an address: its bytes.
-    pub(crate) fn texts(&mut self, rt: &impl Abort, context: End, address: u32, wanted: Number) {
-        let found = self
-            .store
-            .error_context_message(context.0, context.1, address);
-        is_number(rt, found, wanted);
-    }
-
-    pub(crate) fn drops_context(&mut self, rt: &impl Abort, context: End) {
-        is_done(
-            rt,
-            self.store.error_context_drop(context.0, context.1),
-            Ok(()),
-        );
-    }
-
-    /// The number that a handle names.
-    pub(crate) fn names(&self, rt: &impl Abort, context: End, wanted: Number) {
-        is_number(
-            rt,
-            self.store.error_context_rep(context.0, context.1),
-            wanted,
-        );
-    }
-
-    /// A handle more of a guest to the error context of a number.
-    pub(crate) fn lowers_context(
-        &mut self,
-        rt: &impl Abort,
-        number: u32,
-        guest: u32,
-        wanted: Number,
-    ) {
-        is_number(rt, self.store.error_context_lower(number, guest), wanted);
+fn contexts(store: &mut Store, call: &Call) -> Told {
+    match *call {
+        Call::Context(guest, len) => number(store.error_context_new(guest, 0, len)),
+        Call::Share(end, to) => number(store.error_context_transfer(end.0, end.1, to)),
+        Call::Text(end, address) => number(store.error_context_message(end.0, end.1, address)),
+        Call::DropContext(end) => done(store.error_context_drop(end.0, end.1)),
+        Call::Rep(end) => number(store.error_context_rep(end.0, end.1)),
+        Call::LowerContext(context, guest) => number(store.error_context_lower(context, guest)),
+        _ => asks(store, call),
     }
 }
 
-// Host ends.
-impl Play {
-    /// A stream of a host writer: its number.
-    pub(crate) fn hosts_writer(
-        &mut self,
-        rt: &impl Abort,
-        writer: u32,
-        wanted: Result<u32, StoreError>,
-    ) {
-        must_fit(rt, &self.store, &self.hosts);
-        let found = self.store.host_new(&self.hosts, writer);
-        assert_eq!(rt; found, wanted);
+// What is asked.
+fn asks(store: &Store, call: &Call) -> Told {
+    match *call {
+        Call::Tag => Told::Count(store.tag() as u128),
+        Call::Trapped => Told::Is(store.trapped()),
+        Call::Streams => Told::Number(store.streams()),
+        Call::Moved(stream) => moved(store, stream),
+        Call::TypeOf(stream) => stream_type(store, stream),
+        Call::Begins(guest, bytes) => Told::Is(begins(store, guest, bytes)),
+        Call::Holds(guest, address, bytes) => Told::Is(holds(store, guest, address, bytes)),
+        _ => looks(store, call),
     }
+}
 
-    /// The loose read end of a stream goes to a host reader.
-    pub(crate) fn pipes(
-        &mut self,
-        rt: &impl Abort,
-        stream: u32,
-        reader: u32,
-        wanted: Result<(), StoreError>,
-    ) {
-        must_fit(rt, &self.store, &self.hosts);
-        is_done(rt, self.store.pipe(&mut self.hosts, stream, reader), wanted);
+fn moved(store: &Store, stream: u32) -> Told {
+    match store.moved(stream) {
+        Some(count) => Told::Count(count),
+        None => Told::Nothing,
     }
+}
 
-    /// A drive round.
-    pub(crate) fn drives(&mut self, rt: &impl Abort, wanted: Result<(), StoreError>) {
-        must_fit(rt, &self.store, &self.hosts);
-        is_done(rt, self.store.drive_once(&mut self.hosts), wanted);
+fn stream_type(store: &Store, stream: u32) -> Told {
+    match store.transmit_index(stream) {
+        Some(ty) => Told::Type(type_of(&ty)),
+        None => Told::Nothing,
     }
+}
 
-    /// How many polls a host writer recorded.
-    pub(crate) fn was_polled(&self, rt: &impl Abort, writer: usize, records: usize) {
-        assert!(rt; writer < self.hosts.writers.len());
-        assert_eq!(rt; self.hosts.writers[writer].records(), records);
+fn begins(store: &Store, guest: u32, bytes: [u8; 4]) -> bool {
+    match store.memory(guest) {
+        Some(memory) => memory.starts_with(&bytes),
+        None => false,
     }
+}
 
-    /// How many polls a host reader recorded.
-    pub(crate) fn reader_was_polled(&self, rt: &impl Abort, reader: usize, records: usize) {
-        assert!(rt; reader < self.hosts.readers.len());
-        assert_eq!(rt; self.hosts.readers[reader].records(), records);
+fn holds(store: &Store, guest: u32, address: u32, bytes: [u8; 4]) -> bool {
+    match store.dump(guest, address, 4) {
+        Ok(chunk) => chunk.as_slice() == bytes.as_slice(),
+        Err(_) => false,
+    }
+}
+
+// What is asked of handles.
+fn looks(store: &Store, call: &Call) -> Told {
+    match *call {
+        Call::Cell(end) => cell(store, end.0, end.1),
+        Call::Look(handle) => end(store.handle(handle.0, handle.1)),
+        Call::Next(after) => next(store.next_handle(after.0, after.1)),
+        Call::Handles(guest) => count(store.handle_count(guest)),
+        _ => Told::Nothing,
+    }
+}
+
+fn cell(store: &Store, guest: u32, handle: u32) -> Told {
+    match store.cell(guest, handle) {
+        Some(cell) => kept(cell.code()),
+        None => Told::NoCell,
+    }
+}
+
+fn kept(code: Option<&ReturnCode>) -> Told {
+    match code {
+        Some(code) => Told::Code(code.encode()),
+        None => Told::Nothing,
     }
 }
