@@ -224,6 +224,12 @@ fn main() -> ExitCode {
     };
     let begun = Instant::now();
     let mut tally = Tally::default();
+    // SAFETY: it takes nothing.
+    if unsafe { sys::strm_version() } != tally::version() {
+        println!("the archive is of another version than strm.h");
+        return ExitCode::FAILURE;
+    }
+    tally.count("version", 0);
     let (mut stores, mut trapped) = (0, 0);
     while tally.calls() < wanted.calls {
         let seed = wanted.seed.wrapping_mul(1 << 32).wrapping_add(stores);

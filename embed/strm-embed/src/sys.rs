@@ -263,6 +263,7 @@ pub const OTHER_GONE: u32 = 3;
 
 #[rustfmt::skip]
 unsafe extern "C" {
+    pub fn strm_version() -> u32;
     pub fn strm_store_new(store: *mut StoreHandle, tag: u64, handles: usize, places: u32) -> u32;
     pub fn strm_store_free(store: *mut StoreHandle);
     pub fn strm_tag(store: *mut StoreHandle) -> u64;
