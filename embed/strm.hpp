@@ -7,6 +7,9 @@
 // one: a read of a write end, or a count for a future, is not compiled.
 #ifndef STRM_HPP
 #define STRM_HPP
+#if __cplusplus < 201703L
+#error "strm.hpp needs C++17"
+#endif
 #include <cassert>
 #include <optional>
 #include <utility>
@@ -116,7 +119,10 @@ struct Guest {
 };
 
 // An end of a stream or future, by its handle in the table of the guest that has it.
-template <Kind kind, Side side> struct End {
+template <Kind of, Side at> struct End {
+    static constexpr Kind kind = of;
+    static constexpr Side side = at;
+
     Guest guest;
     Payload payload;
     uint32_t handle = 0;
@@ -125,6 +131,14 @@ using StreamWriter = End<Kind::Stream, Side::Writing>;
 using StreamReader = End<Kind::Stream, Side::Reading>;
 using FutureWriter = End<Kind::Future, Side::Writing>;
 using FutureReader = End<Kind::Future, Side::Reading>;
+
+// The end that a handle of a guest is told to be of, if it is such a one, as in as_end<StreamWriter>(guest, told).
+template <typename E> std::optional<E> as_end(Guest guest, const strm_handle &told) noexcept {
+    bool is_kind = (told.type & STRM_FUTURE) == type_of(E::kind, Payload());
+    bool is_side = told.side == (E::side == Side::Writing ? STRM_SIDE_WRITING : STRM_SIDE_READING);
+    if (told.kind != STRM_KIND_END || !is_kind || !is_side) return std::nullopt;
+    return E{guest, Payload::of(told.type & ~STRM_FUTURE), told.handle};
+}
 
 // The two ends of what was made, and its number.
 template <Kind kind> struct Pair {
@@ -198,6 +212,7 @@ class Store {
     explicit operator bool() const noexcept { return store_.at != nullptr; }
     // For a call of strm.h.
     strm_store *get() noexcept { return &store_; }
+    const strm_store *get() const noexcept { return &store_; }
 
     uint64_t tag() const noexcept { return strm_tag(&store_); }
     bool trapped() const noexcept { return strm_trapped(&store_); }

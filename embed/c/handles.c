@@ -8,7 +8,7 @@
 
 static void must(strm_status status) {
     if (status == STRM_DONE) return;
-    fprintf(stderr, "status %u\n", status);
+    fprintf(stderr, "%s\n", strm_status_name(status));
     exit(1);
 }
 
@@ -75,7 +75,7 @@ static void give_up(strm_store *store, uint32_t guest) {
             if (next.handle == 0) break;
             if (pass == 0 && next.kind != STRM_KIND_END) continue;
             strm_status status = drop(store, guest, &next);
-            if (status != STRM_DONE && pass == 1) printf("  %u stays: status %u\n", next.handle, status);
+            if (status != STRM_DONE && pass == 1) printf("  %u stays: %s\n", next.handle, strm_status_name(status));
         }
     }
 }

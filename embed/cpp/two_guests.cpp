@@ -110,6 +110,34 @@ void bound(Store &store, Guest guest) {
     std::printf("handles: %u\n", must(store.handle_count(guest)));
 }
 
+// An end goes, with the read or write that it may have.
+template <typename E> void drop_if(Store &store, Guest guest, const strm_handle &told) {
+    auto end = strm::as_end<E>(guest, told);
+    if (!end) return;
+    if (auto code = store.cancel(*end)) show("a cancel", *code);
+    std::printf("drop of %u: %s\n", told.handle, store.drop(*end).name());
+}
+
+// All ends of a guest go, as at the end of its instance: no table of them is kept here.
+void give_up(Store &store, Guest guest) {
+    for (auto told = store.next_handle(guest, 0); told && told->handle != 0; told = store.next_handle(guest, told->handle)) {
+        drop_if<strm::StreamWriter>(store, guest, *told);
+        drop_if<strm::StreamReader>(store, guest, *told);
+        drop_if<strm::FutureWriter>(store, guest, *told);
+        drop_if<strm::FutureReader>(store, guest, *told);
+    }
+}
+
+void end_a_guest(Store &store, Guest guest, Guest other) {
+    auto bytes = must(store.stream_between(guest, other, Scalar::U8));
+    auto value = must(store.future_between(other, guest, Scalar::Char));
+    must(store.write(bytes.write, 0, 9));
+    must(store.read(value.read, 0));
+    give_up(store, guest);
+    show("event", must(store.take_event(bytes.read)));
+    std::printf("read of a handle that is gone: %s\n", store.read(value.read, 0).status.name());
+}
+
 }  // namespace
 
 int main() {
@@ -127,6 +155,7 @@ int main() {
     std::printf("left behind: %s\n", store.add_guest(1).status.name());
     pass_a_value(moved, writer, reader);
     tell_an_error(moved, writer, reader);
+    end_a_guest(moved, writer, reader);
     bound(moved, writer);
     std::printf("tag %llu, trapped: %s\n", static_cast<unsigned long long>(moved.tag()), moved.trapped() ? "yes" : "no");
 }
