@@ -24,8 +24,9 @@
    WHAT A CALL ANSWERS is the first of these that holds. Unless it is STRM_DONE nothing has changed, neither of the
    store nor at `out`, but for the trap.
    1. STRM_NO_STORE. 2. STRM_UNKNOWN_PAYLOAD. 3. STRM_STORE_TRAPPED, of each call that does not say that it answers
-   of a store that was trapped too. 4. STRM_GUEST_LIMIT. 5. The refusals, in the order of the call's list.
-   6. STRM_BAD_ITEM, which traps the store. 7. STRM_OUT_OF_MEMORY, which comes only where all would else be done.
+   of a store that was trapped too. 4. STRM_GUEST_LIMIT. 5. The refusals, in the order of the call's list, or
+   STRM_UNKNOWN_STREAM. 6. STRM_BAD_ITEM, which traps the store. 7. STRM_OUT_OF_MEMORY, which comes only where all
+   would else be done.
 
    READS, WRITES AND EVENTS. docs/FORMATS.md of the repository shows each rule by an example.
    - A write and a read of one stream meet where one is called and the other waits. The lesser of their counts is
@@ -47,8 +48,8 @@
    - A future passes one value, once, and its codes count 0. From then on its reads and writes are refused, either
      end can be dropped, and no event tells that the other one is gone. Before that, its write end can be dropped
      only once it was told so.
-   - Within one guest items of whole numbers move as by a copy in between, and all others are refused, but for
-     STRM_NOTHING. Between two guests a bool arrives as 0 or 1, and padding stays as it was. */
+   - Within one guest whole numbers move as by a copy in between, and STRM_NOTHING; other items are refused, which is
+     STRM_INTRA_COMPONENT. Between two guests a bool arrives as 0 or 1, and padding stays as it was. */
 #ifndef STRM_H
 #define STRM_H
 #include <stdbool.h>
