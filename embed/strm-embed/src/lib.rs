@@ -29,9 +29,6 @@
 //! level x86-64-v2, SSE4.1 among it: it does not test for that, and an older one stops the program by an illegal
 //! instruction.
 
-#[cfg(not(all(target_os = "linux", target_arch = "x86_64", target_pointer_width = "64")))]
-compile_error!("the archive that this crate links is for Linux on x86-64");
-
 mod answers;
 mod payload;
 mod store;

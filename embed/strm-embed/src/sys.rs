@@ -1,6 +1,9 @@
 //! The exports of the proved archive, its statuses and its refusals. Written by `embed/declare`: a slice
 //! crosses as a pointer and a length, and a `StoreHandle` is one word.
 
+#[cfg(not(all(target_os = "linux", target_arch = "x86_64", target_pointer_width = "64")))]
+compile_error!("the archive is for Linux on x86-64");
+
 /// A store, or none. Only the library reads what is in it.
 #[repr(C)]
 pub struct StoreHandle {
