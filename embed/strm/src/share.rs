@@ -3,7 +3,6 @@
 use crate::Store;
 use alloc::rc::Rc;
 use core::cell::RefCell;
-use core::task::Waker;
 
 /// A share of a store, by which an [`Owned`](crate::Owned) end makes its calls.
 ///
@@ -47,8 +46,8 @@ pub trait Share: Clone {
     /// # Ok::<(), strm::Error>(())
     /// ```
     fn with<R>(&self, calls: impl FnOnce(&mut Store) -> R) -> R {
-        let (result, woken) = self.access(|store| store.deferred(calls));
-        woken.into_iter().for_each(Waker::wake);
+        let (result, released) = self.access(|store| store.deferred(calls));
+        released.wake();
         result
     }
 }

@@ -17,23 +17,43 @@ impl Store {
         waker: &Waker,
     ) -> Result<Option<Code>, Error> {
         let waiter = self.waits.remove(place);
-        let told = match (begin, waiter) {
-            (Some((address, count)), _) => Some(self.operate(end, address, count)?),
-            (None, Some(Waiter::TakenAway)) => return Err(Error::Refused(Refusal::NoPending)),
-            (None, _) => self.take_event(end.guest, end.handle)?,
+        let told = match (begin, &waiter) {
+            (Some((address, count)), _) => self.operate(end, address, count).map(Some),
+            (None, Some(Waiter::TakenAway)) => Err(Error::Refused(Refusal::NoPending)),
+            (None, _) => self.take_event(end.guest, end.handle),
         };
-        match told {
-            None | Some(Code::Blocked) => {
-                self.waits.insert(place, Waiter::Task(waker.clone()));
-                Ok(None)
-            }
-            code => Ok(code),
+        let waits = matches!(told, Ok(None | Some(Code::Blocked)));
+        let kept = match waiter {
+            Some(Waiter::Task(kept)) => kept,
+            _ => None,
+        };
+        if waits {
+            self.keep(place, kept, waker);
+            return Ok(None);
         }
+        // The task is polled now, so a waker of its own is not its last one.
+        kept.filter(|kept| !kept.will_wake(waker))
+            .into_iter()
+            .for_each(|other| self.waits.drop_later(other));
+        told
+    }
+
+    // Keeps a waker for a place: the one that was there, if it wakes the same task.
+    fn keep(&mut self, place: Place, kept: Option<Waker>, waker: &Waker) {
+        let waker = match kept {
+            Some(kept) if kept.will_wake(waker) => kept,
+            Some(other) => {
+                self.waits.drop_later(other);
+                waker.clone()
+            }
+            None => waker.clone(),
+        };
+        self.waits.insert(place, Waiter::Task(Some(waker)));
     }
 
     // Nobody waits at this end any more.
     pub(crate) fn unwait(&mut self, place: Place) {
-        self.waits.remove(place);
+        self.waits.forget(place);
     }
 
     // Gives up an end and its room; of a future's write end the value to be left lies at an address.

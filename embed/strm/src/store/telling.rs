@@ -4,10 +4,8 @@
 //! has the other end, and whether that is to be told something now: then the task that waits there is woken. Where
 //! no task waits for any end, nothing is asked.
 
-use crate::waits::{LastValue, Place, Waiter};
+use crate::waits::{LastValue, Place, Released};
 use crate::{EndInfo, Error, Guest, Handle, HandleInfo, OtherEnd, Side, Store, StreamId};
-use alloc::vec::Vec;
-use core::task::Waker;
 
 impl Store {
     // What of an end has to be asked before its handle goes.
@@ -66,8 +64,8 @@ impl Store {
         answer
     }
 
-    // Makes calls, and answers who is to be woken when nobody uses the store.
-    pub(crate) fn deferred<R>(&mut self, calls: impl FnOnce(&mut Store) -> R) -> (R, Vec<Waker>) {
+    // Makes calls, and answers the wakers that are to be used when nobody uses the store.
+    pub(crate) fn deferred<R>(&mut self, calls: impl FnOnce(&mut Store) -> R) -> (R, Released) {
         struct Deferral<'a>(&'a mut Store);
         impl Drop for Deferral<'_> {
             fn drop(&mut self) {
@@ -78,7 +76,7 @@ impl Store {
         let deferral = Deferral(self);
         let result = calls(deferral.0);
         drop(deferral);
-        (result, self.waits.woken())
+        (result, self.waits.released())
     }
 
     fn end_info(&self, guest: Guest, handle: Handle) -> Option<EndInfo> {
@@ -104,8 +102,8 @@ impl Store {
     }
 
     fn take_away(&mut self, place: Place) {
-        if let Some(room) = self.waits.take_away(place) {
-            self.give_room(room);
+        if let Some(last) = self.waits.take_away(place) {
+            self.give_room(last.room);
         }
     }
 
@@ -122,11 +120,8 @@ impl Store {
     }
 
     fn ready(&mut self, place: Place) {
-        match self.waits.remove(place) {
-            Some(Waiter::Task(waker)) => self.waits.wake(waker),
-            Some(Waiter::Last(last)) => self.finish(last),
-            Some(Waiter::TakenAway) => self.waits.insert(place, Waiter::TakenAway),
-            None => {}
+        if let Some(last) = self.waits.ready(place) {
+            self.finish(last);
         }
     }
 
