@@ -66,11 +66,7 @@ impl Code {
     // The word 3, which no code has, is no event.
     #[inline]
     pub(crate) const fn told(word: u32) -> Option<Code> {
-        if word == 3 {
-            None
-        } else {
-            Some(Code::of(word))
-        }
+        if word == 3 { None } else { Some(Code::of(word)) }
     }
 }
 

@@ -87,7 +87,7 @@ pub use ends::{
 pub use errors::Error;
 pub use item::{Field, Item};
 pub use numbers::{ErrorContext, ErrorContextId, Guest, Handle, Member, Pair, StreamId, WaitableSet};
-pub use owned::{future, stream, Owned, Receiver, Sender, ValueReceiver, ValueSender};
+pub use owned::{Owned, Receiver, Sender, ValueReceiver, ValueSender, future, stream};
 pub use payload::{Payload, Scalar, Type};
 pub use share::Share;
 pub use store::{EndInfo, GuestLimits, HandleInfo, Limits, OtherEnd, Side, Store};

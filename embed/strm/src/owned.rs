@@ -4,14 +4,14 @@ mod futures;
 mod streams;
 
 use crate::ends::{End, EndError, Kind, ReadFuture, ReadStream, WriteFuture, WriteStream};
-use crate::rooms::{room_len, Room};
+use crate::rooms::{Room, room_len};
 use crate::store::Named;
 use crate::waits::Place;
 use crate::{Code, EndInfo, Error, Guest, Item, Share, Side, StreamId};
 use core::fmt;
 use core::future::poll_fn;
 use core::ops::Range;
-use core::task::{ready, Context, Poll};
+use core::task::{Context, Poll, ready};
 
 pub use futures::future;
 pub use streams::stream;

@@ -15,7 +15,7 @@ mod streams;
 mod telling;
 mod typed;
 
-use crate::errors::{done, Error};
+use crate::errors::{Error, done};
 use crate::payload::Type;
 use crate::rooms::Rooms;
 use crate::waits::Waits;

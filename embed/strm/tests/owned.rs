@@ -9,7 +9,7 @@ use std::rc::Rc;
 use std::sync::{Arc, Mutex};
 use std::task::{Context, Poll, Wake, Waker};
 use strm::{Code, Error, Guest, Item, Payload, Receiver, Refusal, Sender, Share};
-use tasks::{handles, hosts, step, within, Draws, Shared, Tasks};
+use tasks::{Draws, Shared, Tasks, handles, hosts, step, within};
 
 fn poll_once<R>(call: impl Future<Output = R>) -> Poll<R> {
     std::pin::pin!(call).poll(&mut Context::from_waker(Waker::noop()))
@@ -29,10 +29,11 @@ fn a_read_given_up_is_cancelled_and_loses_nothing() {
     let mut writer = sender.into_end();
     {
         let mut recv = std::pin::pin!(receiver.recv());
-        assert!(recv
-            .as_mut()
-            .poll(&mut Context::from_waker(Waker::noop()))
-            .is_pending());
+        assert!(
+            recv.as_mut()
+                .poll(&mut Context::from_waker(Waker::noop()))
+                .is_pending()
+        );
         store.with(|store| {
             store.put_items(a, 0, &[1u16, 2, 3]).unwrap();
             assert_eq!(writer.write(store, 0, 3), Ok(Code::Completed(3)));
@@ -54,10 +55,12 @@ fn a_forgotten_read_is_given_up_by_the_next() {
     let (store, [a, b]) = hosts();
     let (mut sender, mut receiver) = strm::stream::<u8, _>(&store, a, b, 4).unwrap();
     let mut forgotten = Box::pin(receiver.read(100, 3));
-    assert!(forgotten
-        .as_mut()
-        .poll(&mut Context::from_waker(Waker::noop()))
-        .is_pending());
+    assert!(
+        forgotten
+            .as_mut()
+            .poll(&mut Context::from_waker(Waker::noop()))
+            .is_pending()
+    );
     std::mem::forget(forgotten);
     assert!(poll_once(receiver.recv()).is_pending());
     assert_eq!(receiver.given_up(), Some(Code::Cancelled(0)));
@@ -107,7 +110,7 @@ async fn receive(
             Some(Err(error)) => return Err(error),
             None => {}
         }
-        if draws.below(4) == 0 {
+        if draws.below(4) == 0 && !receiver.is_ended() {
             receiver.transfer(guests[draws.below(3)])?;
         }
         if draws.below(3) == 0 {
@@ -181,19 +184,39 @@ fn a_last_value_waits_to_be_received() {
         ready(receiver.recv()),
         Err(Error::Refused(Refusal::FutureAlreadyRead))
     );
+    drop(receiver);
+    assert_eq!(handles(&store, &[b]), 0);
+}
 
+#[test]
+fn a_last_value_goes_with_its_reader() {
+    let (store, [a, b]) = hosts();
     let (sender, receiver) = strm::future::<u32, _>(&store, a, b, 42).unwrap();
     drop(sender);
     drop(receiver);
     assert_eq!(handles(&store, &[a, b]), 0);
+    let (mut sender, receiver) = strm::future::<u32, _>(&store, a, b, 42).unwrap();
+    drop(receiver);
+    assert_eq!(ready(sender.send(43)), Err(Error::Closed));
+    drop(sender);
+    assert_eq!(handles(&store, &[a, b]), 0);
+}
 
+#[test]
+fn a_value_that_was_sent_is_the_last() {
+    let (store, [a, b]) = hosts();
     let (mut sender, mut receiver) = strm::future::<u32, _>(&store, a, b, 42).unwrap();
-    assert!(poll_once(receiver.recv()).is_pending());
-    assert_eq!(ready(sender.send(43)), Ok(()));
-    assert_eq!(
-        ready(receiver.recv()),
-        Err(Error::Refused(Refusal::FutureAlreadyRead))
-    );
+    {
+        let mut recv = std::pin::pin!(receiver.recv());
+        assert!(
+            recv.as_mut()
+                .poll(&mut Context::from_waker(Waker::noop()))
+                .is_pending()
+        );
+        assert_eq!(ready(sender.send(43)), Ok(()));
+        // The read is given up, but the value has passed.
+    }
+    assert_eq!(ready(receiver.recv()), Ok(43));
     drop((sender, receiver));
     assert_eq!(handles(&store, &[a, b]), 0);
 }
@@ -225,10 +248,11 @@ fn an_end_without_room_reads_where_its_guest_says() {
         .unwrap();
     assert!(poll_once(receiver.read(1, 2)).is_pending());
     let mut read = std::pin::pin!(receiver.read(0, 4));
-    assert!(read
-        .as_mut()
-        .poll(&mut Context::from_waker(Waker::noop()))
-        .is_pending());
+    assert!(
+        read.as_mut()
+            .poll(&mut Context::from_waker(Waker::noop()))
+            .is_pending()
+    );
     assert_eq!(ready(sender.write(0, 3)), Ok(Code::Completed(3)));
     assert_eq!(ready(read), Ok(Code::Completed(3)));
     assert_eq!(
@@ -272,10 +296,12 @@ fn a_waker_may_drop_the_last_end() {
     })))));
     let waker = Waker::from(task.clone());
     let mut future = task.0.lock().unwrap().take().unwrap();
-    assert!(future
-        .as_mut()
-        .poll(&mut Context::from_waker(&waker))
-        .is_pending());
+    assert!(
+        future
+            .as_mut()
+            .poll(&mut Context::from_waker(&waker))
+            .is_pending()
+    );
     *task.0.lock().unwrap() = Some(future);
     drop((task, waker));
     assert_eq!(handles(&store, &[a, b]), 2);
@@ -299,10 +325,11 @@ fn an_end_goes_to_a_guest_and_comes_back() {
     );
     assert!(poll_once(receiver.recv()).is_pending());
     let mut recv = std::pin::pin!(receiver.recv());
-    assert!(recv
-        .as_mut()
-        .poll(&mut Context::from_waker(Waker::noop()))
-        .is_pending());
+    assert!(
+        recv.as_mut()
+            .poll(&mut Context::from_waker(Waker::noop()))
+            .is_pending()
+    );
     assert_eq!(ready(sender.send('z')), Ok(()));
     assert_eq!(ready(recv), Ok(Some('z')));
 }

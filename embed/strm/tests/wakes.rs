@@ -3,7 +3,7 @@
 mod tasks;
 
 use strm::{Code, Error, Guest, Payload, Receiver, Refusal, Sender, Share, Type};
-use tasks::{handles, hosts, Shared, Tasks};
+use tasks::{Shared, Tasks, handles, hosts};
 
 type Bytes = (Sender<u8, Shared>, Receiver<u8, Shared>);
 
@@ -113,10 +113,10 @@ fn by_another_who_polls_a_set() {
         let strm::OtherEnd::Guest { guest, handle } = sender.info().unwrap().other else {
             unreachable!()
         };
+        let (writer, write) = sender.into_end().into_raw();
         store.with(|store| {
             let set = store.set_new(guest).unwrap();
             store.set_join(guest, set, handle).unwrap();
-            let (writer, write) = sender.into_end().into_raw();
             assert_eq!(
                 store.stream_write(writer, Payload::U8, write, 0, 1),
                 Ok(Code::Completed(1))

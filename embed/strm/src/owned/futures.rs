@@ -5,7 +5,7 @@ use super::{Awaited, Call, Owned, ValueReceiver, ValueSender};
 use crate::ends::{EndError, FutureReader, FutureWriter, ReadFuture, WriteFuture};
 use crate::{Code, Error, Guest, Item, Share};
 use core::future::poll_fn;
-use core::task::{ready, Context, Poll};
+use core::task::{Context, Poll, ready};
 
 /// A future of a `T` from one guest to another, which may be the same, each of whose ends has room for the value in
 /// its guest's memory. Where the write end is dropped before it sent one, the reader gets the value given here, since

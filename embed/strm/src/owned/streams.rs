@@ -5,7 +5,7 @@ use crate::ends::{EndError, ReadStream, StreamReader, StreamWriter, WriteStream}
 use crate::{Code, Error, Guest, Item, Share};
 use alloc::vec::Vec;
 use core::future::poll_fn;
-use core::task::{ready, Context, Poll};
+use core::task::{Context, Poll, ready};
 
 /// A stream of `T` from one guest to another, which may be the same, each of whose ends has room for so many items in
 /// its guest's memory. What is sent waits at the write end until it is read.
