@@ -53,7 +53,7 @@ async fn add(
     let mut sum = 0;
     for numbers in &mut numbers {
         let mut all = Vec::new();
-        while numbers.recv_many(&mut all).await? > 0 {}
+        while numbers.recv_many(&mut all, usize::MAX).await? > 0 {}
         sum += all.into_iter().sum::<u64>();
     }
     for mut to in sums {

@@ -8,6 +8,7 @@ use crate::rooms::{Room, room_len};
 use crate::store::Named;
 use crate::waits::Place;
 use crate::{Code, EndInfo, Error, Guest, Item, Share, Side, StreamId};
+use alloc::vec::Vec;
 use core::fmt;
 use core::future::poll_fn;
 use core::ops::Range;
@@ -268,12 +269,19 @@ impl<K: Kind, T: Item, S: Share> Owned<K, T, S> {
         }
     }
 
+    // Takes the next items that were received, so many at most.
+    fn take_many(&mut self, limit: usize) -> Result<Vec<T>, Error> {
+        let count = self.held.len().min(limit) as u32;
+        let (guest, address) = (self.guest(), self.address(self.held.start));
+        self.held.start += count;
+        self.store.with(|store| store.get_items(guest, address, count))
+    }
+
     // Takes the next item that was received, if one was.
     fn take_held(&mut self) -> Option<Result<T, Error>> {
-        let index = self.held.next()?;
-        let (guest, address) = (self.guest(), self.address(index));
-        let item = self.store.with(|store| store.get_items(guest, address, 1));
-        item.map(|items| items.into_iter().next()).transpose()
+        self.take_many(1)
+            .map(|items| items.into_iter().next())
+            .transpose()
     }
 
     // Waits until an item was received, or the other end is gone: whether one was.

@@ -121,7 +121,7 @@ async fn receive(
 
 #[test]
 fn all_arrive_once_and_in_order() {
-    for seed in 1..40 {
+    for seed in 1..11 {
         let (store, guests) = hosts::<3>();
         let mut tasks = Tasks::default();
         let mut received = Vec::new();
@@ -269,7 +269,7 @@ fn streams_of_nothing_need_no_room() {
     tasks.spawn(async move { sender.send_all(&[(); 1000]).await });
     tasks.spawn(async move {
         let mut all = Vec::new();
-        while receiver.recv_many(&mut all).await? > 0 {}
+        while receiver.recv_many(&mut all, usize::MAX).await? > 0 {}
         assert_eq!(all.len(), 1000);
         Ok(())
     });
@@ -349,7 +349,7 @@ fn items_of_each_kind_arrive() {
         tasks.spawn(async move { sender.send_all(items).await });
         tasks.spawn(async move {
             let mut got = Vec::new();
-            while receiver.recv_many(&mut got).await? > 0 {}
+            while receiver.recv_many(&mut got, usize::MAX).await? > 0 {}
             assert_eq!(got, items);
             Ok(())
         });

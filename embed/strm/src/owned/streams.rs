@@ -142,7 +142,21 @@ impl<T: Item, S: Share> Owned<WriteStream, T, S> {
         }
     }
 
-    /// Waits until all that [`poll_send`](Self::poll_send) took was received. For adapters.
+    /// Takes as many of the items as have room, and leaves it to [`poll_flush`](Self::poll_flush), `send` or the next of
+    /// these calls to send them: how many. For adapters.
+    ///
+    /// # Errors
+    ///
+    /// [`Error::NoRoom`] of an end without room, and where items that were taken before are not received yet.
+    pub fn start_send(&mut self, items: &[T]) -> Result<usize, Error> {
+        if self.held.is_empty() {
+            self.hold(items)
+        } else {
+            Err(Error::NoRoom)
+        }
+    }
+
+    /// Waits until all items that were taken were received. For adapters.
     ///
     /// # Errors
     ///
@@ -173,15 +187,19 @@ impl<T: Item, S: Share> Owned<ReadStream, T, S> {
         poll_fn(|cx| end.0.poll_recv(cx)).await
     }
 
-    /// Receives what is there, one item at least: how many were put behind the others, and 0 where the write end is
-    /// gone and all were received.
+    /// Receives what is there, one item at least and so many at most: how many were put behind the others, and 0 where
+    /// the write end is gone and all were received.
     ///
     /// # Errors
     ///
     /// Those of [`recv`](Self::recv).
-    pub async fn recv_many(&mut self, items: &mut Vec<T>) -> Result<usize, Error> {
+    pub async fn recv_many(&mut self, items: &mut Vec<T>, limit: usize) -> Result<usize, Error> {
         let end = Awaited(self);
-        poll_fn(|cx| end.0.poll_recv_many(cx, items)).await
+        poll_fn(|cx| end.0.poll_held(cx)).await?;
+        let held = end.0.take_many(limit)?;
+        let count = held.len();
+        items.extend(held);
+        Ok(count)
     }
 
     /// Reads so many items at most to an address of its guest's memory on, and waits for the code. Items that `recv`
@@ -206,18 +224,16 @@ impl<T: Item, S: Share> Owned<ReadStream, T, S> {
         Poll::Ready(self.take_held().transpose())
     }
 
-    /// Receives what is there, as [`recv_many`](Self::recv_many) does. For adapters.
+    /// Receives what is there into the first of these, as [`recv_many`](Self::recv_many) does. For adapters.
     ///
     /// # Errors
     ///
     /// Those of `recv`.
-    pub fn poll_recv_many(&mut self, cx: &mut Context<'_>, items: &mut Vec<T>) -> Poll<Result<usize, Error>> {
+    pub fn poll_recv_into(&mut self, cx: &mut Context<'_>, items: &mut [T]) -> Poll<Result<usize, Error>> {
         ready!(self.poll_held(cx))?;
-        let (guest, address) = (self.guest(), self.address(self.held.start));
-        let count = self.held.len() as u32;
-        let held = self.store.with(|store| store.get_items(guest, address, count))?;
-        self.held = 0..0;
-        items.extend(held);
-        Poll::Ready(Ok(count as usize))
+        let held = self.take_many(items.len())?;
+        let count = held.len();
+        items.iter_mut().zip(held).for_each(|(item, held)| *item = held);
+        Poll::Ready(Ok(count))
     }
 }
