@@ -6,6 +6,13 @@ use core::fmt;
 use core::marker::PhantomData;
 
 /// Which end of what: [`WriteStream`], [`ReadStream`], [`WriteFuture`] or [`ReadFuture`].
+///
+/// ```
+/// use strm::{Kind, ReadFuture, Side};
+///
+/// assert_eq!(ReadFuture::SIDE, Side::Reading);
+/// assert!(ReadFuture::IS_FUTURE);
+/// ```
 pub trait Kind: sealed::Sealed + 'static {
     /// Which of the two ends it is.
     const SIDE: Side;
@@ -85,19 +92,53 @@ pub struct End<K, T> {
 }
 
 /// The write end of a stream of `T`.
+///
+/// ```
+/// # let (mut store, a, b, _) = strm::example()?;
+/// let (writer, _reader) = store.stream_between::<u8>(a, b)?;
+/// let writer: strm::StreamWriter<u8> = writer;
+/// # Ok::<(), strm::Error>(())
+/// ```
 pub type StreamWriter<T> = End<WriteStream, T>;
 
 /// The read end of a stream of `T`.
+///
+/// ```
+/// # let (mut store, a, b, _) = strm::example()?;
+/// let (_writer, reader) = store.stream_between::<u8>(a, b)?;
+/// let reader: strm::StreamReader<u8> = reader;
+/// # Ok::<(), strm::Error>(())
+/// ```
 pub type StreamReader<T> = End<ReadStream, T>;
 
 /// The write end of a future of a `T`.
+///
+/// ```
+/// # let (mut store, a, b, _) = strm::example()?;
+/// let (writer, _reader) = store.future_between::<u8>(a, b)?;
+/// let writer: strm::FutureWriter<u8> = writer;
+/// # Ok::<(), strm::Error>(())
+/// ```
 pub type FutureWriter<T> = End<WriteFuture, T>;
 
 /// The read end of a future of a `T`.
+///
+/// ```
+/// # let (mut store, a, b, _) = strm::example()?;
+/// let (_writer, reader) = store.future_between::<u8>(a, b)?;
+/// let reader: strm::FutureReader<u8> = reader;
+/// # Ok::<(), strm::Error>(())
+/// ```
 pub type FutureReader<T> = End<ReadFuture, T>;
 
 impl<K: Kind, T: Item> End<K, T> {
     /// The type of its stream or future.
+    ///
+    /// ```
+    /// use strm::{FutureWriter, Payload, Type};
+    ///
+    /// assert_eq!(FutureWriter::<u8>::TYPE, Type::Future(Payload::U8));
+    /// ```
     pub const TYPE: Type = if K::IS_FUTURE {
         Type::Future(T::PAYLOAD)
     } else {
@@ -122,16 +163,38 @@ impl<K: Kind, T: Item> End<K, T> {
     }
 
     /// The guest that has it, and its handle there, for the guest to use.
+    ///
+    /// ```
+    /// # let (mut store, a, b, _) = strm::example()?;
+    /// let (_writer, reader) = store.stream_between::<u8>(a, b)?;
+    /// let (guest, handle) = reader.into_raw();
+    /// assert_eq!((guest, handle.0), (b, 2));
+    /// # Ok::<(), strm::Error>(())
+    /// ```
     pub fn into_raw(self) -> (Guest, Handle) {
         (self.guest, self.handle)
     }
 
     /// The guest that has it.
+    ///
+    /// ```
+    /// # let (mut store, a, b, _) = strm::example()?;
+    /// let (writer, _reader) = store.stream_between::<u8>(a, b)?;
+    /// assert_eq!(writer.guest(), a);
+    /// # Ok::<(), strm::Error>(())
+    /// ```
     pub const fn guest(&self) -> Guest {
         self.guest
     }
 
     /// Its handle in the guest's table.
+    ///
+    /// ```
+    /// # let (mut store, a, b, _) = strm::example()?;
+    /// let (writer, _reader) = store.stream_between::<u8>(a, b)?;
+    /// assert_eq!(writer.handle(), strm::Handle(2));
+    /// # Ok::<(), strm::Error>(())
+    /// ```
     pub const fn handle(&self) -> Handle {
         self.handle
     }
@@ -177,6 +240,15 @@ impl<K: Kind, T: Item> End<K, T> {
     /// # Errors
     ///
     /// Those of [`Store::take_event`].
+    ///
+    /// ```
+    /// # let (mut store, a, b, _) = strm::example()?;
+    /// let (mut writer, reader) = store.stream_between::<u8>(a, b)?;
+    /// assert_eq!(writer.take_event(&mut store)?, None);
+    /// reader.close(&mut store)?;
+    /// assert_eq!(writer.take_event(&mut store)?, Some(strm::Code::Dropped(0)));
+    /// # Ok::<(), strm::Error>(())
+    /// ```
     pub fn take_event(&mut self, store: &mut Store) -> Result<Option<Code>, Error> {
         store.take_event(self.guest, self.handle)
     }
@@ -270,6 +342,13 @@ impl<T: Item> StreamWriter<T> {
     /// # Errors
     ///
     /// Those of [`Store::stream_write`].
+    ///
+    /// ```
+    /// # let (mut store, a, b, _) = strm::example()?;
+    /// let (mut writer, _reader) = store.stream_between::<u8>(a, b)?;
+    /// assert_eq!(writer.write(&mut store, 0, 5)?, strm::Code::Blocked);
+    /// # Ok::<(), strm::Error>(())
+    /// ```
     pub fn write(&mut self, store: &mut Store, address: u32, count: u32) -> Result<Code, Error> {
         store.operate(self.named(), address, count)
     }
@@ -281,6 +360,15 @@ impl<T: Item> StreamReader<T> {
     /// # Errors
     ///
     /// Those of [`Store::stream_read`].
+    ///
+    /// ```
+    /// # let (mut store, a, b, _) = strm::example()?;
+    /// let (mut writer, mut reader) = store.stream_between::<u8>(a, b)?;
+    /// assert_eq!(reader.read(&mut store, 0, 5)?, strm::Code::Blocked);
+    /// assert_eq!(writer.write(&mut store, 0, 3)?, strm::Code::Completed(3));
+    /// assert_eq!(reader.take_event(&mut store)?, Some(strm::Code::Completed(3)));
+    /// # Ok::<(), strm::Error>(())
+    /// ```
     pub fn read(&mut self, store: &mut Store, address: u32, count: u32) -> Result<Code, Error> {
         store.operate(self.named(), address, count)
     }
@@ -292,6 +380,13 @@ impl<T: Item> FutureWriter<T> {
     /// # Errors
     ///
     /// Those of [`Store::future_write`].
+    ///
+    /// ```
+    /// # let (mut store, a, b, _) = strm::example()?;
+    /// let (mut writer, _reader) = store.future_between::<u32>(a, b)?;
+    /// assert_eq!(writer.write(&mut store, 8)?, strm::Code::Blocked);
+    /// # Ok::<(), strm::Error>(())
+    /// ```
     pub fn write(&mut self, store: &mut Store, address: u32) -> Result<Code, Error> {
         store.operate(self.named(), address, 1)
     }

@@ -40,8 +40,6 @@
 //! ```
 //! use std::{cell::RefCell, rc::Rc};
 //! use strm::{Error, Limits, Share, Store};
-//! # use std::{future::Future, pin::pin, task::{Context, Poll, Waker}};
-//! # let mut cx = Context::from_waker(Waker::noop());
 //!
 //! let store = Rc::new(RefCell::new(Store::new(0, Limits::default())?));
 //! let (a, b) = store.with(|store| Ok::<_, Error>((store.add_host(4096)?, store.add_host(4096)?)))?;
@@ -49,10 +47,8 @@
 //!
 //! let write = async { sender.send_all(&[(1, 'a'), (2, 'b')]).await };
 //! let read = async { receiver.recv().await };
-//! # let (mut write, read) = (pin!(write), pin!(read));
-//! # assert!(write.as_mut().poll(&mut cx).is_pending());
-//! # let Poll::Ready(item) = read.poll(&mut cx) else { unreachable!() };
-//! assert_eq!(item?, Some((1, 'a')));
+//! # let item = strm::example_run(write, read);
+//! assert_eq!(item?, Some((1, 'a'))); // of the second, when any executor ran both
 //! # Ok::<(), Error>(())
 //! ```
 //!
@@ -70,6 +66,7 @@ extern crate std;
 mod codes;
 mod ends;
 mod errors;
+mod examples;
 mod item;
 mod numbers;
 mod owned;
@@ -93,11 +90,5 @@ pub use share::Share;
 pub use store::{EndInfo, GuestLimits, HandleInfo, Limits, OtherEnd, Side, Store};
 pub use strm_sys::Refusal;
 
-// The store of the examples: two guests of 64 KiB, and a stream of bytes from the first to the second.
 #[doc(hidden)]
-pub fn example() -> Result<(Store, Guest, Guest, Pair), Error> {
-    let mut store = Store::new(0, Limits::default())?;
-    let (writer, reader) = (store.add_guest(65536)?, store.add_guest(65536)?);
-    let pair = store.new_between(writer, reader, Type::Stream(Payload::U8))?;
-    Ok((store, writer, reader, pair))
-}
+pub use examples::{example, example_poll, example_run, example_shared};

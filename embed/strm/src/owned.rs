@@ -45,15 +45,43 @@ pub struct Owned<K: Kind, T: Item, S: Share> {
 }
 
 /// The write end of a stream of `T`, owned.
+///
+/// ```
+/// # let (store, a, b) = strm::example_shared()?;
+/// let (sender, _) = strm::stream::<u32, _>(&store, a, b, 4)?;
+/// let sender: strm::Sender<u32, std::rc::Rc<std::cell::RefCell<strm::Store>>> = sender;
+/// # Ok::<(), strm::Error>(())
+/// ```
 pub type Sender<T, S> = Owned<WriteStream, T, S>;
 
 /// The read end of a stream of `T`, owned.
+///
+/// ```
+/// # let (store, a, b) = strm::example_shared()?;
+/// let (_, receiver) = strm::stream::<u32, _>(&store, a, b, 4)?;
+/// let receiver: strm::Receiver<u32, std::rc::Rc<std::cell::RefCell<strm::Store>>> = receiver;
+/// # Ok::<(), strm::Error>(())
+/// ```
 pub type Receiver<T, S> = Owned<ReadStream, T, S>;
 
 /// The write end of a future of a `T`, owned.
+///
+/// ```
+/// # let (store, a, b) = strm::example_shared()?;
+/// let (sender, _) = strm::future::<u32, _>(&store, a, b, 0)?;
+/// let sender: strm::ValueSender<u32, std::rc::Rc<std::cell::RefCell<strm::Store>>> = sender;
+/// # Ok::<(), strm::Error>(())
+/// ```
 pub type ValueSender<T, S> = Owned<WriteFuture, T, S>;
 
 /// The read end of a future of a `T`, owned.
+///
+/// ```
+/// # let (store, a, b) = strm::example_shared()?;
+/// let (_, receiver) = strm::future::<u32, _>(&store, a, b, 0)?;
+/// let receiver: strm::ValueReceiver<u32, std::rc::Rc<std::cell::RefCell<strm::Store>>> = receiver;
+/// # Ok::<(), strm::Error>(())
+/// ```
 pub type ValueReceiver<T, S> = Owned<ReadFuture, T, S>;
 
 /// What an owned end waits for.
@@ -126,16 +154,39 @@ impl<K: Kind, T: Item, S: Share> Owned<K, T, S> {
     }
 
     /// Its share of the store.
+    ///
+    /// ```
+    /// use strm::Share;
+    /// # let (store, a, b) = strm::example_shared()?;
+    /// let (sender, _receiver) = strm::stream::<u32, _>(&store, a, b, 4)?;
+    /// let moved = sender.store().with(|store| store.moved(sender.stream()));
+    /// assert_eq!(moved, Some(0));
+    /// # Ok::<(), strm::Error>(())
+    /// ```
     pub fn store(&self) -> &S {
         &self.store
     }
 
     /// The guest that has it.
+    ///
+    /// ```
+    /// # let (store, a, b) = strm::example_shared()?;
+    /// let (sender, receiver) = strm::stream::<u32, _>(&store, a, b, 4)?;
+    /// assert_eq!((sender.guest(), receiver.guest()), (a, b));
+    /// # Ok::<(), strm::Error>(())
+    /// ```
     pub fn guest(&self) -> Guest {
         self.end.guest()
     }
 
     /// Its stream or future.
+    ///
+    /// ```
+    /// # let (store, a, b) = strm::example_shared()?;
+    /// let (sender, receiver) = strm::stream::<u32, _>(&store, a, b, 4)?;
+    /// assert_eq!(sender.stream(), receiver.stream());
+    /// # Ok::<(), strm::Error>(())
+    /// ```
     pub fn stream(&self) -> StreamId {
         self.stream
     }
@@ -145,11 +196,33 @@ impl<K: Kind, T: Item, S: Share> Owned<K, T, S> {
     /// # Errors
     ///
     /// Those of [`End::info`].
+    ///
+    /// ```
+    /// # let (store, a, b) = strm::example_shared()?;
+    /// let (sender, receiver) = strm::stream::<u32, _>(&store, a, b, 4)?;
+    /// drop(sender);
+    /// assert_eq!(receiver.info()?.event, Some(strm::Code::Dropped(0)));
+    /// # Ok::<(), strm::Error>(())
+    /// ```
     pub fn info(&self) -> Result<EndInfo, Error> {
         self.store.with(|store| self.end.info(store))
     }
 
     /// Whether it was told that the other end is gone.
+    ///
+    /// ```
+    /// # use std::task::Poll;
+    /// # let (store, a, b) = strm::example_shared()?;
+    /// let (sender, mut receiver) = strm::stream::<u32, _>(&store, a, b, 4)?;
+    /// drop(sender);
+    /// assert!(!receiver.is_ended()); // nobody asked yet
+    /// # let recv = async {
+    /// assert_eq!(receiver.recv().await?, None);
+    /// assert!(receiver.is_ended());
+    /// # Ok::<(), strm::Error>(()) };
+    /// # let Poll::Ready(Ok(())) = strm::example_poll(recv) else { unreachable!() };
+    /// # Ok::<(), strm::Error>(())
+    /// ```
     pub fn is_ended(&self) -> bool {
         self.is_ended
     }
@@ -174,6 +247,14 @@ impl<K: Kind, T: Item, S: Share> Owned<K, T, S> {
 
     /// The end alone, which stays where it is. What it has under way is cancelled; items that were received and not
     /// handed out are given up.
+    ///
+    /// ```
+    /// # let (store, a, b) = strm::example_shared()?;
+    /// let (sender, _receiver) = strm::stream::<u32, _>(&store, a, b, 4)?;
+    /// let (guest, handle) = sender.into_end().into_raw(); // for the guest to use
+    /// assert_eq!((guest, handle), (a, strm::Handle(1)));
+    /// # Ok::<(), strm::Error>(())
+    /// ```
     pub fn into_end(mut self) -> End<K, T> {
         self.give_up();
         self.is_owner = false;
@@ -212,6 +293,14 @@ impl<K: Kind, T: Item, S: Share> Owned<K, T, S> {
     /// # Errors
     ///
     /// [`Error::StoreTrapped`]. Refused where another took the end away, or it can't write its last value.
+    ///
+    /// ```
+    /// # let (store, a, b) = strm::example_shared()?;
+    /// let (sender, receiver) = strm::stream::<u32, _>(&store, a, b, 4)?;
+    /// sender.close()?;
+    /// receiver.close()?;
+    /// # Ok::<(), strm::Error>(())
+    /// ```
     pub fn close(mut self) -> Result<(), Error> {
         self.release()
     }

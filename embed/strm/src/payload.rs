@@ -43,6 +43,10 @@ const SCALARS: [Scalar; 10] = [
 
 impl Scalar {
     /// The bytes that one takes, which is its alignment too.
+    ///
+    /// ```
+    /// assert_eq!(strm::Scalar::U16.size(), 2);
+    /// ```
     pub const fn size(self) -> u32 {
         match self {
             Scalar::Bool | Scalar::S8 | Scalar::U8 => 1,
@@ -108,6 +112,10 @@ impl Payload {
 
 impl Payload {
     /// A scalar that stands alone.
+    ///
+    /// ```
+    /// assert_eq!(strm::Payload::one(strm::Scalar::Char), strm::Payload::CHAR);
+    /// ```
     pub const fn one(scalar: Scalar) -> Payload {
         Payload(scalar as u64)
     }
@@ -127,6 +135,13 @@ impl Payload {
     }
 
     /// Whether it is a tuple, of one field or more.
+    ///
+    /// ```
+    /// use strm::{Payload, Scalar};
+    ///
+    /// assert!(!Payload::U8.is_tuple());
+    /// assert!(Payload::tuple(&[Scalar::U8]).unwrap().is_tuple());
+    /// ```
     pub const fn is_tuple(self) -> bool {
         self.0 >= TUPLE
     }

@@ -134,6 +134,12 @@ impl Store {
     }
 
     /// The number that the store was made with.
+    ///
+    /// ```
+    /// let store = strm::Store::new(7, strm::Limits::default())?;
+    /// assert_eq!(store.tag(), 7);
+    /// # Ok::<(), strm::Error>(())
+    /// ```
     pub fn tag(&self) -> u64 {
         // SAFETY: above.
         unsafe { sys::strm_tag(self.at()) }
@@ -158,6 +164,13 @@ impl Store {
 
     /// The numbers that streams and futures got so far are below this. One is given again once both ends of its
     /// stream are gone, so it never passes a third of the places that the store was made with.
+    ///
+    /// ```
+    /// # let (mut store, a, b, _) = strm::example()?;
+    /// let _ = store.stream_between::<u8>(a, b)?;
+    /// assert_eq!(store.streams(), 2);
+    /// # Ok::<(), strm::Error>(())
+    /// ```
     pub fn streams(&self) -> u32 {
         // SAFETY: above.
         unsafe { sys::strm_streams(self.at()) }

@@ -310,6 +310,24 @@ fn a_waker_may_drop_the_last_end() {
 }
 
 #[test]
+fn so_may_one_that_is_replaced() {
+    let (store, [a, b]) = hosts();
+    let (sender, mut receiver) = strm::stream::<u8, _>(&store, a, b, 1).unwrap();
+    let task = Arc::new(Lonely(Mutex::new(Some(Box::pin(async move { drop(sender) })))));
+    let waker = Waker::from(task);
+    assert!(receiver.poll_recv(&mut Context::from_waker(&waker)).is_pending());
+    drop(waker);
+    // The sender goes with its waker, which this poll replaces.
+    assert!(
+        receiver
+            .poll_recv(&mut Context::from_waker(Waker::noop()))
+            .is_pending()
+    );
+    assert_eq!(ready(receiver.recv()), Ok(None));
+    assert_eq!(handles(&store, &[a]), 0);
+}
+
+#[test]
 fn an_end_goes_to_a_guest_and_comes_back() {
     let (store, [a, b]) = hosts();
     let (mut sender, receiver) = strm::stream::<char, _>(&store, a, b, 2).unwrap();

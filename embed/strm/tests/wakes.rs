@@ -2,6 +2,9 @@
 
 mod tasks;
 
+use std::sync::Arc;
+use std::sync::atomic::{AtomicUsize, Ordering::Relaxed};
+use std::task::{Context, Wake, Waker};
 use strm::{Code, Error, Guest, Payload, Receiver, Refusal, Sender, Share, Type};
 use tasks::{Shared, Tasks, handles, hosts};
 
@@ -181,6 +184,42 @@ fn a_reader_by_the_last_value() {
     drop(sender);
     assert!(tasks.run().is_empty());
     assert_eq!(handles(&store, &[a, b]), 0);
+}
+
+#[test]
+fn who_was_polled_without_a_wake() {
+    let (store, [a, b]) = hosts();
+    let (sender, receiver): Bytes = strm::stream(&store, a, b, 1).unwrap();
+    let mut tasks = Tasks::default();
+    tasks.spawn(waits_for(receiver, Ok(None)));
+    assert_eq!(tasks.run(), [0]);
+    for _ in 0..3 {
+        tasks.disturb(0);
+        assert_eq!(tasks.run(), [0]);
+    }
+    drop(sender);
+    assert!(tasks.run().is_empty());
+}
+
+struct Count(AtomicUsize);
+
+impl Wake for Count {
+    fn wake(self: Arc<Self>) {
+        self.0.fetch_add(1, Relaxed);
+    }
+}
+
+#[test]
+fn the_task_that_polled_last() {
+    let (store, [a, b]) = hosts();
+    let (sender, mut receiver): Bytes = strm::stream(&store, a, b, 1).unwrap();
+    let counts = [0, 1, 2].map(|_| Arc::new(Count(AtomicUsize::new(0))));
+    for count in &counts {
+        let waker = Waker::from(count.clone());
+        assert!(receiver.poll_recv(&mut Context::from_waker(&waker)).is_pending());
+    }
+    drop(sender);
+    assert_eq!(counts.map(|count| count.0.load(Relaxed)), [0, 0, 1]);
 }
 
 #[test]

@@ -56,6 +56,14 @@ impl<T: Item, S: Share> Owned<WriteFuture, T, S> {
     /// # Errors
     ///
     /// Those of [`End::info`](crate::End::info). [`Error::NoRoom`].
+    ///
+    /// ```
+    /// use strm::{Share, ValueSender};
+    /// # let (store, a, b) = strm::example_shared()?;
+    /// let (writer, _reader) = store.with(|store| store.future_between::<u32>(a, b))?;
+    /// let sender = ValueSender::new(&store, writer, 0)?;
+    /// # Ok::<(), strm::Error>(())
+    /// ```
     pub fn new(store: &S, end: FutureWriter<T>, last: T) -> Result<Self, EndError<WriteFuture, T>> {
         let owned = Owned::own(store, end, 1, 1)?;
         let (guest, address) = (owned.guest(), owned.address(1));
@@ -71,6 +79,21 @@ impl<T: Item, S: Share> Owned<WriteFuture, T, S> {
     ///
     /// [`Error::Closed`] where the read end is gone. Those of [`Store::future_write`](crate::Store::future_write), as
     /// where a value was sent before.
+    ///
+    /// ```
+    /// # let (store, a, b) = strm::example_shared()?;
+    /// let (mut sender, mut receiver) = strm::future::<u32, _>(&store, a, b, 0)?;
+    /// let first = async {
+    ///     sender.send(7).await?;
+    ///     # Ok::<(), strm::Error>(())
+    /// };
+    /// let second = async {
+    ///     assert_eq!(receiver.recv().await?, 7);
+    ///     # Ok::<(), strm::Error>(())
+    /// };
+    /// # strm::example_run(first, second)?;
+    /// # Ok::<(), strm::Error>(())
+    /// ```
     pub async fn send(&mut self, value: T) -> Result<(), Error> {
         self.send_items(&[value]).await
     }
@@ -81,6 +104,22 @@ impl<T: Item, S: Share> Owned<WriteFuture, T, S> {
     ///
     /// Those of [`Store::future_write`](crate::Store::future_write). Refused with `NoPending` where another took the
     /// write or its event away.
+    ///
+    /// ```
+    /// use strm::Code;
+    /// # let (store, a, b) = strm::example_shared()?;
+    /// let (mut sender, mut receiver) = strm::future::<u32, _>(&store, a, b, 0)?;
+    /// let first = async {
+    ///     assert_eq!(sender.write(1024).await?, Code::Completed(0));
+    ///     # Ok::<(), strm::Error>(())
+    /// };
+    /// let second = async {
+    ///     assert_eq!(receiver.read(2048).await?, Code::Completed(0));
+    ///     # Ok::<(), strm::Error>(())
+    /// };
+    /// # strm::example_run(first, second)?;
+    /// # Ok::<(), strm::Error>(())
+    /// ```
     pub async fn write(&mut self, address: u32) -> Result<Code, Error> {
         self.call(Call::Given { address, count: 1 }).await
     }
@@ -92,6 +131,14 @@ impl<T: Item, S: Share> Owned<ReadFuture, T, S> {
     /// # Errors
     ///
     /// Those of [`End::info`](crate::End::info). [`Error::NoRoom`].
+    ///
+    /// ```
+    /// use strm::{Share, ValueReceiver};
+    /// # let (store, a, b) = strm::example_shared()?;
+    /// let (_writer, reader) = store.with(|store| store.future_between::<u32>(a, b))?;
+    /// let receiver = ValueReceiver::new(&store, reader)?;
+    /// # Ok::<(), strm::Error>(())
+    /// ```
     pub fn new(store: &S, end: FutureReader<T>) -> Result<Self, EndError<ReadFuture, T>> {
         Owned::own(store, end, 1, 0)
     }
@@ -102,6 +149,21 @@ impl<T: Item, S: Share> Owned<ReadFuture, T, S> {
     ///
     /// [`Error::Closed`] where the write end is gone without one. Those of
     /// [`Store::future_read`](crate::Store::future_read), as where it was received before.
+    ///
+    /// ```
+    /// # let (store, a, b) = strm::example_shared()?;
+    /// let (mut sender, mut receiver) = strm::future::<u32, _>(&store, a, b, 0)?;
+    /// let first = async {
+    ///     drop(sender); // it sends the value that it was made with
+    ///     # Ok::<(), strm::Error>(())
+    /// };
+    /// let second = async {
+    ///     assert_eq!(receiver.recv().await?, 0);
+    ///     # Ok::<(), strm::Error>(())
+    /// };
+    /// # strm::example_run(first, second)?;
+    /// # Ok::<(), strm::Error>(())
+    /// ```
     pub async fn recv(&mut self) -> Result<T, Error> {
         let end = Awaited(self);
         poll_fn(|cx| end.0.poll_recv(cx)).await
@@ -113,6 +175,23 @@ impl<T: Item, S: Share> Owned<ReadFuture, T, S> {
     ///
     /// Those of [`Store::future_read`](crate::Store::future_read). Refused with `NoPending` where another took the
     /// read or its event away.
+    ///
+    /// ```
+    /// use strm::{Code, Share};
+    /// # let (store, a, b) = strm::example_shared()?;
+    /// let (mut sender, mut receiver) = strm::future::<u32, _>(&store, a, b, 0)?;
+    /// let first = async {
+    ///     sender.send(7).await?;
+    ///     # Ok::<(), strm::Error>(())
+    /// };
+    /// let second = async {
+    ///     assert_eq!(receiver.read(2048).await?, Code::Completed(0));
+    ///     assert_eq!(store.with(|store| store.get_items::<u32>(b, 2048, 1))?, [7]);
+    ///     # Ok::<(), strm::Error>(())
+    /// };
+    /// # strm::example_run(first, second)?;
+    /// # Ok::<(), strm::Error>(())
+    /// ```
     pub async fn read(&mut self, address: u32) -> Result<Code, Error> {
         self.call(Call::Given { address, count: 1 }).await
     }
@@ -123,6 +202,17 @@ impl<T: Item, S: Share> Owned<ReadFuture, T, S> {
     /// # Errors
     ///
     /// Those of `recv`.
+    ///
+    /// ```
+    /// use std::task::{Context, Poll, Waker};
+    /// # let (store, a, b) = strm::example_shared()?;
+    /// let (sender, mut receiver) = strm::future::<u32, _>(&store, a, b, 5)?;
+    /// let mut cx = Context::from_waker(Waker::noop());
+    /// assert_eq!(receiver.poll_recv(&mut cx), Poll::Pending);
+    /// drop(sender);
+    /// assert_eq!(receiver.poll_recv(&mut cx), Poll::Ready(Ok(5)));
+    /// # Ok::<(), strm::Error>(())
+    /// ```
     pub fn poll_recv(&mut self, cx: &mut Context<'_>) -> Poll<Result<T, Error>> {
         ready!(self.poll_held(cx))?;
         Poll::Ready(self.take_held().unwrap_or(Err(Error::Closed)))

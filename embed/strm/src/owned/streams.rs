@@ -72,6 +72,14 @@ impl<T: Item, S: Share> Owned<WriteStream, T, S> {
     /// # Errors
     ///
     /// Those of [`End::info`](crate::End::info). [`Error::NoRoom`].
+    ///
+    /// ```
+    /// use strm::{Sender, Share};
+    /// # let (store, a, b) = strm::example_shared()?;
+    /// let (writer, _reader) = store.with(|store| store.stream_between::<u32>(a, b))?;
+    /// let sender = Sender::new(&store, writer, 16)?;
+    /// # Ok::<(), strm::Error>(())
+    /// ```
     pub fn new(store: &S, end: StreamWriter<T>, capacity: u32) -> Result<Self, EndError<WriteStream, T>> {
         Owned::own(store, end, capacity, 0)
     }
@@ -82,6 +90,23 @@ impl<T: Item, S: Share> Owned<WriteStream, T, S> {
     ///
     /// [`Error::Closed`] where the read end is gone, and it was not received. [`Error::NoRoom`] of an end without
     /// room. Those of [`Store::stream_write`](crate::Store::stream_write).
+    ///
+    /// ```
+    /// # let (store, a, b) = strm::example_shared()?;
+    /// let (mut sender, mut receiver) = strm::stream::<u32, _>(&store, a, b, 4)?;
+    /// let first = async {
+    ///     sender.send(1).await?;
+    ///     sender.send(2).await?;
+    ///     # Ok::<(), strm::Error>(())
+    /// };
+    /// let second = async {
+    ///     assert_eq!(receiver.recv().await?, Some(1));
+    ///     assert_eq!(receiver.recv().await?, Some(2));
+    ///     # Ok::<(), strm::Error>(())
+    /// };
+    /// # strm::example_run(first, second)?;
+    /// # Ok::<(), strm::Error>(())
+    /// ```
     pub async fn send(&mut self, item: T) -> Result<(), Error> {
         self.send_items(&[item]).await
     }
@@ -92,6 +117,24 @@ impl<T: Item, S: Share> Owned<WriteStream, T, S> {
     /// # Errors
     ///
     /// Those of [`send`](Self::send).
+    ///
+    /// ```
+    /// # let (store, a, b) = strm::example_shared()?;
+    /// let (mut sender, mut receiver) = strm::stream::<u32, _>(&store, a, b, 4)?;
+    /// let first = async {
+    ///     sender.send_all(&[1, 2, 3, 4, 5, 6]).await?;
+    ///     drop(sender);
+    ///     # Ok::<(), strm::Error>(())
+    /// };
+    /// let second = async {
+    ///     let mut all = Vec::new();
+    ///     while receiver.recv_many(&mut all, 100).await? > 0 {}
+    ///     assert_eq!(all, [1, 2, 3, 4, 5, 6]);
+    ///     # Ok::<(), strm::Error>(())
+    /// };
+    /// # strm::example_run(first, second)?;
+    /// # Ok::<(), strm::Error>(())
+    /// ```
     pub async fn send_all(&mut self, items: &[T]) -> Result<(), Error> {
         self.send_items(items).await
     }
@@ -102,6 +145,22 @@ impl<T: Item, S: Share> Owned<WriteStream, T, S> {
     ///
     /// Those of [`Store::stream_write`](crate::Store::stream_write). Refused with `NoPending` where another took the
     /// write or its event away.
+    ///
+    /// ```
+    /// use strm::Code;
+    /// # let (store, a, b) = strm::example_shared()?;
+    /// let (mut sender, mut receiver) = strm::stream::<u32, _>(&store, a, b, 4)?;
+    /// let first = async {
+    ///     assert_eq!(sender.write(1024, 3).await?, Code::Completed(3));
+    ///     # Ok::<(), strm::Error>(())
+    /// };
+    /// let second = async {
+    ///     assert_eq!(receiver.read(2048, 8).await?, Code::Completed(3));
+    ///     # Ok::<(), strm::Error>(())
+    /// };
+    /// # strm::example_run(first, second)?;
+    /// # Ok::<(), strm::Error>(())
+    /// ```
     pub async fn write(&mut self, address: u32, count: u32) -> Result<Code, Error> {
         self.call(Call::Given { address, count }).await
     }
@@ -111,6 +170,22 @@ impl<T: Item, S: Share> Owned<WriteStream, T, S> {
     /// # Errors
     ///
     /// Those of [`Store::take_event`](crate::Store::take_event), and of `send` where items wait.
+    ///
+    /// ```
+    /// # let (store, a, b) = strm::example_shared()?;
+    /// let (mut sender, mut receiver) = strm::stream::<u32, _>(&store, a, b, 4)?;
+    /// let first = async {
+    ///     drop(receiver);
+    ///     # Ok::<(), strm::Error>(())
+    /// };
+    /// let second = async {
+    ///     sender.closed().await?;
+    ///     assert!(sender.is_ended());
+    ///     # Ok::<(), strm::Error>(())
+    /// };
+    /// # strm::example_run(first, second)?;
+    /// # Ok::<(), strm::Error>(())
+    /// ```
     pub async fn closed(&mut self) -> Result<(), Error> {
         let end = Awaited(self);
         match poll_fn(|cx| end.0.poll_sent(cx)).await {
@@ -130,6 +205,18 @@ impl<T: Item, S: Share> Owned<WriteStream, T, S> {
     /// # Errors
     ///
     /// Those of `send`, of items before or of these.
+    ///
+    /// ```
+    /// use std::task::{Context, Poll, Waker};
+    /// # let (store, a, b) = strm::example_shared()?;
+    /// let (mut sender, mut receiver) = strm::stream::<u32, _>(&store, a, b, 4)?;
+    /// let mut cx = Context::from_waker(Waker::noop());
+    /// assert_eq!(sender.poll_send(&mut cx, &[1, 2, 3, 4, 5]), Poll::Ready(Ok(4)));
+    /// assert_eq!(sender.poll_send(&mut cx, &[5]), Poll::Pending); // no room yet
+    /// assert_eq!(receiver.poll_recv(&mut cx), Poll::Ready(Ok(Some(1))));
+    /// assert_eq!(sender.poll_send(&mut cx, &[5]), Poll::Ready(Ok(1)));
+    /// # Ok::<(), strm::Error>(())
+    /// ```
     pub fn poll_send(&mut self, cx: &mut Context<'_>, items: &[T]) -> Poll<Result<usize, Error>> {
         ready!(self.poll_sent(cx))?;
         if items.is_empty() {
@@ -148,6 +235,15 @@ impl<T: Item, S: Share> Owned<WriteStream, T, S> {
     /// # Errors
     ///
     /// [`Error::NoRoom`] of an end without room, and where items that were taken before are not received yet.
+    ///
+    /// ```
+    /// use std::task::{Context, Poll, Waker};
+    /// # let (store, a, b) = strm::example_shared()?;
+    /// let (mut sender, mut receiver) = strm::stream::<u32, _>(&store, a, b, 4)?;
+    /// assert_eq!(sender.start_send(&[1])?, 1);
+    /// assert_eq!(sender.start_send(&[2]), Err(strm::Error::NoRoom));
+    /// # Ok::<(), strm::Error>(())
+    /// ```
     pub fn start_send(&mut self, items: &[T]) -> Result<usize, Error> {
         if self.held.is_empty() {
             self.hold(items)
@@ -161,6 +257,18 @@ impl<T: Item, S: Share> Owned<WriteStream, T, S> {
     /// # Errors
     ///
     /// Those of `send`.
+    ///
+    /// ```
+    /// use std::task::{Context, Poll, Waker};
+    /// # let (store, a, b) = strm::example_shared()?;
+    /// let (mut sender, mut receiver) = strm::stream::<u32, _>(&store, a, b, 4)?;
+    /// let mut cx = Context::from_waker(Waker::noop());
+    /// sender.start_send(&[1])?;
+    /// assert_eq!(sender.poll_flush(&mut cx), Poll::Pending);
+    /// assert_eq!(receiver.poll_recv(&mut cx), Poll::Ready(Ok(Some(1))));
+    /// assert_eq!(sender.poll_flush(&mut cx), Poll::Ready(Ok(())));
+    /// # Ok::<(), strm::Error>(())
+    /// ```
     pub fn poll_flush(&mut self, cx: &mut Context<'_>) -> Poll<Result<(), Error>> {
         self.poll_sent(cx)
     }
@@ -172,6 +280,14 @@ impl<T: Item, S: Share> Owned<ReadStream, T, S> {
     /// # Errors
     ///
     /// Those of [`End::info`](crate::End::info). [`Error::NoRoom`].
+    ///
+    /// ```
+    /// use strm::{Receiver, Share};
+    /// # let (store, a, b) = strm::example_shared()?;
+    /// let (_writer, reader) = store.with(|store| store.stream_between::<u32>(a, b))?;
+    /// let receiver = Receiver::new(&store, reader, 16)?;
+    /// # Ok::<(), strm::Error>(())
+    /// ```
     pub fn new(store: &S, end: StreamReader<T>, capacity: u32) -> Result<Self, EndError<ReadStream, T>> {
         Owned::own(store, end, capacity, 0)
     }
@@ -182,6 +298,23 @@ impl<T: Item, S: Share> Owned<ReadStream, T, S> {
     ///
     /// [`Error::NoRoom`] of an end without room. Those of [`Store::stream_read`](crate::Store::stream_read).
     /// [`Error::NotAnItem`] where another wrote into its room.
+    ///
+    /// ```
+    /// # let (store, a, b) = strm::example_shared()?;
+    /// let (mut sender, mut receiver) = strm::stream::<u32, _>(&store, a, b, 4)?;
+    /// let first = async {
+    ///     sender.send(1).await?;
+    ///     drop(sender);
+    ///     # Ok::<(), strm::Error>(())
+    /// };
+    /// let second = async {
+    ///     assert_eq!(receiver.recv().await?, Some(1));
+    ///     assert_eq!(receiver.recv().await?, None);
+    ///     # Ok::<(), strm::Error>(())
+    /// };
+    /// # strm::example_run(first, second)?;
+    /// # Ok::<(), strm::Error>(())
+    /// ```
     pub async fn recv(&mut self) -> Result<Option<T>, Error> {
         let end = Awaited(self);
         poll_fn(|cx| end.0.poll_recv(cx)).await
@@ -193,6 +326,23 @@ impl<T: Item, S: Share> Owned<ReadStream, T, S> {
     /// # Errors
     ///
     /// Those of [`recv`](Self::recv).
+    ///
+    /// ```
+    /// # let (store, a, b) = strm::example_shared()?;
+    /// let (mut sender, mut receiver) = strm::stream::<u32, _>(&store, a, b, 4)?;
+    /// let first = async {
+    ///     sender.send_all(&[1, 2, 3]).await?;
+    ///     # Ok::<(), strm::Error>(())
+    /// };
+    /// let second = async {
+    ///     let mut items = vec![0];
+    ///     assert_eq!(receiver.recv_many(&mut items, 2).await?, 2);
+    ///     assert_eq!(items, [0, 1, 2]);
+    ///     # Ok::<(), strm::Error>(())
+    /// };
+    /// # strm::example_run(first, second)?;
+    /// # Ok::<(), strm::Error>(())
+    /// ```
     pub async fn recv_many(&mut self, items: &mut Vec<T>, limit: usize) -> Result<usize, Error> {
         let end = Awaited(self);
         poll_fn(|cx| end.0.poll_held(cx)).await?;
@@ -209,6 +359,23 @@ impl<T: Item, S: Share> Owned<ReadStream, T, S> {
     ///
     /// Those of [`Store::stream_read`](crate::Store::stream_read). Refused with `NoPending` where another took the
     /// read or its event away.
+    ///
+    /// ```
+    /// use strm::{Code, Share};
+    /// # let (store, a, b) = strm::example_shared()?;
+    /// let (mut sender, mut receiver) = strm::stream::<u32, _>(&store, a, b, 4)?;
+    /// let first = async {
+    ///     sender.send(7).await?;
+    ///     # Ok::<(), strm::Error>(())
+    /// };
+    /// let second = async {
+    ///     assert_eq!(receiver.read(2048, 8).await?, Code::Completed(1));
+    ///     assert_eq!(store.with(|store| store.get_items::<u32>(b, 2048, 1))?, [7]);
+    ///     # Ok::<(), strm::Error>(())
+    /// };
+    /// # strm::example_run(first, second)?;
+    /// # Ok::<(), strm::Error>(())
+    /// ```
     pub async fn read(&mut self, address: u32, count: u32) -> Result<Code, Error> {
         self.call(Call::Given { address, count }).await
     }
@@ -219,6 +386,17 @@ impl<T: Item, S: Share> Owned<ReadStream, T, S> {
     /// # Errors
     ///
     /// Those of `recv`.
+    ///
+    /// ```
+    /// use std::task::{Context, Poll, Waker};
+    /// # let (store, a, b) = strm::example_shared()?;
+    /// let (mut sender, mut receiver) = strm::stream::<u32, _>(&store, a, b, 4)?;
+    /// let mut cx = Context::from_waker(Waker::noop());
+    /// assert_eq!(receiver.poll_recv(&mut cx), Poll::Pending);
+    /// assert_eq!(sender.poll_send(&mut cx, &[9]), Poll::Ready(Ok(1)));
+    /// assert_eq!(receiver.poll_recv(&mut cx), Poll::Ready(Ok(Some(9))));
+    /// # Ok::<(), strm::Error>(())
+    /// ```
     pub fn poll_recv(&mut self, cx: &mut Context<'_>) -> Poll<Result<Option<T>, Error>> {
         ready!(self.poll_held(cx))?;
         Poll::Ready(self.take_held().transpose())
@@ -229,6 +407,18 @@ impl<T: Item, S: Share> Owned<ReadStream, T, S> {
     /// # Errors
     ///
     /// Those of `recv`.
+    ///
+    /// ```
+    /// use std::task::{Context, Poll, Waker};
+    /// # let (store, a, b) = strm::example_shared()?;
+    /// let (mut sender, mut receiver) = strm::stream::<u32, _>(&store, a, b, 4)?;
+    /// let mut cx = Context::from_waker(Waker::noop());
+    /// let mut items = [0; 2];
+    /// assert_eq!(sender.poll_send(&mut cx, &[7, 8, 9]), Poll::Ready(Ok(3)));
+    /// assert_eq!(receiver.poll_recv_into(&mut cx, &mut items), Poll::Ready(Ok(2)));
+    /// assert_eq!(items, [7, 8]);
+    /// # Ok::<(), strm::Error>(())
+    /// ```
     pub fn poll_recv_into(&mut self, cx: &mut Context<'_>, items: &mut [T]) -> Poll<Result<usize, Error>> {
         ready!(self.poll_held(cx))?;
         let held = self.take_many(items.len())?;

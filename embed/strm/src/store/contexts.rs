@@ -89,6 +89,13 @@ impl Store {
     /// # Errors
     ///
     /// Refused, in this order: `UnknownGuest`, `UnknownHandle`, `WrongKind`.
+    ///
+    /// ```
+    /// # let (mut store, guest, _, _) = strm::example()?;
+    /// let context = store.error_context_new(guest, 0, 0)?;
+    /// assert_eq!(store.error_context_rep(guest, context)?, strm::ErrorContextId(0));
+    /// # Ok::<(), strm::Error>(())
+    /// ```
     #[inline]
     pub fn error_context_rep(&self, guest: Guest, context: ErrorContext) -> Result<ErrorContextId, Error> {
         // SAFETY: above.

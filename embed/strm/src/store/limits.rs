@@ -2,9 +2,17 @@
 
 use crate::errors::{done, wrote};
 use crate::{Error, Guest, Store};
+use core::fmt;
 use strm_sys as sys;
 
 /// How much a guest may have at once: so one that takes all it can leaves the others their share.
+///
+/// ```
+/// use strm::GuestLimits;
+///
+/// let limits = GuestLimits { ends: 10, ..GuestLimits::UNBOUNDED };
+/// assert_eq!(limits.to_string(), "4294967295 handles, 10 ends, 18446744073709551615 bytes");
+/// ```
 #[derive(Clone, Copy, Debug, PartialEq, Eq, Hash)]
 pub struct GuestLimits {
     /// Handles, of whatever kind.
@@ -23,6 +31,16 @@ impl GuestLimits {
         ends: u32::MAX,
         bytes: u64::MAX,
     };
+}
+
+impl fmt::Display for GuestLimits {
+    fn fmt(&self, f: &mut fmt::Formatter<'_>) -> fmt::Result {
+        write!(
+            f,
+            "{} handles, {} ends, {} bytes",
+            self.handles, self.ends, self.bytes
+        )
+    }
 }
 
 impl Default for GuestLimits {

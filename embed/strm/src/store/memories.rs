@@ -106,6 +106,13 @@ impl Store {
     /// Where a guest's memory lies, and how many bytes it has: the same until the store is dropped; of no
     /// bytes a dangling address. It is for a runtime whose guests use their memory in place. A write there
     /// while a call is made, or while the memory is borrowed, is undefined.
+    ///
+    /// ```
+    /// # let (mut store, guest, _, _) = strm::example()?;
+    /// let (at, len) = store.memory_at(guest)?;
+    /// assert_eq!((at, len), (store.memory(guest)?.as_ptr().cast_mut(), 65536));
+    /// # Ok::<(), strm::Error>(())
+    /// ```
     pub fn memory_at(&mut self, guest: Guest) -> Result<(*mut u8, usize), Error> {
         self.place(guest)
     }

@@ -30,6 +30,16 @@ pub enum HandleInfo {
 }
 
 /// What is told of an end.
+///
+/// ```
+/// use strm::{HandleInfo, OtherEnd};
+///
+/// let (store, writer, reader, pair) = strm::example()?;
+/// let HandleInfo::End(end) = store.handle(writer, pair.write)? else { unreachable!() };
+/// assert_eq!(end.to_string(), "write end of stream 0 (stream:u8)");
+/// assert_eq!(end.other, OtherEnd::Guest { guest: reader, handle: pair.read });
+/// # Ok::<(), strm::Error>(())
+/// ```
 #[derive(Clone, Copy, Debug, PartialEq, Eq, Hash)]
 #[non_exhaustive]
 pub struct EndInfo {
@@ -62,6 +72,14 @@ pub enum Side {
 }
 
 /// Who has the other end of a stream or future.
+///
+/// ```
+/// use strm::{Guest, Handle, OtherEnd};
+///
+/// let other = OtherEnd::Guest { guest: Guest(1), handle: Handle(2) };
+/// assert_eq!(other.to_string(), "guest 1, handle 2");
+/// assert_eq!(OtherEnd::Gone.to_string(), "gone");
+/// ```
 #[derive(Clone, Copy, Debug, PartialEq, Eq, Hash)]
 #[non_exhaustive]
 pub enum OtherEnd {

@@ -71,6 +71,11 @@ impl<'a> Tasks<'a> {
             .collect()
     }
 
+    /// Polls a task though nobody woke it.
+    pub fn disturb(&mut self, number: usize) {
+        self.queue.lock().unwrap().push_back(number);
+    }
+
     /// Drops a task where it is.
     pub fn drop_task(&mut self, number: usize) {
         self.tasks[number] = None;
