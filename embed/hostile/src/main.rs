@@ -18,10 +18,6 @@ mod profiles;
 mod queries;
 mod references;
 mod shrinking;
-#[allow(dead_code)]
-#[rustfmt::skip]
-#[path = "../../strm-embed/src/sys.rs"]
-mod sys;
 mod tally;
 mod words;
 
@@ -33,10 +29,8 @@ use plain::compare::random::Random;
 use profiles::Profile;
 use std::process::ExitCode;
 use std::time::Instant;
+use strm_sys as sys;
 use tally::Tally;
-
-// It brings the archive, which `sys` declares.
-use strm_embed as _;
 
 /// How many calls are made of a store after it trapped.
 const MOST_AFTER_TRAP: u32 = 30;
