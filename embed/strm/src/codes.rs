@@ -32,6 +32,7 @@ pub enum Code {
 impl Code {
     /// The Canonical ABI's word, which a guest is answered.
     #[inline]
+    #[must_use]
     pub const fn word(self) -> u32 {
         let result = match self {
             Code::Blocked => return u32::MAX,
@@ -44,6 +45,7 @@ impl Code {
 
     /// How many items moved.
     #[inline]
+    #[must_use]
     pub const fn count(self) -> u32 {
         match self {
             Code::Blocked => 0,

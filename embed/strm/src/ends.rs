@@ -171,6 +171,7 @@ impl<K: Kind, T: Item> End<K, T> {
     /// assert_eq!((guest, handle.0), (b, 2));
     /// # Ok::<(), strm::Error>(())
     /// ```
+    #[must_use]
     pub fn into_raw(self) -> (Guest, Handle) {
         (self.guest, self.handle)
     }
@@ -183,6 +184,7 @@ impl<K: Kind, T: Item> End<K, T> {
     /// assert_eq!(writer.guest(), a);
     /// # Ok::<(), strm::Error>(())
     /// ```
+    #[must_use]
     pub const fn guest(&self) -> Guest {
         self.guest
     }
@@ -195,6 +197,7 @@ impl<K: Kind, T: Item> End<K, T> {
     /// assert_eq!(writer.handle(), strm::Handle(2));
     /// # Ok::<(), strm::Error>(())
     /// ```
+    #[must_use]
     pub const fn handle(&self) -> Handle {
         self.handle
     }
@@ -454,6 +457,7 @@ impl<K, T> EndError<K, T> {
     }
 
     /// Why it failed.
+    #[must_use]
     pub fn why(&self) -> Error {
         self.why
     }

@@ -47,6 +47,7 @@ impl Scalar {
     /// ```
     /// assert_eq!(strm::Scalar::U16.size(), 2);
     /// ```
+    #[must_use]
     pub const fn size(self) -> u32 {
         match self {
             Scalar::Bool | Scalar::S8 | Scalar::U8 => 1,
@@ -116,11 +117,13 @@ impl Payload {
     /// ```
     /// assert_eq!(strm::Payload::one(strm::Scalar::Char), strm::Payload::CHAR);
     /// ```
+    #[must_use]
     pub const fn one(scalar: Scalar) -> Payload {
         Payload(scalar as u64)
     }
 
     /// A tuple of these scalars; none for no field, or more than eight.
+    #[must_use]
     pub const fn tuple(fields: &[Scalar]) -> Option<Payload> {
         if fields.is_empty() || fields.len() > FIELDS as usize {
             return None;
@@ -142,6 +145,7 @@ impl Payload {
     /// assert!(!Payload::U8.is_tuple());
     /// assert!(Payload::tuple(&[Scalar::U8]).unwrap().is_tuple());
     /// ```
+    #[must_use]
     pub const fn is_tuple(self) -> bool {
         self.0 >= TUPLE
     }
@@ -171,11 +175,13 @@ impl Payload {
     /// assert_eq!(Payload::from_word(3), Some(Payload::U8));
     /// assert_eq!(Payload::from_word(11), None);
     /// ```
+    #[must_use]
     pub const fn word(self) -> u64 {
         self.0
     }
 
     /// The payload of a word, if one has it.
+    #[must_use]
     pub const fn from_word(word: u64) -> Option<Payload> {
         let mut numbers = word & (TUPLE - 1);
         let is_one = word == 0 || word <= SCALARS.len() as u64;
@@ -195,11 +201,13 @@ impl Payload {
     }
 
     /// The bytes of an item, and of those that lie between it and the next.
+    #[must_use]
     pub const fn size(self) -> u32 {
         self.offset(FIELDS).next_multiple_of(self.align())
     }
 
     /// An item lies at a multiple of it.
+    #[must_use]
     pub const fn align(self) -> u32 {
         let (mut align, mut index) = (1, 0);
         while let Some(scalar) = self.scalar(index) {
@@ -220,6 +228,7 @@ impl Payload {
     /// let three = Payload::tuple(&[Scalar::U8, Scalar::U32, Scalar::Bool]).unwrap();
     /// assert_eq!([0, 1, 2, 3].map(|index| three.offset(index)), [0, 4, 8, 9]);
     /// ```
+    #[must_use]
     pub const fn offset(self, index: u32) -> u32 {
         let (mut at, mut k) = (0u32, 0);
         while let Some(scalar) = self.scalar(k) {
@@ -278,6 +287,7 @@ pub enum Type {
 
 impl Type {
     /// What one item is.
+    #[must_use]
     pub const fn payload(self) -> Payload {
         match self {
             Type::Stream(payload) | Type::Future(payload) => payload,
@@ -285,6 +295,7 @@ impl Type {
     }
 
     /// The word by which C and the archive name it (`strm_type` of `strm.h`).
+    #[must_use]
     pub const fn word(self) -> u64 {
         match self {
             Type::Stream(payload) => payload.0,
@@ -293,6 +304,7 @@ impl Type {
     }
 
     /// The type of a word, if one has it.
+    #[must_use]
     pub const fn from_word(word: u64) -> Option<Type> {
         match Payload::from_word(word & !FUTURE) {
             None => None,

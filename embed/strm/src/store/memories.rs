@@ -107,6 +107,10 @@ impl Store {
     /// bytes a dangling address. It is for a runtime whose guests use their memory in place. A write there
     /// while a call is made, or while the memory is borrowed, is undefined.
     ///
+    /// # Errors
+    ///
+    /// Refused: `UnknownGuest`.
+    ///
     /// ```
     /// # let (mut store, guest, _, _) = strm::example()?;
     /// let (at, len) = store.memory_at(guest)?;

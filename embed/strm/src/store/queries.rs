@@ -98,6 +98,7 @@ pub enum OtherEnd {
 
 impl Side {
     /// The other one.
+    #[must_use]
     pub const fn other(self) -> Side {
         match self {
             Side::Writing => Side::Reading,
