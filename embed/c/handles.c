@@ -8,7 +8,7 @@
 
 static void must(strm_status status) {
     if (status == STRM_DONE) return;
-    fprintf(stderr, "status %u\n", status);
+    fprintf(stderr, "%s\n", strm_status_name(status));
     exit(1);
 }
 
@@ -49,14 +49,14 @@ static void list(strm_store *store, uint32_t guest) {
 /* An end goes: its operation is cancelled first, if it has one. */
 static strm_status drop_end(strm_store *store, uint32_t guest, const strm_handle *end) {
     strm_payload payload = end->type & ~STRM_FUTURE;
-    bool reads = end->side == STRM_SIDE_READING;
+    bool reads = end->side == STRM_SIDE_READING, is_future = (end->type & STRM_FUTURE) != 0;
     uint32_t code;
-    if (end->type & STRM_FUTURE) {
-        (reads ? strm_future_cancel_read : strm_future_cancel_write)(store, guest, payload, end->handle, &code);
-        return (reads ? strm_future_drop_readable : strm_future_drop_writable)(store, guest, payload, end->handle);
-    }
-    (reads ? strm_stream_cancel_read : strm_stream_cancel_write)(store, guest, payload, end->handle, &code);
-    return (reads ? strm_stream_drop_readable : strm_stream_drop_writable)(store, guest, payload, end->handle);
+    strm_status status =
+        is_future ? (reads ? strm_future_cancel_read : strm_future_cancel_write)(store, guest, payload, end->handle, &code)
+                  : (reads ? strm_stream_cancel_read : strm_stream_cancel_write)(store, guest, payload, end->handle, &code);
+    if (status != STRM_DONE && status != STRM_NO_PENDING) return status;
+    return is_future ? (reads ? strm_future_drop_readable : strm_future_drop_writable)(store, guest, payload, end->handle)
+                     : (reads ? strm_stream_drop_readable : strm_stream_drop_writable)(store, guest, payload, end->handle);
 }
 
 static strm_status drop(strm_store *store, uint32_t guest, const strm_handle *it) {
@@ -75,7 +75,7 @@ static void give_up(strm_store *store, uint32_t guest) {
             if (next.handle == 0) break;
             if (pass == 0 && next.kind != STRM_KIND_END) continue;
             strm_status status = drop(store, guest, &next);
-            if (status != STRM_DONE && pass == 1) printf("  %u stays: status %u\n", next.handle, status);
+            if (status != STRM_DONE && pass == 1) printf("  %u stays: %s\n", next.handle, strm_status_name(status));
         }
     }
 }

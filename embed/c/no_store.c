@@ -17,6 +17,14 @@ static void expect(int holds, const char *what) {
 /* A call is made of {NULL}, and answers that there is no store. */
 #define HAS_NO_STORE(call) expect((call) == STRM_NO_STORE && store.at == NULL, #call)
 
+/* What is asked of no store at all: whose header this is, and what a status is called. */
+static void name_all(void) {
+    expect(strm_version() == STRM_VERSION, "strm_version");
+    expect(strcmp(strm_status_name(STRM_DONE), "STRM_DONE") == 0, "strm_status_name");
+    expect(strcmp(strm_status_name(STRM_NO_STORE), "STRM_NO_STORE") == 0, "strm_status_name of a status that is no refusal");
+    expect(strcmp(strm_status_name(3), "?") == 0, "strm_status_name of none");
+}
+
 static void query_none(strm_store store) {
     uint64_t type = 7;
     strm_count count = {7, 7};
@@ -119,6 +127,7 @@ static void limit_guests_of_none(strm_store store) {
 
 int main(void) {
     strm_store store = {NULL};
+    name_all();
     strm_store_free(&store);
     expect(store.at == NULL, "free of none");
     query_none(store);

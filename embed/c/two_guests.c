@@ -7,7 +7,7 @@
 
 static void must(strm_status status) {
     if (status == STRM_DONE) return;
-    fprintf(stderr, "status %u\n", status);
+    fprintf(stderr, "%s\n", strm_status_name(status));
     exit(1);
 }
 

@@ -195,13 +195,12 @@ static void run_hostile(uint32_t size, uint32_t calls) {
     must(enemy != NULL, "no guest");
     must(!turns(&line, 5), "over before the attack");
     for (int k = 0; k < GUESTS; k++) memcpy(before[k], line.guests[k]->env.memory.data, MEMORY);
-    for (int k = 0; k < 2; k++) strm_moved(&line.store, k, &then[k]);
+    for (int k = 0; k < 2; k++) must(strm_moved(&line.store, k, &then[k]) == STRM_DONE, "no count");
     for (uint32_t k = 0; k < calls; k++) done += attack(enemy);
     for (int k = 0; k < GUESTS; k++)
         must(memcmp(before[k], line.guests[k]->env.memory.data, MEMORY) == 0, "another guest's memory changed");
     for (int k = 0; k < 2; k++) {
-        strm_moved(&line.store, k, &now[k]);
-        must(then[k].low == now[k].low, "another guest's stream moved");
+        must(strm_moved(&line.store, k, &now[k]) == STRM_DONE && then[k].low == now[k].low, "another guest's stream moved");
     }
     for (int k = 0; k < GUESTS; k++) must(has_its_memory(&line, line.guests[k]), "a memory moved");
     must(has_its_memory(&line, enemy) && Z_hostileZ_wrong(enemy->instance) == 0, "the hostile guest's memory moved or grew");

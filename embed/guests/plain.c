@@ -74,7 +74,7 @@ strm_status strm_new_between(strm_store *store, uint32_t writer, uint32_t reader
     return STRM_DONE;
 }
 
-strm_status strm_moved(strm_store *store, uint32_t number, strm_count *out) {
+strm_status strm_moved(const strm_store *store, uint32_t number, strm_count *out) {
     out->low = ((plain *)store->at)->streams[number].received;
     out->high = 0;
     return STRM_DONE;
@@ -142,7 +142,7 @@ strm_status strm_set_poll(strm_store *store, uint32_t number, uint32_t set, strm
     return STRM_DONE;
 }
 
-strm_status strm_handle_info(strm_store *store, uint32_t number, uint32_t handle, strm_handle *out) {
+strm_status strm_handle_info(const strm_store *store, uint32_t number, uint32_t handle, strm_handle *out) {
     uint8_t side = ((plain *)store->at)->guests[number].handles[handle].side;
     out->type = STRM_U8;
     out->side = side == READING ? STRM_SIDE_READING : STRM_SIDE_WRITING;
@@ -171,7 +171,7 @@ strm_status strm_stream_drop_writable(strm_store *store, uint32_t number, strm_p
         return STRM_UNKNOWN_HANDLE;       \
     }
 #pragma GCC diagnostic ignored "-Wunused-parameter"
-ABSENT(strm_memory_read, strm_store *s, uint32_t g, uint32_t a, uint8_t *o, size_t l)
+ABSENT(strm_memory_read, const strm_store *s, uint32_t g, uint32_t a, uint8_t *o, size_t l)
 ABSENT(strm_memory_write, strm_store *s, uint32_t g, uint32_t a, const uint8_t *o, size_t l)
 ABSENT(strm_stream_new, strm_store *s, uint32_t g, strm_payload p, strm_pair *o)
 ABSENT(strm_future_new, strm_store *s, uint32_t g, strm_payload p, strm_pair *o)

@@ -10,3 +10,4 @@ mod queries;
 mod sets;
 mod stores;
 mod streams;
+mod version;

@@ -4,13 +4,13 @@
 //! of each. What a runtime knows only when it runs, as the payload, the compiler does not see in either; and all
 //! memories are written before, since pages that were never written are all one page, which is read faster.
 
-#[allow(dead_code)]
+#[allow(dead_code, clippy::too_many_arguments)]
 #[rustfmt::skip]
 #[path = "../../../bench/store.rs"]
 mod plain;
 
 use std::hint::black_box;
-use strm_embed::{Error, Guest, Limits, Pair, Payload, Store, Type};
+use strm::{Error, Guest, Limits, Pair, Payload, Store, Type};
 
 const MEMORY: u32 = 1 << 20;
 const RUNS: usize = 61;

@@ -18,10 +18,6 @@ mod profiles;
 mod queries;
 mod references;
 mod shrinking;
-#[allow(dead_code)]
-#[rustfmt::skip]
-#[path = "../../strm-embed/src/sys.rs"]
-mod sys;
 mod tally;
 mod words;
 
@@ -33,10 +29,8 @@ use plain::compare::random::Random;
 use profiles::Profile;
 use std::process::ExitCode;
 use std::time::Instant;
+use strm_sys as sys;
 use tally::Tally;
-
-// It brings the archive, which `sys` declares.
-use strm_embed as _;
 
 /// How many calls are made of a store after it trapped.
 const MOST_AFTER_TRAP: u32 = 30;
@@ -224,6 +218,12 @@ fn main() -> ExitCode {
     };
     let begun = Instant::now();
     let mut tally = Tally::default();
+    // SAFETY: it takes nothing.
+    if unsafe { sys::strm_version() } != tally::version() {
+        println!("the archive is of another version than strm.h");
+        return ExitCode::FAILURE;
+    }
+    tally.count("version", 0);
     let (mut stores, mut trapped) = (0, 0);
     while tally.calls() < wanted.calls {
         let seed = wanted.seed.wrapping_mul(1 << 32).wrapping_add(stores);

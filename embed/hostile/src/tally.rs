@@ -67,6 +67,12 @@ impl Tally {
     }
 }
 
+/// The version of the header.
+pub fn version() -> u32 {
+    let line = HEADER.lines().find_map(|line| line.strip_prefix("#define STRM_VERSION "));
+    line.and_then(|number| number.trim_end_matches('u').parse().ok()).unwrap_or(0)
+}
+
 // The statuses that stand in the comment above each export of the header.
 fn listed() -> BTreeMap<&'static str, Vec<&'static str>> {
     let mut listed = BTreeMap::new();

@@ -12,7 +12,7 @@ mod streams;
 
 use std::process::ExitCode;
 use std::time::Duration;
-use strm_embed::Error;
+use strm::Error;
 
 /// By how many kB a process may seem to grow that keeps nothing: pages of the allocator's and of its own.
 const MOST_GROWTH: u64 = 512;

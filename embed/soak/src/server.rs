@@ -4,7 +4,7 @@
 
 use crate::resident::resident;
 use std::time::{Duration, Instant};
-use strm_embed::{Code, Error, Guest, Limits, Pair, Payload, Store, Type};
+use strm::{Code, Error, Guest, Handle, Limits, Pair, Payload, Store, Type, WaitableSet};
 
 const CLIENTS: usize = 63;
 const CONNECTIONS: usize = 500;
@@ -29,7 +29,7 @@ struct Connection {
 struct Server {
     store: Store,
     server: Guest,
-    set: u32,
+    set: WaitableSet,
     connections: Vec<Connection>,
     // The connection of each of the server's handles.
     by_handle: Vec<usize>,
@@ -76,13 +76,13 @@ impl Server {
         let requests = self.store.new_between(client, self.server, Type::Stream(BYTES))?;
         let responses = self.store.new_between(self.server, client, Type::Stream(BYTES))?;
         self.store.set_join(self.server, self.set, requests.read)?;
-        self.by_handle[requests.read as usize] = number;
+        self.by_handle[requests.read.0 as usize] = number;
         self.opened += 1;
         self.await_request(number, requests.read)?;
         Ok(Connection { client, place: place_of(number / CLIENTS), served: 0, requests, responses })
     }
 
-    fn await_request(&mut self, number: usize, handle: u32) -> Result<(), Error> {
+    fn await_request(&mut self, number: usize, handle: Handle) -> Result<(), Error> {
         let code = self.store.stream_read(self.server, BYTES, handle, place_of(number), BUFFER)?;
         assert_eq!(code, Code::Blocked);
         Ok(())
@@ -121,7 +121,7 @@ impl Server {
     // The server does what its set tells.
     fn serve(&mut self) -> Result<(), Error> {
         while let Some(member) = self.store.set_poll(self.server, self.set)? {
-            let number = self.by_handle[member.handle as usize];
+            let number = self.by_handle[member.handle.0 as usize];
             match member.code {
                 Code::Completed(len) => self.respond(number, len)?,
                 _ => self.replace(number)?,

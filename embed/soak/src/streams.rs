@@ -2,7 +2,7 @@
 
 use crate::resident::resident;
 use std::time::Instant;
-use strm_embed::{Code, Error, Guest, Limits, Payload, Store, Type};
+use strm::{Code, Error, Guest, Limits, Payload, Store, Type};
 
 /// So many are made before growth is looked at.
 const FIRST: u64 = 1000;

@@ -1,0 +1,161 @@
+// Two guests pass bytes, pairs and a value, by the calls of strm.hpp: the store moves, and goes to another thread.
+#include "strm.hpp"
+
+#include <cstdio>
+#include <cstdlib>
+#include <cstring>
+#include <thread>
+
+using strm::Code;
+using strm::Guest;
+using strm::Payload;
+using strm::Scalar;
+using strm::Store;
+
+namespace {
+
+// What an embedder who knows of nothing that may be refused here does with a status.
+void must(strm::Status status) {
+    if (status) return;
+    std::fprintf(stderr, "%s\n", status.name());
+    std::exit(1);
+}
+
+template <typename T> T must(strm::Result<T> result) {
+    must(result.status);
+    return std::move(*result);
+}
+
+void show(const char *what, Code code) {
+    static const char *const outcomes[] = {"completed", "dropped", "cancelled", "blocked"};
+    std::printf("%s: %s, %u items\n", what, outcomes[int(code.outcome())], code.count());
+}
+
+void show(const char *what, strm::Event event) {
+    if (event) show(what, *event);
+    else std::printf("%s: nothing\n", what);
+}
+
+// A write waits, a read meets it, and the writer is told by its event.
+void pass_bytes(Store &store, Guest writer, Guest reader) {
+    auto [write, read, stream] = must(store.stream_between(writer, reader, Scalar::U8));
+    strm::Memory from = must(store.memory(writer)), to = must(store.memory(reader));
+    std::memcpy(from.data + 100, "hello", 5);
+    show("write", must(store.write(write, 100, 5)));
+    show("read", must(store.read(read, 0, 8)));
+    std::printf("%.5s\n", reinterpret_cast<char *>(to.data));
+    show("event", must(store.take_event(write)));
+    show("event", must(store.take_event(write)));
+    std::printf("moved: %llu\n", static_cast<unsigned long long>(must(store.moved(stream)).low));
+    must(store.drop(read));
+    // The write end has nothing under way, and is told as well that the other end is gone.
+    show("event of an idle end", must(store.take_event(write)));
+    std::printf("write: %s\n", store.write(write, 100, 5).status.name());
+    must(store.drop(write));
+}
+
+// A tuple of a u8 and a u32: its fields lie as the Canonical ABI has them, at 0 and 4.
+struct PairItem {
+    uint8_t kind;
+    uint32_t value;
+};
+
+void pass_pairs(Store &store, Guest writer, Guest reader) {
+    const PairItem items[] = {{1, 1000}, {2, 2000}};
+    PairItem got[2] = {};
+    auto pair = must(store.stream_between(writer, reader, Payload::tuple(Scalar::U8, Scalar::U32)));
+    must(store.memory_write(writer, 200, items, sizeof items));
+    show("read of pairs", must(store.read(pair.read, 400, 4)));
+    show("write of pairs", must(store.write(pair.write, 200, 2)));
+    must(store.memory_read(reader, 400, got, sizeof got));
+    std::printf("%u %u, %u %u\n", got[0].kind, got[0].value, got[1].kind, got[1].value);
+    show("cancel", must(store.cancel(pair.read)));
+    must(store.drop(pair.write));
+    must(store.drop(pair.read));
+}
+
+// The read end of a future moves, loose in between, and its guest hears of the value by a set.
+void pass_a_value(Store &store, Guest writer, Guest reader) {
+    auto [write, read, number] = must(store.future_new(writer, Scalar::U32));
+    auto there = must(store.lower(must(store.lift(read)), reader));
+    strm::Set set = must(store.set_new(reader));
+    must(store.join(set, there));
+    show("read of a value", must(store.read(there, 0)));
+    std::printf("poll: %s\n", must(store.poll(set)) ? "an event" : "nothing");
+    show("write of a value", must(store.write(write, 0)));
+    auto member = must(store.poll(set));
+    if (member) show("poll", member->code);
+    std::printf("the future is number %u; drop of the set: %s\n", number, store.drop(set).name());
+    must(store.leave(there));
+    must(store.drop(set));
+    must(store.drop(there));
+    must(store.drop(write));
+}
+
+void tell_an_error(Store &store, Guest first, Guest second) {
+    must(store.memory_write(first, 0, "no more", 7));
+    auto mine = must(store.error_context_new(first, 0, 7));
+    auto theirs = must(store.transfer(mine, second));
+    uint32_t len = must(store.message(theirs, 64));
+    std::printf("message: %.*s\n", int(len), reinterpret_cast<char *>(must(store.memory(second)).data + 64));
+    must(store.drop(mine));
+    must(store.drop(theirs));
+}
+
+// Each guest has its share, and a handle more than that is refused.
+void bound(Store &store, Guest guest) {
+    must(store.set_guest_limits(guest, {0, 1, 2}));
+    std::printf("limit of %u handles: %s\n", must(store.guest_limits(guest)).handles,
+                store.stream_new(guest, Payload()).status.name());
+    std::printf("handles: %u\n", must(store.handle_count(guest)));
+}
+
+// An end goes, with the read or write that it may have.
+template <typename E> void drop_if(Store &store, Guest guest, const strm_handle &told) {
+    auto end = strm::as_end<E>(guest, told);
+    if (!end) return;
+    if (auto code = store.cancel(*end)) show("a cancel", *code);
+    std::printf("drop of %u: %s\n", told.handle, store.drop(*end).name());
+}
+
+// All ends of a guest go, as at the end of its instance: no table of them is kept here.
+void give_up(Store &store, Guest guest) {
+    for (auto told = store.next_handle(guest, 0); told && told->handle != 0; told = store.next_handle(guest, told->handle)) {
+        drop_if<strm::StreamWriter>(store, guest, *told);
+        drop_if<strm::StreamReader>(store, guest, *told);
+        drop_if<strm::FutureWriter>(store, guest, *told);
+        drop_if<strm::FutureReader>(store, guest, *told);
+    }
+}
+
+void end_a_guest(Store &store, Guest guest, Guest other) {
+    auto bytes = must(store.stream_between(guest, other, Scalar::U8));
+    auto value = must(store.future_between(other, guest, Scalar::Char));
+    must(store.write(bytes.write, 0, 9));
+    must(store.read(value.read, 0));
+    give_up(store, guest);
+    show("event", must(store.take_event(bytes.read)));
+    std::printf("read of a handle that is gone: %s\n", store.read(value.read, 0).status.name());
+}
+
+}  // namespace
+
+int main() {
+    std::printf("version of header and archive: %s\n", strm::is_version_of_header() ? "one" : "two");
+    Store store = must(Store::make(7, 100, 100));
+    Guest writer = must(store.add_guest(65536)), reader = must(store.add_guest(65536));
+    pass_bytes(store, writer, reader);
+
+    // The store goes to another thread and comes back; what is left behind is none.
+    Store moved;
+    std::thread([&moved, store = std::move(store), writer, reader]() mutable {
+        pass_pairs(store, writer, reader);
+        moved = std::move(store);
+    }).join();
+    std::printf("left behind: %s\n", store.add_guest(1).status.name());
+    pass_a_value(moved, writer, reader);
+    tell_an_error(moved, writer, reader);
+    end_a_guest(moved, writer, reader);
+    bound(moved, writer);
+    std::printf("tag %llu, trapped: %s\n", static_cast<unsigned long long>(moved.tag()), moved.trapped() ? "yes" : "no");
+}

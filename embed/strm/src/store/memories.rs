@@ -1,0 +1,160 @@
+//! Guests and their memories.
+
+use crate::errors::{done, wrote};
+use crate::{Error, Guest, Store};
+use core::ptr::NonNull;
+use strm_sys as sys;
+
+/// Guests and their memories.
+impl Store {
+    /// A guest with a memory of so many zero bytes: 268,435,456 of all guests together at most.
+    ///
+    /// # Errors
+    ///
+    /// Refused, in this order: `MemoryTooBig`, `Full`. [`Error::OutOfMemory`] where memory is short.
+    ///
+    /// ```
+    /// # use strm::{Error, Refusal};
+    /// # let (mut store, _, _, _) = strm::example()?;
+    /// let guest = store.add_guest(64)?;
+    /// assert_eq!(store.memory(guest)?, [0; 64]);
+    /// assert_eq!(store.add_guest(u32::MAX), Err(Error::Refused(Refusal::MemoryTooBig)));
+    /// # Ok::<(), Error>(())
+    /// ```
+    pub fn add_guest(&mut self, size: u32) -> Result<Guest, Error> {
+        // SAFETY: above.
+        wrote(|out| unsafe { sys::strm_add_guest(self.at(), size, out) }).map(Guest)
+    }
+
+    // Where a guest's memory lies, and how many bytes it has. Of no bytes it is an address that a slice may
+    // have, which that of the archive need not be.
+    fn place(&self, guest: Guest) -> Result<(*mut u8, usize), Error> {
+        let nowhere = NonNull::dangling().as_ptr();
+        let (mut at, mut len) = (nowhere, 0);
+        // SAFETY: above.
+        done(unsafe { sys::strm_memory_at(self.at(), guest.0, &mut at, &mut len) })?;
+        Ok(if len == 0 { (nowhere, 0) } else { (at, len) })
+    }
+
+    /// A guest's memory.
+    ///
+    /// # Errors
+    ///
+    /// Refused: `UnknownGuest`.
+    ///
+    /// ```
+    /// # let (store, guest, _, _) = strm::example()?;
+    /// assert_eq!(store.memory(guest)?, [0; 65536]);
+    /// # Ok::<(), strm::Error>(())
+    /// ```
+    pub fn memory(&self, guest: Guest) -> Result<&[u8], Error> {
+        let (at, len) = self.place(guest)?;
+        // SAFETY: the bytes are the guest's, in one block that stays where it is until the store is given
+        // up, and calls by `&self` write none of them; none have an address that is not null.
+        Ok(unsafe { core::slice::from_raw_parts(at, len) })
+    }
+
+    /// A guest's memory, to read and write in place. The borrow rules out calls while it lasts.
+    ///
+    /// # Errors
+    ///
+    /// Refused: `UnknownGuest`.
+    ///
+    /// ```
+    /// # let (mut store, guest, _, _) = strm::example()?;
+    /// store.memory_mut(guest)?[3] = 7;
+    /// assert_eq!(store.memory(guest)?[..4], [0, 0, 0, 7]);
+    /// # Ok::<(), strm::Error>(())
+    /// ```
+    pub fn memory_mut(&mut self, guest: Guest) -> Result<&mut [u8], Error> {
+        let (at, len) = self.place(guest)?;
+        // SAFETY: the bytes are the guest's, in one block that stays where it is until the store is given
+        // up, and `&mut self` leaves them to this borrow; none have an address that is not null.
+        Ok(unsafe { core::slice::from_raw_parts_mut(at, len) })
+    }
+
+    /// The memories of two different guests, to read and write in place.
+    ///
+    /// # Errors
+    ///
+    /// Refused: `UnknownGuest`. [`Error::SameGuest`] of a guest and itself.
+    ///
+    /// ```
+    /// # let (mut store, a, b, _) = strm::example()?;
+    /// store.memory_write(a, 0, b"abc")?;
+    /// let (from, to) = store.memories_mut(a, b)?;
+    /// to[..3].copy_from_slice(&from[..3]);
+    /// assert_eq!(&store.memory(b)?[..3], b"abc");
+    /// assert_eq!(store.memories_mut(a, a), Err(strm::Error::SameGuest));
+    /// # Ok::<(), strm::Error>(())
+    /// ```
+    pub fn memories_mut(&mut self, a: Guest, b: Guest) -> Result<(&mut [u8], &mut [u8]), Error> {
+        let ((a_at, a_len), (b_at, b_len)) = (self.place(a)?, self.place(b)?);
+        if a == b {
+            return Err(Error::SameGuest);
+        }
+        // SAFETY: the bytes are two guests', each in a block of its own that stays where it is until the store is
+        // given up, and `&mut self` leaves them to these borrows; none have an address that is not null.
+        Ok(unsafe {
+            (
+                core::slice::from_raw_parts_mut(a_at, a_len),
+                core::slice::from_raw_parts_mut(b_at, b_len),
+            )
+        })
+    }
+
+    /// Where a guest's memory lies, and how many bytes it has: the same until the store is dropped; of no
+    /// bytes a dangling address. It is for a runtime whose guests use their memory in place. A write there
+    /// while a call is made, or while the memory is borrowed, is undefined.
+    ///
+    /// # Errors
+    ///
+    /// Refused: `UnknownGuest`.
+    ///
+    /// ```
+    /// # let (mut store, guest, _, _) = strm::example()?;
+    /// let (at, len) = store.memory_at(guest)?;
+    /// assert_eq!((at, len), (store.memory(guest)?.as_ptr().cast_mut(), 65536));
+    /// # Ok::<(), strm::Error>(())
+    /// ```
+    pub fn memory_at(&mut self, guest: Guest) -> Result<(*mut u8, usize), Error> {
+        self.place(guest)
+    }
+
+    /// Copies bytes into a guest's memory, from an address on.
+    ///
+    /// # Errors
+    ///
+    /// Refused, in this order: `UnknownGuest`, `OutOfBounds`.
+    ///
+    /// ```
+    /// # use strm::{Error, Refusal};
+    /// # let (mut store, guest, _, _) = strm::example()?;
+    /// store.memory_write(guest, 0, b"all or nothing")?;
+    /// assert_eq!(store.memory_write(guest, 65530, b"all or nothing"), Err(Error::Refused(Refusal::OutOfBounds)));
+    /// # Ok::<(), Error>(())
+    /// ```
+    pub fn memory_write(&mut self, guest: Guest, address: u32, bytes: &[u8]) -> Result<(), Error> {
+        // SAFETY: above.
+        done(unsafe { sys::strm_memory_write(self.at(), guest.0, address, bytes.as_ptr(), bytes.len()) })
+    }
+
+    /// Copies bytes of a guest's memory out, from an address on; also of a store that was trapped.
+    ///
+    /// # Errors
+    ///
+    /// Refused, in this order: `UnknownGuest`, `OutOfBounds`.
+    ///
+    /// ```
+    /// # let (mut store, guest, _, _) = strm::example()?;
+    /// store.memory_write(guest, 8, b"abc")?;
+    /// let mut bytes = [0; 2];
+    /// store.memory_read(guest, 9, &mut bytes)?;
+    /// assert_eq!(&bytes, b"bc");
+    /// # Ok::<(), strm::Error>(())
+    /// ```
+    pub fn memory_read(&self, guest: Guest, address: u32, out: &mut [u8]) -> Result<(), Error> {
+        // SAFETY: above.
+        done(unsafe { sys::strm_memory_read(self.at(), guest.0, address, out.as_mut_ptr(), out.len()) })
+    }
+}
