@@ -27,9 +27,9 @@ use core::cell::RefCell;
 /// # Ok::<(), strm::Error>(())
 /// ```
 ///
-/// Whoever uses the store directly, as by `borrow_mut`, wakes tasks while it is borrowed, which is well where a
-/// waker does no more than to put its task into a queue. Ends must not be dropped meanwhile, since each needs the
-/// store to drop itself.
+/// Meanwhile no owned end is used or dropped, since each needs the store too: `RefCell` panics, and a lock is waited
+/// for for ever. Whoever uses the store directly, as by `borrow_mut`, wakes tasks while it is borrowed, which is well
+/// where a waker does no more than to put its task into a queue.
 pub trait Share: Clone {
     /// Makes calls on the store, which nobody else uses meanwhile.
     fn access<R>(&self, calls: impl FnOnce(&mut Store) -> R) -> R;

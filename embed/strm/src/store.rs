@@ -68,14 +68,16 @@ impl fmt::Display for Limits {
 /// changes nothing. Before each of them comes [`Error::StoreTrapped`], of each call that changes a store which a bad
 /// item trapped.
 pub struct Store {
-    raw: UnsafeCell<sys::StoreHandle>,
+    raw: Raw,
     pub(crate) waits: Waits,
     pub(crate) rooms: BTreeMap<Guest, Rooms>,
 }
 
-// SAFETY: that a store may go to another thread is proved of the handle, and what stands beside it may; `UnsafeCell`
-// keeps it from being shared.
-unsafe impl Send for Store {}
+// The archive's store. `UnsafeCell` keeps it from being shared.
+struct Raw(UnsafeCell<sys::StoreHandle>);
+
+// SAFETY: that a store may go to another thread is proved of the handle.
+unsafe impl Send for Raw {}
 
 impl Drop for Store {
     fn drop(&mut self) {
@@ -121,7 +123,7 @@ impl Store {
         // SAFETY: the handle is of no store, as this call alone asks.
         done(unsafe { sys::strm_store_new(&mut handle, tag, limits.handles, limits.places) })?;
         Ok(Store {
-            raw: UnsafeCell::new(handle),
+            raw: Raw(UnsafeCell::new(handle)),
             waits: Waits::default(),
             rooms: BTreeMap::new(),
         })
@@ -130,7 +132,7 @@ impl Store {
     // What each call is handed.
     #[inline(always)]
     fn at(&self) -> *mut sys::StoreHandle {
-        self.raw.get()
+        self.raw.0.get()
     }
 
     /// The number that the store was made with.

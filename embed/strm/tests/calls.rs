@@ -249,3 +249,11 @@ fn errors_say_what_they_are() {
     );
     assert_eq!(Code::Cancelled(3).word(), 0x32);
 }
+
+#[test]
+fn what_may_go_to_another_thread() {
+    fn goes<T: Send>() {}
+    goes::<Store>();
+    goes::<strm::StreamWriter<u8>>();
+    goes::<strm::Sender<char, std::sync::Arc<std::sync::Mutex<Store>>>>();
+}

@@ -262,6 +262,26 @@ fn an_end_without_room_reads_where_its_guest_says() {
 }
 
 #[test]
+fn within_one_guest_integers_pass_alone() {
+    let (store, [a]) = hosts();
+    let (mut sender, mut receiver) = strm::stream::<(u8, u8), _>(&store, a, a, 2).unwrap();
+    let mut tasks = Tasks::default();
+    tasks.spawn(async move {
+        assert_eq!(sender.send((1, 2)).await, Err(Error::Closed));
+        Ok(())
+    });
+    tasks.spawn(async move {
+        assert_eq!(
+            receiver.recv().await,
+            Err(Error::Refused(Refusal::IntraComponent))
+        );
+        Ok(())
+    });
+    assert!(tasks.run().is_empty());
+    assert_eq!(handles(&store, &[a]), 0);
+}
+
+#[test]
 fn streams_of_nothing_need_no_room() {
     let (store, [a, b]) = hosts();
     let (mut sender, mut receiver) = strm::stream::<(), _>(&store, a, b, 1 << 20).unwrap();

@@ -9,7 +9,8 @@ use core::task::{Context, Poll, ready};
 
 /// A future of a `T` from one guest to another, which may be the same, each of whose ends has room for the value in
 /// its guest's memory. Where the write end is dropped before it sent one, the reader gets the value given here, since
-/// the Canonical ABI lets no future go without.
+/// the Canonical ABI lets no future go without. Within one guest integers and `()` pass alone, as in a
+/// [`stream`](crate::stream()).
 ///
 /// # Errors
 ///

@@ -8,7 +8,8 @@ use core::future::poll_fn;
 use core::task::{Context, Poll, ready};
 
 /// A stream of `T` from one guest to another, which may be the same, each of whose ends has room for so many items in
-/// its guest's memory. What is sent waits at the write end until it is read.
+/// its guest's memory. What is sent waits at the write end until it is read. Within one guest integers and `()` pass, and
+/// other items are refused with `IntraComponent`, as the Canonical ABI has it: they need two guests.
 ///
 /// # Errors
 ///

@@ -7,6 +7,7 @@ use core::ops::Range;
 /// Room for items in guests' memories.
 impl Store {
     /// A guest of the runtime's own, whose memory is all room for the items of its owned ends: so many zero bytes.
+    /// A stream of other items than integers needs two, one for each of its ends.
     ///
     /// # Errors
     ///
