@@ -7,9 +7,7 @@ use std::path::{Path, PathBuf};
 fn main() {
     println!("cargo:rerun-if-env-changed=STRM_C_DIR");
     let Some(folder) = folder() else {
-        println!(
-            "cargo:warning=nothing will link: set STRM_C_DIR to the folder of libstrm.a"
-        );
+        println!("cargo:warning=nothing will link: set STRM_C_DIR to the folder of libstrm.a");
         return;
     };
     println!("cargo:rustc-link-search=native={}", folder.display());
