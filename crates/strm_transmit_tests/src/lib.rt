@@ -8,6 +8,8 @@
 #[cfg(test)]
 mod calls;
 #[cfg(test)]
+mod bad_items;
+#[cfg(test)]
 mod contexts;
 #[cfg(test)]
 mod errors;

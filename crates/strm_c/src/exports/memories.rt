@@ -47,7 +47,7 @@ pub extern "C" fn strm_memory_write(
     done(store.write_memory(guest, address, bytes))
 }
 
-/// Copies `len` bytes of a guest's memory out, from `address` on; also of a store that was trapped. Refused:
+/// Copies `len` bytes of a guest's memory out, from `address` on. Refused:
 /// UnknownGuest, OutOfBounds.
 #[unsafe(no_mangle)]
 pub extern "C" fn strm_memory_read(

@@ -2,7 +2,7 @@
 //!
 //! Source: wasmtime, `ConcurrentState`.
 
-ghost use Rattle.std.specs.Prelude.{◌≡◌, ◌≢◌, ◌*◌, ◌<◌, ◌↔◌, ◌≤◌, false, [], Some, None, IfSome, IsTrue, length};
+ghost use Rattle.std.specs.Prelude.{◌≡◌, ◌≢◌, ◌*◌, ◌<◌, ◌↔◌, ◌≤◌, [], Some, None, IfSome, IsTrue, length};
 ghost use Rattle.strm_codes.specs.Types.{kind_of, payload_of};
 ghost use Rattle.strm_machine.specs.State.{empty, is_live, stream_at};
 ghost use Rattle.strm_machine.specs.Soundness.{type_of};
@@ -68,21 +68,6 @@ pub extern "C" fn strm_tag(store: &mut StoreHandle) -> u64
         return 0;
     };
     store.tag()
-}
-
-/// Whether an earlier call trapped the store, which then answers STRM_STORE_TRAPPED to all that changes it;
-/// not so of {NULL}.
-#[unsafe(no_mangle)]
-pub extern "C" fn strm_trapped(store: &mut StoreHandle) -> bool
-    ensures trapped { IfSome store.old.state (λ s. result ≡ s.trapped) }
-    ensures none { store.old.state ≡ None → result ≡ false }
-    ensures same { store.new.state ≡ store.old.state }
-    ensures limits { store.new.limits ≡ store.old.limits }
-{
-    let Some(store) = store.get_mut() else {
-        return false;
-    };
-    store.trapped()
 }
 
 /// The numbers that streams and futures got so far are below this; 0 of {NULL}. One is given again once both ends
