@@ -6,9 +6,9 @@
 #![tactic(auto)]
 
 #[cfg(test)]
-mod calls;
-#[cfg(test)]
 mod bad_items;
+#[cfg(test)]
+mod calls;
 #[cfg(test)]
 mod contexts;
 #[cfg(test)]
