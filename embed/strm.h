@@ -257,12 +257,12 @@ uint64_t strm_tag(const strm_store *store);
    no making is refused since streams were made and dropped before. */
 uint32_t strm_streams(const strm_store *store);
 
-/* Puts at `out` how many items were received so far on the stream that got this number last; also of a store that
-   was trapped. STRM_UNKNOWN_STREAM where none got it. */
+/* Puts at `out` how many items were received so far on the stream that got this number last. STRM_UNKNOWN_STREAM
+   where none got it. */
 STRM_ANSWER strm_moved(const strm_store *store, uint32_t stream, strm_count *out);
 
-/* Puts at `out` the type of the stream that has this number, while an end of it is there; also of a store that was
-   trapped. STRM_UNKNOWN_STREAM of any other. */
+/* Puts at `out` the type of the stream that has this number, while an end of it is there. STRM_UNKNOWN_STREAM of any
+   other. */
 STRM_ANSWER strm_transmit_index(const strm_store *store, uint32_t stream, strm_type *out);
 
 /* GUESTS AND THEIR MEMORIES */
@@ -281,8 +281,8 @@ STRM_ANSWER strm_memory_read(
 
 /* Puts at `out` where a guest's memory lies, and at `len` how many bytes it has; of no bytes `out` is an address
    that may not be read. They lie there until the store is given up, from the beginning of a block of malloc's on, at
-   a multiple of 16. The caller may read and write them between calls, and must not during one. Also of a store that
-   was trapped. Refused: STRM_UNKNOWN_GUEST. */
+   a multiple of 16. The caller may read and write them between calls, and must not during one. Refused:
+   STRM_UNKNOWN_GUEST. */
 STRM_ANSWER strm_memory_at(strm_store *store, uint32_t guest, uint8_t **out, size_t *len);
 
 /* STREAMS */

@@ -320,24 +320,23 @@ unsafe extern "C" {
     /// of its stream are gone, so it never passes a third of `places`: a store keeps room for no more streams than
     /// that, and no making is refused since streams were made and dropped before.
     pub fn strm_streams(store: *mut StoreHandle) -> u32;
-    /// Puts at `out` how many items were received so far on the stream that got this number last; also of a store
-    /// that was trapped. UNKNOWN_STREAM where none got it.
+    /// Puts at `out` how many items were received so far on the stream that got this number last. UNKNOWN_STREAM
+    /// where none got it.
     pub fn strm_moved(store: *mut StoreHandle, stream: u32, out: &mut Count) -> u32;
-    /// Puts at `out` the type of the stream that has this number, while an end of it is there; also of a store that
-    /// was trapped. UNKNOWN_STREAM of any other.
+    /// Puts at `out` the type of the stream that has this number, while an end of it is there. UNKNOWN_STREAM of any
+    /// other.
     pub fn strm_transmit_index(store: *mut StoreHandle, stream: u32, out: &mut u64) -> u32;
     /// Adds a guest with a memory of `size` zero bytes, and puts its number at `out`; the first is 0. Refused:
     /// MemoryTooBig (268,435,456 bytes of all guests together), Full (1,048,576 guests). OUT_OF_MEMORY.
     pub fn strm_add_guest(store: *mut StoreHandle, size: u32, out: &mut u32) -> u32;
     /// Copies `len` bytes into a guest's memory, from `address` on. Refused: UnknownGuest, OutOfBounds.
     pub fn strm_memory_write(store: *mut StoreHandle, guest: u32, address: u32, bytes: *const u8, len: usize) -> u32;
-    /// Copies `len` bytes of a guest's memory out, from `address` on. Refused:
-    /// UnknownGuest, OutOfBounds.
+    /// Copies `len` bytes of a guest's memory out, from `address` on. Refused: UnknownGuest, OutOfBounds.
     pub fn strm_memory_read(store: *mut StoreHandle, guest: u32, address: u32, out: *mut u8, len: usize) -> u32;
     /// Puts at `out` where a guest's memory lies, and at `len` how many bytes it has; of no bytes `out` is an
     /// address that may not be read. They lie there until the store is given up, from the beginning of a block of
     /// malloc's on, at a multiple of 16. The caller may read and write them between calls, and must not during one.
-    /// Also of a store that was trapped. Refused: UnknownGuest.
+    /// Refused: UnknownGuest.
     pub fn strm_memory_at(store: *mut StoreHandle, guest: u32, out: &mut *mut u8, len: &mut usize) -> u32;
     /// Makes a stream whose two ends the guest gets, and puts their handles and the stream's number at `out`,
     /// which may be that of a stream both of whose ends are gone. `canon stream.new`. Refused: UnknownGuest,
@@ -455,11 +454,10 @@ unsafe extern "C" {
     /// taken of what it is to be told. Refused: UnknownGuest, UnknownHandle.
     pub fn strm_handle_info(store: *mut StoreHandle, guest: u32, handle: u32, out: &mut Handle) -> u32;
     /// Puts at `out` the least handle of a guest above `after`, and what it is of, as strm_handle_info does; where
-    /// no handle is above it, its number and kind are 0. From 0 on, and then from each handle, it tells all of
-    /// them, and goes over the guest's table once. Refused: UnknownGuest.
+    /// no handle is above it, its number and kind are 0. From 0 on, and then from each handle, it tells all of them,
+    /// and goes over the guest's table once. Refused: UnknownGuest.
     pub fn strm_next_handle(store: *mut StoreHandle, guest: u32, after: u32, out: &mut Handle) -> u32;
-    /// Puts at `out` how many handles a guest has, and looks at none of them.
-    /// Refused: UnknownGuest.
+    /// Puts at `out` how many handles a guest has, and looks at none of them. Refused: UnknownGuest.
     pub fn strm_handle_count(store: *mut StoreHandle, guest: u32, out: &mut u32) -> u32;
     /// Sets how much a guest may have at once: handles of whatever kind, ends of streams and futures among them, and
     /// bytes that the store keeps for it, 4,096 for each handle of an error context. What it has stays, also where

@@ -93,8 +93,8 @@ pub extern "C" fn strm_handle_info(
 }
 
 /// Puts at `out` the least handle of a guest above `after`, and what it is of, as strm_handle_info does; where
-/// no handle is above it, its number and kind are 0. From 0 on, and then from each handle, it tells all of
-/// them, and goes over the guest's table once. Refused: UnknownGuest.
+/// no handle is above it, its number and kind are 0. From 0 on, and then from each handle, it tells all of them,
+/// and goes over the guest's table once. Refused: UnknownGuest.
 #[unsafe(no_mangle)]
 pub extern "C" fn strm_next_handle(
     store: &mut StoreHandle,
@@ -116,8 +116,7 @@ pub extern "C" fn strm_next_handle(
     next(store.next_handle(guest, after), out)
 }
 
-/// Puts at `out` how many handles a guest has, and looks at none of them.
-/// Refused: UnknownGuest.
+/// Puts at `out` how many handles a guest has, and looks at none of them. Refused: UnknownGuest.
 #[unsafe(no_mangle)]
 pub extern "C" fn strm_handle_count(store: &mut StoreHandle, guest: u32, out: &mut u32) -> Status
     ensures status { IfSome store.old.state (λ s. result ≡ found_status (count_answer s guest)) }

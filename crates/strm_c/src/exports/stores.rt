@@ -95,8 +95,8 @@ pub struct StrmCount {
     pub high: u64,
 }
 
-/// Puts at `out` how many items were received so far on the stream that got this number last; also of a store
-/// that was trapped. UNKNOWN_STREAM where none got it.
+/// Puts at `out` how many items were received so far on the stream that got this number last. UNKNOWN_STREAM
+/// where none got it.
 #[unsafe(no_mangle)]
 pub extern "C" fn strm_moved(store: &mut StoreHandle, stream: u32, out: &mut StrmCount) -> Status
     ensures made { IfSome store.old.state (λ s. result ≡ 0 ↔ (stream < length s.streams)) }
@@ -115,8 +115,8 @@ pub extern "C" fn strm_moved(store: &mut StoreHandle, stream: u32, out: &mut Str
     count(store.moved(stream), out)
 }
 
-/// Puts at `out` the type of the stream that has this number, while an end of it is there; also of a store that
-/// was trapped. UNKNOWN_STREAM of any other.
+/// Puts at `out` the type of the stream that has this number, while an end of it is there. UNKNOWN_STREAM of any
+/// other.
 #[unsafe(no_mangle)]
 pub extern "C" fn strm_transmit_index(store: &mut StoreHandle, stream: u32, out: &mut u64) -> Status
     ensures live { IfSome store.old.state

@@ -20,8 +20,7 @@ impl GuestStore {
     }
 
     /// The least handle of a guest above a number, and what it is of; none where no handle is above it.
-    /// All of them, one after the other, cost one pass over the guest's table. Refused:
-    /// UnknownGuest.
+    /// All of them, one after the other, cost one pass over the guest's table. Refused: UnknownGuest.
     pub fn next_handle(&self, guest: u32, after: u32) -> Result<Option<(u32, Handle)>, Refusal>
         ensures exact { result ≡ next_answer self.now guest after }
     {
