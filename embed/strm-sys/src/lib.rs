@@ -461,8 +461,8 @@ unsafe extern "C" {
     pub fn strm_handle_count(store: *mut StoreHandle, guest: u32, out: &mut u32) -> u32;
     /// Sets how much a guest may have at once: handles of whatever kind, ends of streams and futures among them, and
     /// bytes that the store keeps for it, 4,096 for each handle of an error context. What it has stays, also where
-    /// that is more; it only gets no more of it. It takes 16 bytes for each guest up
-    /// to this one. Refused: UnknownGuest. OUT_OF_MEMORY.
+    /// that is more; it only gets no more of it. It takes 16 bytes for each guest up to this one. Refused:
+    /// UnknownGuest. OUT_OF_MEMORY.
     pub fn strm_set_guest_limits(store: *mut StoreHandle, guest: u32, handles: u32, ends: u32, bytes: u64) -> u32;
     /// Puts at `out` how much a guest may have at once. Refused: UnknownGuest.
     pub fn strm_guest_limits(store: *mut StoreHandle, guest: u32, out: &mut Limits) -> u32;

@@ -28,8 +28,8 @@ pub struct StrmLimits {
 
 /// Sets how much a guest may have at once: handles of whatever kind, ends of streams and futures among them, and
 /// bytes that the store keeps for it, 4,096 for each handle of an error context. What it has stays, also where
-/// that is more; it only gets no more of it. It takes 16 bytes for each guest up
-/// to this one. Refused: UnknownGuest. OUT_OF_MEMORY.
+/// that is more; it only gets no more of it. It takes 16 bytes for each guest up to this one. Refused:
+/// UnknownGuest. OUT_OF_MEMORY.
 #[unsafe(no_mangle)]
 pub extern "C" fn strm_set_guest_limits(
     store: &mut StoreHandle,
