@@ -1,10 +1,10 @@
 -- A making that may give a number again leaves the state one of a store among guests, and memories where they lay.
-use Rattle.std.proofs.Common.{◌≡◌, ℕ, false, List, Result, refl, ap, ◌∙◌, subst}
+use Rattle.std.proofs.Common.{◌≡◌, ℕ, false, List, Result, refl, ◌∙◌, subst}
 use Rattle.strm_codes.specs.declared.codes.TransmitIndex.{TransmitIndex}
 use Rattle.strm_handles.specs.Handles.{inserted}
 use Rattle.strm_machine.specs.State.{State, Guest, guest_in, no_guest}
 use Rattle.strm_machine.specs.Acts.{act_of}
-use Rattle.strm_machine.specs.Bases.{base_in, BasesStay}
+use Rattle.strm_machine.specs.Bases.{BasesStay}
 use Rattle.strm_machine.specs.Making.{read_entry, write_entry, with_read_end, with_ends}
 use Rattle.strm_machine.specs.Reactions.{Reaction}
 use Rattle.strm_machine.specs.Soundness.{IsSound}

@@ -1,6 +1,5 @@
 -- A read or write of a store among guests: it leaves the store so, and the item at which it stops is one only.
-use Rattle.std.proofs.Common.{◌≡◌, ℕ, ◌+◌, ◌<◌, ◌≤◌, min, drop, length, Bool, true, false, List, Option, Some, None, Result, Ok, Err, refl, sym, ap, ◌∙◌, subst, arith}
-use Rattle.std.proofs.lemmas.Bool.{cases_lt}
+use Rattle.std.proofs.Common.{◌≡◌, ℕ, ◌+◌, min, true, false, Result, Ok, Err, refl, sym, ap, ◌∙◌, subst}
 use Rattle.strm_codes.specs.declared.codes.ReturnCode.{ReturnCode}
 use Rattle.strm_machine.specs.State.{State, stream_at}
 use Rattle.strm_machine.specs.Acts.{act_of}
@@ -21,11 +20,9 @@ use Rattle.strm_machine.specs.declared.streams.Owner.TheVariants.{Held}
 use Rattle.strm_machine.specs.declared.streams.Side.{Side}
 use Rattle.strm_machine.proofs.AskedLemmas.{bad-traps, reply-bad, told-trapped, react-by}
 use Rattle.strm_machine.proofs.HeldLemmas.{reaction-held}
-use Rattle.strm_host_machine.specs.Does.{Fits}
-use Rattle.strm_transmit.specs.BadItems.{MeetsOrStays, step_of, open_across, IsFirstBad, IsBadItem}
+use Rattle.strm_transmit.specs.BadItems.{MeetsOrStays, step_of, IsFirstBad, IsBadItem}
 use Rattle.strm_transmit.specs.Guests.{nobody}
 use Rattle.strm_transmit.specs.Hosted.{StillFits}
-use Rattle.strm_transmit.specs.Meets.{Meets}
 use Rattle.strm_transmit.specs.declared.errors.StoreError.{StoreError}
 use Rattle.strm_transmit.specs.declared.errors.StoreError.TheVariants as errors
 use Rattle.strm_transmit.specs.declared.store.bad_items.BadItem.{BadItem}

@@ -1,13 +1,12 @@
 -- An operation stays one of the guest that has its end, through every step; and no step but a read or write
 -- traps a store.
-use Rattle.std.proofs.Common.{◌≡◌, ℕ, zero, suc, Bool, true, false, List, [], ◌∷◌, ◌++◌, length, get_or, set, Option, Some, None, refl, sym, ap, subst, ◌∙◌}
+use Rattle.std.proofs.Common.{◌≡◌, ℕ, zero, suc, Bool, true, false, List, [], ◌∷◌, ◌++◌, length, set, Option, Some, None, refl, sym, ap, ◌∙◌}
 use Rattle.std.specs.Prelude.{is_some, nat_lt}
 use Rattle.std.specs.Option.{option_map}
 use Rattle.std.proofs.lemmas.Bool.{cond_both}
 use Rattle.strm_codes.specs.declared.codes.ReturnCode.{ReturnCode}
 use Rattle.strm_codes.specs.declared.codes.TransmitIndex.{TransmitIndex}
 use Rattle.strm_codes.specs.declared.refusals.Refusal.{Refusal}
-use Rattle.strm_events.specs.Reports.{left_pending}
 use Rattle.strm_machine.specs.State.{State, Guest, no_stream, stream_at, is_gone, is_loose, idle_end}
 use Rattle.strm_machine.specs.Making.{made_pair, made_stream, with_stream}
 use Rattle.strm_machine.specs.Meetings.{begun, advanced}
@@ -15,7 +14,7 @@ use Rattle.strm_machine.specs.Moves.{with_owner, without_handle, next_in}
 use Rattle.strm_machine.specs.Operating.{Operated, with_received, waits, moves, completes_alone, rendezvous_by, learns, finds, operate}
 use Rattle.strm_machine.specs.Endings.{report_on, told_end, delivered, dropped, asked_to_finish, waits_for_host, code_of_cancel, cancelled_end, cancelled}
 use Rattle.strm_machine.specs.Refusals.{refusal, first_of, lower_context_reasons}
-use Rattle.strm_machine.specs.Reactions.{Reaction, goes, written_back, polls, shares_unless, performs, reaction, lowers_context}
+use Rattle.strm_machine.specs.Reactions.{Reaction, written_back, polls, shares_unless, performs, reaction, lowers_context}
 use Rattle.strm_machine.specs.WaitableSets.{ready_in}
 use Rattle.strm_machine.specs.Sides.{opposite, same_side, end_of, with_end, with_operation}
 use Rattle.strm_machine.specs.Soundness.{IsSound}
@@ -29,7 +28,6 @@ use Rattle.strm_machine.specs.declared.acts.Making.TheVariants.{Guest as AGuest,
 use Rattle.strm_machine.specs.declared.acts.MemoryAct.TheVariants.{Poke, Dump}
 use Rattle.strm_machine.specs.declared.acts.NamedEnd.{NamedEnd}
 use Rattle.strm_machine.specs.declared.acts.SetAct.TheVariants as set_acts
-use Rattle.strm_machine.specs.declared.replies.Reply.TheVariants as replies
 use Rattle.strm_machine.specs.declared.streams.End.{End}
 use Rattle.strm_machine.specs.declared.streams.Meeting.{Meeting}
 use Rattle.strm_machine.specs.declared.streams.Meeting.TheVariants.{BothComplete, WriteCompletes, ReadCompletes}
@@ -40,11 +38,11 @@ use Rattle.strm_machine.specs.declared.streams.Side.{Side}
 use Rattle.strm_machine.specs.declared.streams.Side.TheVariants.{Writing, Reading}
 use Rattle.strm_machine.specs.declared.streams.Stream.{Stream}
 use Rattle.strm_machine.proofs.HeldLemmas.{StateIsHeld}
-use Rattle.strm_machine.proofs.ReactionLemmas.{reaction-by, reaction-performs, refusal-on_end}
+use Rattle.strm_machine.proofs.ReactionLemmas.{reaction-by, refusal-on_end}
 use Rattle.strm_machine.proofs.RefusalLemmas.{LeaveFits, drop_fits, lift_fits, move_fits, lower_fits, close_fits}
 use Rattle.strm_machine.proofs.Shapes.{Operates}
 use Rattle.strm_machine.proofs.ShapeLemmas.{operate-fits}
-use Rattle.strm_places.specs.Again.{IsFree, put, with_stream_in, performs_at, reaction_at}
+use Rattle.strm_places.specs.Again.{put, with_stream_in, performs_at, reaction_at}
 use Rattle.strm_places.proofs.AgainLemmas.{performs_at-by, reaction_at-by}
 use Rattle.strm_transmit.specs.Guests.{IsOfOwner, AreOfOwners}
 use Rattle.strm_guest_store.specs.Among.{HandlesAgree}

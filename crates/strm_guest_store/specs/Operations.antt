@@ -1,6 +1,6 @@
 -- A read or write of a store among guests. Ours: in the Canonical ABI a bad char traps the instance that lifts
 -- it.
-use Rattle.std.specs.Prelude.{◌≡◌, ℕ, Result, Ok, Err}
+use Rattle.std.specs.Prelude.{◌≡◌, Result, Ok, Err}
 use Rattle.strm_codes.specs.declared.codes.ReturnCode.{ReturnCode}
 use Rattle.strm_machine.specs.State.{State}
 use Rattle.strm_machine.specs.Reactions.{goes, react}

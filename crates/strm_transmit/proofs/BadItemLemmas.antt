@@ -10,21 +10,20 @@ use Rattle.strm_codes.specs.declared.refusals.Refusal.{Refusal}
 use Rattle.strm_codes.specs.Layout.{scalars_of, item_size}
 use Rattle.strm_codes.specs.declared.payloads.Payload.{Payload}
 use Rattle.strm_codes.specs.declared.payloads.Payload.TheVariants.{Nothing}
-use Rattle.strm_memory.proofs.ItemLemmas.{no_items}
 use Rattle.strm_memory.proofs.RegionLemmas.{items-number_or_none}
 use Rattle.strm_codes.specs.declared.scalars.Scalar.{Scalar}
 use Rattle.strm_memory.specs.declared.copies.BadItem.{BadItem as Bad}
 use Rattle.strm_memory.specs.Items.{decode, items, items_at, good_items, IsFirstBadItem}
 use Rattle.strm_memory.proofs.GoodLemmas.{good_take, good_counted, behind_good, past_none}
-use Rattle.strm_machine.specs.State.{State, Guest, no_stream, stream_at, is_gone, is_held, memory_in}
+use Rattle.strm_machine.specs.State.{State, Guest, no_stream, stream_at, is_gone, is_held}
 use Rattle.strm_machine.specs.Acts.{act_of}
-use Rattle.strm_machine.specs.Asked.{AsksToMove, items_next, HasBadItem}
+use Rattle.strm_machine.specs.Asked.{HasBadItem}
 use Rattle.strm_machine.specs.Meetings.{begun}
-use Rattle.strm_machine.specs.Operating.{Operated, learns, waits, moves, completes_alone, rendezvous_by, finds, operate}
+use Rattle.strm_machine.specs.Operating.{Operated, waits, moves, completes_alone, rendezvous_by, finds, operate}
 use Rattle.strm_machine.specs.Reactions.{Reaction, goes, written_back, on_stream, reaction}
 use Rattle.strm_machine.specs.Refusals.{refusal}
 use Rattle.strm_machine.specs.Sides.{opposite, same_side, end_of, write_of}
-use Rattle.strm_machine.specs.Soundness.{sizes_of, IsPlaced, IsSound}
+use Rattle.strm_machine.specs.Soundness.{IsSound}
 use Rattle.strm_machine.specs.Tests.{named, stream_named, items_asked}
 use Rattle.strm_machine.specs.declared.acts.Act.{Act}
 use Rattle.strm_machine.specs.declared.acts.Act.TheVariants.{OnEnd}
@@ -43,7 +42,6 @@ use Rattle.strm_machine.specs.declared.streams.Stream.{Stream}
 use Rattle.strm_machine.proofs.BoundLemmas.{within}
 use Rattle.strm_machine.proofs.CarryLemmas.{no_scalars}
 use Rattle.strm_machine.proofs.HeldLemmas.{StateIsHeld}
-use Rattle.strm_machine.proofs.TurnLemmas.{front_inside}
 use Rattle.strm_machine.proofs.ReactionLemmas.{reaction-trapped, reaction-refused, refusal-on_end}
 use Rattle.strm_machine.proofs.Shapes.{Operates}
 use Rattle.strm_machine.proofs.ShapeLemmas.{operate-fits}
@@ -55,7 +53,7 @@ use Rattle.strm_transmit.specs.BadItems.{MeetsOrStays, left_by, step_of, opened,
 use Rattle.strm_transmit.specs.Guests.{AreOfOwners}
 use Rattle.strm_transmit.specs.Hosted.{StillFits}
 use Rattle.strm_transmit.specs.Inside.{AreServed}
-use Rattle.strm_transmit.specs.Meets.{Meets, admitted, or_found}
+use Rattle.strm_transmit.specs.Meets.{admitted, or_found}
 use Rattle.strm_transmit.specs.declared.errors.StoreError.{StoreError}
 use Rattle.strm_transmit.specs.declared.errors.StoreError.TheVariants as errors
 use Rattle.strm_transmit.specs.declared.store.bad_items.BadItem.{BadItem}

@@ -1,6 +1,3 @@
-use Rattle.std.proofs.Common.{subst}
-use Rattle.strm_machine.specs.State.{State}
-use Rattle.strm_transmit.specs.Hosted.{StillFits}
 use Rattle.strm_transmit.proofs.BadItemLemmas.{left_fits}
 use Rattle.strm_transmit.proofs.store.Store.operate_alone.Goals as goal
 
