@@ -22,10 +22,9 @@
    All else is answered: any number may be passed as a guest, a handle, an address, a count or a payload.
 
    WHAT A CALL ANSWERS is the first of these that holds. Unless it is STRM_DONE nothing has changed, neither of the
-   store nor at `out`, but for the trap.
-   1. STRM_NO_STORE. 2. STRM_UNKNOWN_PAYLOAD. 3. STRM_STORE_TRAPPED, of each call that does not say that it answers
-   of a store that was trapped too. 4. STRM_GUEST_LIMIT. 5. The refusals, in the order of the call's list, or
-   STRM_UNKNOWN_STREAM. 6. STRM_BAD_ITEM, which traps the store. 7. STRM_OUT_OF_MEMORY, which comes only where all
+   store nor at `out`.
+   1. STRM_NO_STORE. 2. STRM_UNKNOWN_PAYLOAD. 3. STRM_GUEST_LIMIT. 4. The refusals, in the order of the call's list,
+   or STRM_UNKNOWN_STREAM, or STRM_NO_BAD_ITEM. 5. STRM_BAD_ITEM. 6. STRM_OUT_OF_MEMORY, which comes only where all
    would else be done.
 
    READS, WRITES AND EVENTS. docs/FORMATS.md of the repository shows each rule by an example.
@@ -48,6 +47,9 @@
    - A future passes one value, once, and its codes count 0. From then on its reads and writes are refused, either
      end can be dropped, and no event tells that the other one is gone. Before that, its write end can be dropped
      only once it was told so.
+   - A bad item, a char that is no Unicode scalar value, stops its writer alone: a read or write that would move it is
+     answered STRM_BAD_ITEM, and moves nothing. strm_find_bad_item tells who writes the item. The embedder ends that
+     guest, and all others go on; until then the same call is answered the same.
    - Within one guest whole numbers move as by a copy in between, and STRM_NOTHING; other items are refused, which is
      STRM_INTRA_COMPONENT. Between two guests a bool arrives as 0 or 1, and padding stays as it was. */
 #ifndef STRM_H
@@ -106,14 +108,15 @@ enum {
     STRM_MEMORY_TOO_BIG = 28, /* The guests' memories would pass 268,435,456 bytes together. */
     STRM_BAD_TEXT = 29, /* The bytes are not UTF-8. */
     STRM_MESSAGE_TOO_LONG = 30, /* The message is longer than 4,096 bytes. */
-    STRM_BAD_ITEM = 64, /* An item is no Unicode scalar value. The store is trapped from now on. */
-    STRM_STORE_TRAPPED = 65, /* An earlier call trapped the store. */
+    /* An item that was to move is no Unicode scalar value. strm_find_bad_item tells which, and who writes it. */
+    STRM_BAD_ITEM = 64,
     STRM_OUT_OF_MEMORY = 66, /* An allocation was refused, and nothing has changed. */
     STRM_UNKNOWN_PAYLOAD = 67, /* No payload, or no type, has the word. */
     STRM_UNKNOWN_STREAM = 68, /* No stream has the number, or none of which an end is there. */
     STRM_NO_STORE = 69, /* The handle is of no store: it is {NULL}. */
     /* A guest that is there would get more than its limits allow. It is told before any refusal. */
-    STRM_GUEST_LIMIT = 72
+    STRM_GUEST_LIMIT = 72,
+    STRM_NO_BAD_ITEM = 73 /* A read or write with these arguments stops at no item. */
 };
 
 /* A status by its name, as "STRM_BUSY"; "?" where it is none. */
@@ -127,9 +130,9 @@ static inline const char *strm_status_name(strm_status status) {
     STRM_NAMED(READ_FROM_DROPPED_STREAM) STRM_NAMED(FUTURE_ALREADY_READ) STRM_NAMED(INTRA_COMPONENT)
     STRM_NAMED(LIFT_DROPPED) STRM_NAMED(LIFT_IN_SET) STRM_NAMED(SET_NOT_EMPTY) STRM_NAMED(FUTURE_WITHOUT_VALUE)
     STRM_NAMED(INDEX_OVERFLOW) STRM_NAMED(HANDLE_LIMIT) STRM_NAMED(FULL) STRM_NAMED(MEMORY_TOO_BIG)
-    STRM_NAMED(BAD_TEXT) STRM_NAMED(MESSAGE_TOO_LONG) STRM_NAMED(BAD_ITEM) STRM_NAMED(STORE_TRAPPED)
-    STRM_NAMED(OUT_OF_MEMORY) STRM_NAMED(UNKNOWN_PAYLOAD) STRM_NAMED(UNKNOWN_STREAM) STRM_NAMED(NO_STORE)
-    STRM_NAMED(GUEST_LIMIT)
+    STRM_NAMED(BAD_TEXT) STRM_NAMED(MESSAGE_TOO_LONG) STRM_NAMED(BAD_ITEM) STRM_NAMED(OUT_OF_MEMORY)
+    STRM_NAMED(UNKNOWN_PAYLOAD) STRM_NAMED(UNKNOWN_STREAM) STRM_NAMED(NO_STORE) STRM_NAMED(GUEST_LIMIT)
+    STRM_NAMED(NO_BAD_ITEM)
     default: return "?";
     }
 #undef STRM_NAMED
@@ -172,6 +175,16 @@ typedef struct {
     uint64_t low;
     uint64_t high;
 } strm_count;
+
+/* An item that is no Unicode scalar value: who writes it, and which of its write's items it is. */
+typedef struct {
+    /* The guest that has the write end. */
+    uint32_t guest;
+    /* Its handle of that end. */
+    uint32_t handle;
+    /* The item's place among all items of the write, from 0. */
+    uint32_t index;
+} strm_bad_item;
 
 /* A member of a set and what it was told: its handle, and a code, or STRM_NO_EVENT. */
 typedef struct {
@@ -239,21 +252,17 @@ void strm_store_free(strm_store *store);
 /* The number that the store was made with; 0 of {NULL}. */
 uint64_t strm_tag(const strm_store *store);
 
-/* Whether an earlier call trapped the store, which then answers STRM_STORE_TRAPPED to all that changes it; not so of
-   {NULL}. */
-bool strm_trapped(const strm_store *store);
-
 /* The numbers that streams and futures got so far are below this; 0 of {NULL}. One is given again once both ends of
    its stream are gone, so it never passes a third of `places`: a store keeps room for no more streams than that, and
    no making is refused since streams were made and dropped before. */
 uint32_t strm_streams(const strm_store *store);
 
-/* Puts at `out` how many items were received so far on the stream that got this number last; also of a store that
-   was trapped. STRM_UNKNOWN_STREAM where none got it. */
+/* Puts at `out` how many items were received so far on the stream that got this number last. STRM_UNKNOWN_STREAM
+   where none got it. */
 STRM_ANSWER strm_moved(const strm_store *store, uint32_t stream, strm_count *out);
 
-/* Puts at `out` the type of the stream that has this number, while an end of it is there; also of a store that was
-   trapped. STRM_UNKNOWN_STREAM of any other. */
+/* Puts at `out` the type of the stream that has this number, while an end of it is there. STRM_UNKNOWN_STREAM of any
+   other. */
 STRM_ANSWER strm_transmit_index(const strm_store *store, uint32_t stream, strm_type *out);
 
 /* GUESTS AND THEIR MEMORIES */
@@ -266,15 +275,14 @@ STRM_ANSWER strm_add_guest(strm_store *store, uint32_t size, uint32_t *out);
 STRM_ANSWER strm_memory_write(
     strm_store *store, uint32_t guest, uint32_t address, const uint8_t *bytes, size_t len);
 
-/* Copies `len` bytes of a guest's memory out, from `address` on; also of a store that was trapped. Refused:
-   STRM_UNKNOWN_GUEST, STRM_OUT_OF_BOUNDS. */
+/* Copies `len` bytes of a guest's memory out, from `address` on. Refused: STRM_UNKNOWN_GUEST, STRM_OUT_OF_BOUNDS. */
 STRM_ANSWER strm_memory_read(
     const strm_store *store, uint32_t guest, uint32_t address, uint8_t *out, size_t len);
 
 /* Puts at `out` where a guest's memory lies, and at `len` how many bytes it has; of no bytes `out` is an address
    that may not be read. They lie there until the store is given up, from the beginning of a block of malloc's on, at
-   a multiple of 16. The caller may read and write them between calls, and must not during one. Also of a store that
-   was trapped. Refused: STRM_UNKNOWN_GUEST. */
+   a multiple of 16. The caller may read and write them between calls, and must not during one. Refused:
+   STRM_UNKNOWN_GUEST. */
 STRM_ANSWER strm_memory_at(strm_store *store, uint32_t guest, uint8_t **out, size_t *len);
 
 /* STREAMS */
@@ -366,6 +374,15 @@ STRM_ANSWER strm_future_drop_writable(
 STRM_ANSWER strm_future_drop_readable(
     strm_store *store, uint32_t guest, strm_payload payload, uint32_t handle);
 
+/* WHOSE THE ITEM IS AT WHICH A READ OR WRITE STOPS */
+
+/* Puts the item at `out` at which a read (`side` is STRM_SIDE_READING) or a write (any other `side`) with these
+   arguments stops: the guest that writes it, its handle of the write end, and the item's place among all items of
+   that write, from 0. It is asked after a call that answered STRM_BAD_ITEM, with that call's arguments; of a future
+   `count` is not looked at. STRM_NO_BAD_ITEM where that call would not stop at one. STRM_UNKNOWN_PAYLOAD. */
+STRM_ANSWER strm_find_bad_item(
+    const strm_store *store, uint32_t side, uint32_t guest, strm_type type, uint32_t handle, uint32_t address, uint32_t count, strm_bad_item *out);
+
 /* ENDS FROM GUEST TO GUEST */
 
 /* Makes a stream or future from one guest to another, which may be the same, and puts the handles of its ends and
@@ -456,28 +473,27 @@ STRM_ANSWER strm_error_context_drop(strm_store *store, uint32_t guest, uint32_t 
 /* WHAT IS ASKED OF A GUEST'S HANDLES */
 
 /* Puts at `out` what a handle of a guest is of, and of an end all that a runtime asks of it. Nothing is taken of
-   what it is to be told; also of a store that was trapped. Refused: STRM_UNKNOWN_GUEST, STRM_UNKNOWN_HANDLE. */
+   what it is to be told. Refused: STRM_UNKNOWN_GUEST, STRM_UNKNOWN_HANDLE. */
 STRM_ANSWER strm_handle_info(const strm_store *store, uint32_t guest, uint32_t handle, strm_handle *out);
 
 /* Puts at `out` the least handle of a guest above `after`, and what it is of, as strm_handle_info does; where no
    handle is above it, its number and kind are 0. From 0 on, and then from each handle, it tells all of them, and
-   goes over the guest's table once; also of a store that was trapped. Refused: STRM_UNKNOWN_GUEST. */
+   goes over the guest's table once. Refused: STRM_UNKNOWN_GUEST. */
 STRM_ANSWER strm_next_handle(const strm_store *store, uint32_t guest, uint32_t after, strm_handle *out);
 
-/* Puts at `out` how many handles a guest has, and looks at none of them; also of a store that was trapped. Refused:
-   STRM_UNKNOWN_GUEST. */
+/* Puts at `out` how many handles a guest has, and looks at none of them. Refused: STRM_UNKNOWN_GUEST. */
 STRM_ANSWER strm_handle_count(const strm_store *store, uint32_t guest, uint32_t *out);
 
 /* HOW MUCH EACH GUEST MAY HAVE AT ONCE */
 
 /* Sets how much a guest may have at once: handles of whatever kind, ends of streams and futures among them, and
    bytes that the store keeps for it, 4,096 for each handle of an error context. What it has stays, also where that
-   is more; it only gets no more of it. Also of a store that was trapped. It takes 16 bytes for each guest up to this
-   one. Refused: STRM_UNKNOWN_GUEST. STRM_OUT_OF_MEMORY. */
+   is more; it only gets no more of it. It takes 16 bytes for each guest up to this one. Refused: STRM_UNKNOWN_GUEST.
+   STRM_OUT_OF_MEMORY. */
 STRM_ANSWER strm_set_guest_limits(
     strm_store *store, uint32_t guest, uint32_t handles, uint32_t ends, uint64_t bytes);
 
-/* Puts at `out` how much a guest may have at once; also of a store that was trapped. Refused: STRM_UNKNOWN_GUEST. */
+/* Puts at `out` how much a guest may have at once. Refused: STRM_UNKNOWN_GUEST. */
 STRM_ANSWER strm_guest_limits(const strm_store *store, uint32_t guest, strm_limits *out);
 
 #ifdef __cplusplus

@@ -155,6 +155,13 @@ template <Kind kind> struct Loose {
     uint32_t stream = 0;
 };
 
+// An item that is no Unicode scalar value: the write end of the guest that writes it, and the item's place among all
+// items of the write, from 0.
+template <Kind kind> struct BadItem {
+    End<kind, Side::Writing> write;
+    uint32_t index = 0;
+};
+
 // A waitable set, by its handle in the table of its guest.
 struct Set {
     Guest guest;
@@ -215,7 +222,6 @@ class Store {
     const strm_store *get() const noexcept { return &store_; }
 
     uint64_t tag() const noexcept { return strm_tag(&store_); }
-    bool trapped() const noexcept { return strm_trapped(&store_); }
     uint32_t streams() const noexcept { return strm_streams(&store_); }
     Result<strm_count> moved(uint32_t stream) const noexcept {
         return told<strm_count>([&](strm_count *out) { return strm_moved(&store_, stream, out); });
@@ -268,6 +274,15 @@ class Store {
     }
     Result<Code> write(FutureWriter end, uint32_t address) noexcept { return code(strm_future_write, end, address); }
     Result<Code> read(FutureReader end, uint32_t address) noexcept { return code(strm_future_read, end, address); }
+    // The item at which a read or write with these arguments stops, once it answered STRM_BAD_ITEM.
+    template <Side side>
+    Result<BadItem<Kind::Stream>> find_bad_item(End<Kind::Stream, side> end, uint32_t address, uint32_t count) const noexcept {
+        return bad_item(end, address, count);
+    }
+    template <Side side>
+    Result<BadItem<Kind::Future>> find_bad_item(End<Kind::Future, side> end, uint32_t address) const noexcept {
+        return bad_item(end, address, 1);
+    }
     Result<Code> cancel(StreamWriter end) noexcept { return code(strm_stream_cancel_write, end); }
     Result<Code> cancel(StreamReader end) noexcept { return code(strm_stream_cancel_read, end); }
     Result<Code> cancel(FutureWriter end) noexcept { return code(strm_future_cancel_write, end); }
@@ -398,6 +413,15 @@ class Store {
         uint32_t word = STRM_BLOCKED;
         Status status = call(&store_, end.guest.number, end.payload.word(), end.handle, numbers..., &word);
         return {status, Code(word)};
+    }
+
+    // The end and its writer's are of one stream, so they have one payload.
+    template <Kind kind, Side side>
+    Result<BadItem<kind>> bad_item(End<kind, side> end, uint32_t address, uint32_t count) const noexcept {
+        strm_bad_item item{0, 0, 0};
+        Status status = strm_find_bad_item(&store_, side == Side::Writing ? STRM_SIDE_WRITING : STRM_SIDE_READING,
+                                           end.guest.number, type_of(kind, end.payload), end.handle, address, count, &item);
+        return {status, {{Guest{item.guest}, end.payload, item.handle}, item.index}};
     }
 
     template <typename Call, typename E> Status of_end(Call call, E end) noexcept {

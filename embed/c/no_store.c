@@ -28,12 +28,14 @@ static void name_all(void) {
 static void query_none(strm_store store) {
     uint64_t type = 7;
     strm_count count = {7, 7};
+    strm_bad_item item = {7, 7, 7};
     expect(strm_tag(&store) == 0, "strm_tag");
-    expect(!strm_trapped(&store), "strm_trapped");
     expect(strm_streams(&store) == 0, "strm_streams");
     HAS_NO_STORE(strm_moved(&store, 0, &count));
     HAS_NO_STORE(strm_transmit_index(&store, 0, &type));
-    expect(type == 7 && count.low == 7 && count.high == 7, "queries write nothing");
+    HAS_NO_STORE(strm_find_bad_item(&store, STRM_SIDE_WRITING, 0, STRM_CHAR, 1, 0, 1, &item));
+    expect(type == 7 && count.low == 7 && count.high == 7 && item.guest == 7 && item.handle == 7 && item.index == 7,
+           "queries write nothing");
 }
 
 static void use_memory_of_none(strm_store store) {

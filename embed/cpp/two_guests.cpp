@@ -102,6 +102,25 @@ void tell_an_error(Store &store, Guest first, Guest second) {
     must(store.drop(theirs));
 }
 
+// A char that is none stops its writer alone: what is before it moves, and the reader reads on once the write is gone.
+void stop_a_writer(Store &store, Guest writer, Guest reader) {
+    const uint32_t items[] = {'a', 0xd800, 'b'};
+    auto [write, read, stream] = must(store.stream_between(writer, reader, Scalar::Char));
+    must(store.memory_write(writer, 0, items, sizeof items));
+    show("write of chars", must(store.write(write, 0, 3)));
+    std::printf("read of chars: %s\n", store.read(read, 0, 2).status.name());
+    auto item = must(store.find_bad_item(read, 0, 2));
+    std::printf("item %u of guest %u is none; it is of the write end: %s\n", item.index, item.write.guest.number,
+                item.write.handle == write.handle ? "yes" : "no");
+    show("read of one char", must(store.read(read, 0, 1)));
+    show("cancel", must(store.cancel(item.write)));
+    std::printf("a read now: %s\n", store.find_bad_item(read, 0, 2).status.name());
+    must(store.drop(write));
+    show("read of chars", must(store.read(read, 0, 2)));
+    must(store.drop(read));
+    std::printf("moved: %llu\n", static_cast<unsigned long long>(must(store.moved(stream)).low));
+}
+
 // Each guest has its share, and a handle more than that is refused.
 void bound(Store &store, Guest guest) {
     must(store.set_guest_limits(guest, {0, 1, 2}));
@@ -155,7 +174,8 @@ int main() {
     std::printf("left behind: %s\n", store.add_guest(1).status.name());
     pass_a_value(moved, writer, reader);
     tell_an_error(moved, writer, reader);
+    stop_a_writer(moved, writer, reader);
     end_a_guest(moved, writer, reader);
     bound(moved, writer);
-    std::printf("tag %llu, trapped: %s\n", static_cast<unsigned long long>(moved.tag()), moved.trapped() ? "yes" : "no");
+    std::printf("tag %llu\n", static_cast<unsigned long long>(moved.tag()));
 }

@@ -2,3 +2,5 @@ pub mod Values
 pub mod HandleValues
 pub mod PayloadLemmas
 pub mod MakingLemmas
+-- a read or write, as C gets it
+pub mod OperateLemmas

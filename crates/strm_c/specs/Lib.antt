@@ -1,6 +1,7 @@
 pub mod Owned
 pub mod Payloads
 pub mod Statuses
+pub mod BadItems
 pub mod Lent
 pub mod Pairs
 pub mod Members

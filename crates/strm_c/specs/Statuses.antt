@@ -5,9 +5,11 @@ use Rattle.strm_codes.specs.Refusals.{refusal_number}
 use Rattle.strm_codes.specs.declared.codes.ReturnCode.{ReturnCode}
 use Rattle.strm_codes.specs.declared.refusals.Refusal.{Refusal}
 use Rattle.strm_machine.specs.State.{State}
-use Rattle.strm_machine.specs.Reactions.{Reaction}
+use Rattle.strm_machine.specs.Reactions.{Reaction, goes}
 use Rattle.strm_machine.specs.declared.replies.Reply.{Reply}
 use Rattle.strm_machine.specs.declared.replies.Reply.TheVariants as replies
+use Rattle.strm_guest_store.specs.declared.operations.OperateError.{OperateError}
+use Rattle.strm_guest_store.specs.declared.operations.OperateError.TheVariants as operate_errors
 use Rattle.strm_transmit.specs.Meets.{is_done}
 use Rattle.strm_transmit.specs.declared.errors.StoreError.{StoreError}
 use Rattle.strm_transmit.specs.declared.errors.StoreError.TheVariants.{Refused, HostFailed, HostBroke, BadItem, StoreTrapped, OutOfMemory}
@@ -35,7 +37,11 @@ no_stream_status = 68
 abbrev pub no_store : ℕ
 no_store = 69
 
--- an error of the store's; a host end can't fail where none is there
+-- a read or write with these operands stops at no item
+abbrev pub no_bad_item : ℕ
+no_bad_item = 73
+
+-- an error of the store's; a host end can't fail where none is there, and nothing traps the store
 abbrev pub error_status : StoreError → ℕ
 error_status (Refused refusal) = refusal_number refusal
 error_status (BadItem stream) = 64
@@ -48,6 +54,17 @@ error_status (HostBroke end) = 70
 abbrev pub answer_status : {T : Type 0} → Result T StoreError → ℕ
 answer_status (Ok value) = 0
 answer_status (Err error) = error_status error
+
+-- an answer of a read or write
+abbrev pub operate_status : Result ReturnCode OperateError → ℕ
+operate_status (Ok code) = 0
+operate_status (Err (operate_errors.Refused refusal)) = refusal_number refusal
+operate_status (Err (operate_errors.BadItem item)) = 64
+
+-- its word; an error leaves the word that was there
+abbrev pub operate_word : Result ReturnCode OperateError → ℕ → ℕ
+operate_word (Ok code) word = word_of code
+operate_word (Err error) word = word
 
 -- an answer that can only be refused
 abbrev pub found_status : {T : Type 0} → Result T Refusal → ℕ
@@ -70,6 +87,15 @@ word_in _ word = word
 abbrev pub answer_word : {T : Type 0} → (T → ℕ) → Result T StoreError → ℕ → ℕ
 answer_word f (Ok value) word = f value
 answer_word f (Err error) word = word
+
+-- what the machine does at a step; but at an item that is none it answers the same, and all is as it was
+abbrev pub spared_by : Reply → State → Reaction → Reaction
+spared_by (replies.BadItem stream) state reaction = goes (replies.BadItem stream) state
+spared_by reply state reaction = reaction
+
+-- by its reply
+abbrev pub spared : State → Reaction → Reaction
+spared state reaction = spared_by reaction.reply state reaction
 
 -- the status, the word and the store afterwards are the machine's
 pub record IsAnswer (reaction : Reaction) (status old_word new_word : ℕ) (new : Option State) : Type 0 where

@@ -1,5 +1,6 @@
 //! The calls, by families.
 
+mod bad_items;
 mod contexts;
 mod futures;
 mod limits;

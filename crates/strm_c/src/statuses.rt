@@ -4,20 +4,18 @@
 
 ghost use Rattle.std.specs.Prelude.{◌≡◌};
 ghost use Rattle.strm_codes.specs.Codes.{word_of};
-ghost use Rattle.strm_c.specs.Statuses.{error_status, answer_status, answer_word, event_word, found_status};
+ghost use Rattle.strm_c.specs.Statuses.{error_status, answer_status, answer_word, operate_status, operate_word, event_word, found_status};
 
 use strm_codes::codes::ReturnCode;
 use strm_codes::refusals::Refusal;
+use strm_guest_store::operations::OperateError;
 use strm_transmit::errors::StoreError;
 
 /// What an export answers: 0 where it was done, a refusal's number from 1 to 30, or one of those below.
 pub type Status = u32;
 
-/// An item is no Unicode scalar value. The store is trapped from now on.
+/// An item that was to move is no Unicode scalar value. strm_find_bad_item tells which, and who writes it.
 pub const BAD_ITEM: Status = 64;
-
-/// An earlier call trapped the store.
-pub const STORE_TRAPPED: Status = 65;
 
 /// An allocation was refused, and nothing has changed.
 pub const OUT_OF_MEMORY: Status = 66;
@@ -34,8 +32,14 @@ pub const NO_STORE: Status = 69;
 /// A guest that is there would get more than its limits allow. It is told before any refusal.
 pub const GUEST_LIMIT: Status = 72;
 
+/// A read or write with these arguments stops at no item.
+pub const NO_BAD_ITEM: Status = 73;
+
 /// The word of no event, which no code has.
 pub const NO_EVENT: u32 = 3;
+
+// The store was trapped. It can't: nothing traps it.
+const STORE_TRAPPED: Status = 65;
 
 // A host end failed or broke its rules. It can't: there is none.
 const HOST_END: Status = 70;
@@ -80,6 +84,22 @@ pub fn code(answer: Result<ReturnCode, StoreError>, out: &mut u32) -> Status
             0
         }
         Err(error) => error_status(error),
+    }
+}
+
+/// The code of a read or write, put at `out`.
+#[inline(always)]
+pub fn operated(answer: Result<ReturnCode, OperateError>, out: &mut u32) -> Status
+    ensures status { result ≡ operate_status answer }
+    ensures word { out.new ≡ operate_word answer out.old }
+{
+    match answer {
+        Ok(code) => {
+            *out = code.encode();
+            0
+        }
+        Err(OperateError::Refused(refusal)) => u32::from(refusal.number()),
+        Err(OperateError::BadItem(_)) => BAD_ITEM,
     }
 }
 

@@ -1,10 +1,10 @@
 -- A making that may give a number again leaves the state one of a store among guests, and memories where they lay.
-use Rattle.std.proofs.Common.{◌≡◌, ℕ, List, Result, refl, ap, ◌∙◌, subst}
+use Rattle.std.proofs.Common.{◌≡◌, ℕ, false, List, Result, refl, ◌∙◌, subst}
 use Rattle.strm_codes.specs.declared.codes.TransmitIndex.{TransmitIndex}
 use Rattle.strm_handles.specs.Handles.{inserted}
 use Rattle.strm_machine.specs.State.{State, Guest, guest_in, no_guest}
 use Rattle.strm_machine.specs.Acts.{act_of}
-use Rattle.strm_machine.specs.Bases.{base_in, BasesStay}
+use Rattle.strm_machine.specs.Bases.{BasesStay}
 use Rattle.strm_machine.specs.Making.{read_entry, write_entry, with_read_end, with_ends}
 use Rattle.strm_machine.specs.Reactions.{Reaction}
 use Rattle.strm_machine.specs.Soundness.{IsSound}
@@ -14,12 +14,13 @@ use Rattle.strm_machine.specs.declared.acts.Making.TheVariants.{Between}
 use Rattle.strm_machine.specs.declared.replies.Reply.{Reply}
 use Rattle.strm_machine.specs.declared.steps.Step.{Step}
 use Rattle.strm_machine.proofs.BaseLemmas.{reaction-bases}
+use Rattle.strm_machine.proofs.HeldLemmas.{StateIsHeld}
 use Rattle.strm_machine.proofs.ReactionLemmas.{reaction-performs}
 use Rattle.strm_machine.proofs.TableLemmas.{set-keeps}
 use Rattle.strm_places.specs.Again.{with_stream_in, reaction_at, reacts_at}
-use Rattle.strm_places.proofs.AgainLemmas.{reaction_at-by, performs_at-by}
+use Rattle.strm_places.proofs.AgainLemmas.{reaction_at-by, performs_at-by, reaction_at-held}
 use Rattle.strm_transmit.specs.Again.{MeetsAt, GrowsFull}
-use Rattle.strm_transmit.specs.Guests.{AreUnhosted, nobody}
+use Rattle.strm_transmit.specs.Guests.{AreUnhosted, AreOfOwners, nobody}
 use Rattle.strm_transmit.specs.Hosted.{StillFits}
 use Rattle.strm_transmit.specs.Meets.{Meets}
 use Rattle.strm_transmit.specs.declared.errors.StoreError.{StoreError}
@@ -27,6 +28,7 @@ use Rattle.strm_transmit.proofs.AgainLemmas.{meets_leaves}
 use Rattle.strm_transmit.proofs.GuestLemmas.{making-unhosted}
 use Rattle.strm_guest_store.specs.Among.{IsAmongGuests}
 use Rattle.strm_guest_store.proofs.CountLemmas.{Grown, grown-not, making-grown, few_grown}
+use Rattle.strm_guest_store.proofs.OwnerLemmas.{of_agreed, agreed, making-owned, making-stays}
 
 -- ## Memories
 
@@ -72,6 +74,7 @@ module _ (old new : State) (result : Result Reply StoreError) (writer reader : �
   pub again_among : IsAmongGuests old → MeetsAt old new result (λ n. reaction_at n old act) → GrowsFull old.streams new.streams → IsSound new → StillFits old new → IsAmongGuests new
   again_among among m grows sound fits =
       let r = reaction_at m.number old act in
+      let held : StateIsHeld old = of_agreed old among.held in
       record {
         unhosted = record {
           sound = sound;
@@ -80,4 +83,7 @@ module _ (old new : State) (result : Result Reply StoreError) (writer reader : �
         fits = fits nobody among.fits;
         few = few_grown old new writer reader ty
             (meets_leaves (Grown old act) old new result r (grown-not old act) (making-grown m.number old writer reader ty) m.meets) grows among.few;
+        held = agreed new (meets_leaves StateIsHeld old new result r held (reaction_at-held m.number old act m.free among.unhosted.sound held) m.meets);
+        owned = meets_leaves (λ (s : State). AreOfOwners s.streams) old new result r among.owned (making-owned old among.unhosted.sound held among.owned m.number act) m.meets;
+        untrapped = meets_leaves (λ (s : State). s.trapped ≡ false) old new result r among.untrapped (making-stays old m.number act refl ∙ among.untrapped) m.meets;
       }

@@ -2,42 +2,54 @@
 use Rattle.std.proofs.Common.{◌≡◌, ◌≤◌, ◌+◌, arith, ap, ℕ, true, false, List, length, refl, sym, subst, ◌∙◌}
 use Rattle.std.specs.Prelude.{Result, Ok, Err}
 use Rattle.strm_buffers.specs.Tells.{Tells}
-use Rattle.std.specs.Prelude.{Bool, nat_lt, ◌&&◌}
-use Rattle.std.proofs.lemmas.Bool.{le-ltb}
+use Rattle.std.specs.Prelude.{Bool, nat_lt, ◌&&◌, Option, Some, None}
+use Rattle.std.proofs.lemmas.Bool.{le-ltb, and_parts, cond_both}
 use Rattle.strm_memory.specs.Region.{bytes_out_of_bounds}
-use Rattle.strm_machine.specs.State.{State, empty, memory_in, with_bytes}
+use Rattle.strm_codes.specs.declared.refusals.Refusal.{Refusal}
+use Rattle.strm_machine.specs.State.{State, Guest, empty, memory_in, with_bytes}
 use Rattle.std.specs.Ptr.{Ptr}
 use Rattle.strm_machine.specs.Bases.{with_base_in}
 use Rattle.strm_machine.proofs.BaseLemmas.{with_base-keeps}
 use Rattle.strm_machine.proofs.RefusalLemmas.{BytesFit}
 use Rattle.strm_machine.proofs.SoundLemmas.{IsSound-guests}
-use Rattle.strm_machine.specs.Reactions.{Reaction, reaction, lowers_context}
+use Rattle.strm_machine.specs.Refusals.{first_of, lower_context_reasons}
+use Rattle.strm_machine.specs.Soundness.{IsSound}
+use Rattle.strm_machine.specs.Reactions.{Reaction, shares_unless, reaction, lowers_context}
 use Rattle.strm_machine.specs.declared.limits.Limits.{Limits}
 use Rattle.strm_machine.specs.declared.acts.Act.{Act}
 use Rattle.strm_machine.specs.declared.replies.Reply.{Reply}
 use Rattle.strm_machine.proofs.SoundStepLemmas.{poke-keeps}
 use Rattle.strm_host_machine.specs.Does.{Fits}
 use Rattle.std.specs.List.{refill, length_refill}
-use Rattle.strm_machine.proofs.TurnLemmas.{with_memory-keeps}
+use Rattle.strm_machine.proofs.TurnLemmas.{GuestsKeep, with_memory-keeps}
+use Rattle.strm_machine.proofs.ContextStepLemmas.{lower_context_fits}
+use Rattle.strm_machine.proofs.EmptyLemmas.{StateIsHeld-empty}
+use Rattle.strm_machine.proofs.HeldLemmas.{StateIsHeld, IsHeld-same, reaction-held}
+use Rattle.strm_machine.proofs.TableLemmas.{handles-same}
 use Rattle.strm_transmit.specs.Lending.{with_bytes_in}
-use Rattle.strm_transmit.specs.Guests.{Unhosted, nobody, is_of_guests}
+use Rattle.strm_transmit.specs.Guests.{Unhosted, nobody, is_of_guests, AreOfOwners}
+use Rattle.strm_transmit.proofs.HeldStoreLemmas.{with_context_handle-held}
 use Rattle.strm_transmit.specs.Meets.{Meets}
 use Rattle.strm_transmit.specs.Hosted.{MeetsHosted, StillFits}
 use Rattle.strm_transmit.specs.declared.errors.StoreError.{StoreError}
 use Rattle.strm_transmit.specs.declared.errors.StoreError.TheVariants as errors
 use Rattle.strm_transmit.proofs.GuestLemmas.{reaction-unhosted, lowering-unhosted, empty-unhosted, touches-none}
-use Rattle.strm_guest_store.specs.Among.{IsAmongGuests, HasBytes}
+use Rattle.strm_guest_store.specs.Among.{HandlesAgree, IsAmongGuests, HasBytes}
 use Rattle.strm_guest_store.proofs.CountLemmas.{makes_none, AsMany, few_kept, reaction-many, lowering-many}
+use Rattle.strm_guest_store.proofs.OwnerLemmas.{of_agreed, agreed, copies_none, reaction-owned, reaction-stays, lowering-owned, lowering-stays, none-owned}
 
 -- what a step leaves where it makes no stream
-record LeavesGuests (old new : State) : Type 0 where
+pub record LeavesGuests (old new : State) : Type 0 where
   pub unhosted : Unhosted new
   pub many : AsMany old new
+  pub held : HandlesAgree new
+  pub owned : AreOfOwners new.streams
+  pub untrapped : new.trapped ≡ false
 
-after-done : (old new : State) (r : Reaction) (reply : Reply) → IsAmongGuests old → LeavesGuests old r.state → Fits new nobody → r ≡ record { reply = reply; state = new } → IsAmongGuests new
+pub after-done : (old new : State) (r : Reaction) (reply : Reply) → IsAmongGuests old → LeavesGuests old r.state → Fits new nobody → r ≡ record { reply = reply; state = new } → IsAmongGuests new
 after-done old new r reply among l f e =
     let now = subst (λ (r : Reaction). LeavesGuests old r.state) e l in
-    record { unhosted = now.unhosted; fits = f; few = few_kept old new now.many among.few }
+    record { unhosted = now.unhosted; fits = f; few = few_kept old new now.many among.few; held = now.held; owned = now.owned; untrapped = now.untrapped }
 
 after-call : (old new : State) (result : Result Reply StoreError) (r : Reaction) → IsAmongGuests old → LeavesGuests old r.state → Fits new nobody → Meets old new result r → IsAmongGuests new
 after-call old new (Ok reply) r among l f m = after-done old new r reply among l f m
@@ -48,18 +60,48 @@ after-call old new (Err (errors.BadItem stream)) r among l f m = after-done old 
 after-call old new (Err errors.StoreTrapped) r among l f m = subst IsAmongGuests (sym m.1) among
 after-call old new (Err errors.OutOfMemory) r among l f m = subst IsAmongGuests (sym m.1) among
 
--- a step that makes no stream
-step-leaves : (old : State) (act : Act) → makes_none act ≡ true → IsAmongGuests old → LeavesGuests old (reaction old act).state
-step-leaves old act n among = record { unhosted = reaction-unhosted old act among.unhosted; many = reaction-many old act n among.unhosted.sound }
+-- a step that makes no stream, and copies no item
+abbrev pub is_plain : Act → Bool
+is_plain act = makes_none act && copies_none act
+
+-- it leaves the store so
+step-leaves : (old : State) (act : Act) → is_plain act ≡ true → IsAmongGuests old → LeavesGuests old (reaction old act).state
+step-leaves old act n among =
+    let plain = and_parts (makes_none act) (copies_none act) n in
+    record {
+      unhosted = reaction-unhosted old act among.unhosted;
+      many = reaction-many old act plain.0 among.unhosted.sound;
+      held = agreed (reaction old act).state (reaction-held old act among.unhosted.sound (of_agreed old among.held));
+      owned = reaction-owned old among.unhosted.sound (of_agreed old among.held) among.owned act;
+      untrapped = reaction-stays old act plain.1 ∙ among.untrapped;
+    }
 
 -- a call that takes no host ends
-pub plain_among : (old new : State) (result : Result Reply StoreError) (act : Act) → IsAmongGuests old → makes_none act ≡ true → Meets old new result (reaction old act) → StillFits old new → IsAmongGuests new
+pub plain_among : (old new : State) (result : Result Reply StoreError) (act : Act) → IsAmongGuests old → is_plain act ≡ true → Meets old new result (reaction old act) → StillFits old new → IsAmongGuests new
 plain_among old new result act among n m f =
     after-call old new result (reaction old act) among (step-leaves old act n among) (f nobody among.fits) m
 
+shared-held : (state : State) (number g : ℕ) (o : Option Refusal) → first_of (lower_context_reasons state number g) ≡ o → IsSound state → StateIsHeld state → StateIsHeld (shares_unless state number g o).state
+shared-held state number g (Some r) e sound held = held
+shared-held state number g None e sound held = with_context_handle-held state number g sound held (lower_context_fits state number g e)
+
+lowering-held : (state : State) (number g : ℕ) → IsSound state → StateIsHeld state → StateIsHeld (lowers_context state number g).state
+unfolding lowers_context
+lowering-held state number g sound held =
+    cond_both state.trapped _ _ (λ (r : Reaction). StateIsHeld r.state) (λ t. held)
+    (λ t. shared-held state number g (first_of (lower_context_reasons state number g)) refl sound held)
+
 pub lowered_among : (old new : State) (result : Result Reply StoreError) (number g : ℕ) → IsAmongGuests old → Meets old new result (lowers_context old number g) → StillFits old new → IsAmongGuests new
 lowered_among old new result number g among m f =
-    after-call old new result (lowers_context old number g) among (record { unhosted = lowering-unhosted old number g among.unhosted; many = lowering-many old number g }) (f nobody among.fits) m
+    after-call old new result (lowers_context old number g) among
+    (record {
+      unhosted = lowering-unhosted old number g among.unhosted;
+      many = lowering-many old number g;
+      held = agreed (lowers_context old number g).state (lowering-held old number g among.unhosted.sound (of_agreed old among.held));
+      owned = lowering-owned old number g among.owned;
+      untrapped = lowering-stays old number g ∙ among.untrapped;
+    })
+    (f nobody among.fits) m
 
 -- one that takes host ends, of which there are none
 pub fits_nobody : (state : State) (tells : Tells) → IsAmongGuests state → tells ≡ nobody → Fits state tells
@@ -68,13 +110,20 @@ fits_nobody state tells among e = subst (Fits state) (sym e) among.fits
 pub hosted_meets : (old new : State) (tells told : Tells) (result : Result Reply StoreError) (act : Act) → IsAmongGuests old → is_of_guests act ≡ true → MeetsHosted old new tells told result act → Meets old new result (reaction old act)
 hosted_meets old new tells told result act among e m = (m.alone (touches-none old act among.unhosted e)).meets
 
-pub hosted_among : (old new : State) (tells told : Tells) (result : Result Reply StoreError) (act : Act) → IsAmongGuests old → tells ≡ nobody → is_of_guests act ≡ true → makes_none act ≡ true → MeetsHosted old new tells told result act → IsAmongGuests new
+pub hosted_among : (old new : State) (tells told : Tells) (result : Result Reply StoreError) (act : Act) → IsAmongGuests old → tells ≡ nobody → is_of_guests act ≡ true → is_plain act ≡ true → MeetsHosted old new tells told result act → IsAmongGuests new
 hosted_among old new tells told result act among n e k m =
     let a = m.alone (touches-none old act among.unhosted e) in
     after-call old new result (reaction old act) among (step-leaves old act k among) (subst (Fits new) (a.ends ∙ n) m.fits) a.meets
 
 pub empty_among : (tag : ℕ) (limits : Limits) → Fits (empty tag limits) nobody → IsAmongGuests (empty tag limits)
-empty_among tag limits f = record { unhosted = empty-unhosted tag limits; fits = f; few = omega arith }
+empty_among tag limits f = record {
+  unhosted = empty-unhosted tag limits;
+  fits = f;
+  few = omega arith;
+  held = agreed (empty tag limits) (StateIsHeld-empty tag limits);
+  owned = none-owned;
+  untrapped = refl;
+}
 
 and-false : (a : Bool) → (a && false) ≡ false
 and-false true = refl
@@ -83,40 +132,30 @@ and-false false = refl
 bytes_inside : (length address count : ℕ) → address + count ≤ length → bytes_out_of_bounds length address count ≡ false
 bytes_inside length address count h = ap (λ b. nat_lt 0 count && b) (le-ltb length (address + count) h) ∙ and-false (nat_lt 0 count)
 
+-- guests of the same handles, sets and memory lengths
+guests_among : (state : State) (guests : List Guest) → GuestsKeep state.guests guests → IsAmongGuests state → IsAmongGuests (record state { guests = guests })
+guests_among state guests keeps among = record {
+  unhosted = record { sound = IsSound-guests state guests keeps among.unhosted.sound; none = among.unhosted.none };
+  fits = record { writers = among.fits.writers; readers = among.fits.readers };
+  few = among.few;
+  held = agreed (record state { guests = guests })
+      (IsHeld-same state.guests guests state.streams state.streams (λ g. handles-same state.guests guests g keeps.handles) (λ s side. refl) (of_agreed state among.held));
+  owned = among.owned;
+  untrapped = among.untrapped;
+}
+
 -- bytes that are written into a memory, as many as they are
 pub written_among : (state : State) (guest address : ℕ) (bytes : List ℕ) → IsAmongGuests state → HasBytes state guest address (length bytes) → IsAmongGuests (with_bytes state guest address bytes)
 written_among state guest address bytes among h =
     let fits : BytesFit state guest address (length bytes) = record { there = h.there; inside = bytes_inside (length (memory_in state.guests guest)) address (length bytes) h.inside } in
-    record {
-      unhosted = record {
-        sound = IsSound-guests state _ (poke-keeps state guest address bytes fits) among.unhosted.sound;
-        none = among.unhosted.none;
-      };
-      fits = record { writers = among.fits.writers; readers = among.fits.readers };
-      few = among.few;
-    }
+    guests_among state _ (poke-keeps state guest address bytes fits) among
 
 -- and such as are written into one that is lent
 pub lent_among : (state : State) (guest : ℕ) (bytes : List ℕ) → IsAmongGuests state → IsAmongGuests (with_bytes_in state guest bytes)
 lent_among state guest bytes among =
     let memory = memory_in state.guests guest in
-    record {
-      unhosted = record {
-        sound = IsSound-guests state _ (with_memory-keeps state.guests guest (refill (length memory) memory bytes) (sym (length_refill (length memory) memory bytes refl))) among.unhosted.sound;
-        none = among.unhosted.none;
-      };
-      fits = record { writers = among.fits.writers; readers = among.fits.readers };
-      few = among.few;
-    }
+    guests_among state _ (with_memory-keeps state.guests guest (refill (length memory) memory bytes) (sym (length_refill (length memory) memory bytes refl))) among
 
 -- and one of which it is told where it lies
 pub told_among : (state : State) (guest : ℕ) (base : Ptr) → IsAmongGuests state → IsAmongGuests (with_base_in state guest base)
-told_among state guest base among =
-    record {
-      unhosted = record {
-        sound = IsSound-guests state _ (with_base-keeps state.guests guest base) among.unhosted.sound;
-        none = among.unhosted.none;
-      };
-      fits = record { writers = among.fits.writers; readers = among.fits.readers };
-      few = among.few;
-    }
+told_among state guest base among = guests_among state _ (with_base-keeps state.guests guest base) among

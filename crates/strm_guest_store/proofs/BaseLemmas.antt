@@ -14,7 +14,12 @@ use Rattle.strm_transmit.specs.Meets.{Meets}
 use Rattle.strm_transmit.specs.Hosted.{MeetsHosted}
 use Rattle.strm_transmit.specs.declared.errors.StoreError.{StoreError}
 use Rattle.strm_transmit.specs.declared.errors.StoreError.TheVariants as errors
+use Rattle.strm_codes.specs.declared.codes.ReturnCode.{ReturnCode}
+use Rattle.strm_machine.specs.declared.replies.Reply.TheVariants as replies
 use Rattle.strm_guest_store.specs.Among.{IsAmongGuests}
+use Rattle.strm_guest_store.specs.Operations.{MeetsOrTells}
+use Rattle.strm_guest_store.specs.declared.operations.OperateError.{OperateError}
+use Rattle.strm_guest_store.specs.declared.operations.OperateError.TheVariants as operate_errors
 use Rattle.strm_guest_store.proofs.AmongLemmas.{hosted_meets}
 
 -- a state that is another
@@ -45,3 +50,9 @@ step-bases old new result step among m = plain_stays old new result (act_of step
 
 pub lowering-bases : (old new : State) (result : Result Reply StoreError) (number guest : ℕ) → Meets old new result (lowers_context old number guest) → BasesStay old.guests new.guests
 lowering-bases old new result number guest m = meets-bases old new result (lowers_context old number guest) (lowered-bases old number guest) m
+
+-- a read or write
+pub operation-bases : (old new : State) (result : Result ReturnCode OperateError) (step : Step) → IsAmongGuests old → MeetsOrTells old new result step → BasesStay old.guests new.guests
+operation-bases old new (Ok code) step among m = step-bases old new (Ok (replies.Code code)) step among m
+operation-bases old new (Err (operate_errors.Refused refusal)) step among m = same_bases old new m.1
+operation-bases old new (Err (operate_errors.BadItem item)) step among m = same_bases old new m.1

@@ -1,23 +1,17 @@
 -- How many handles a guest has after a call: no more than it had, or than its limits allow.
-use Rattle.std.proofs.Common.{◌≡◌, ◌≢◌, ℕ, zero, suc, ◌+◌, ◌<◌, ◌≤◌, min, max, Bool, true, false, List, [], ◌∷◌, length, set, sum_by, Option, Some, None, ℤ, refl, sym, ap, ◌∙◌, subst, inl, inr, length-set, arith}
-use Rattle.std.specs.Prelude.{◌⊎◌, ◌||◌, ◌&&◌, not, is_ok, nat_lt}
+use Rattle.std.proofs.Common.{◌≡◌, ◌≢◌, ℕ, ◌<◌, ◌≤◌, Bool, true, false, List, length, set, Option, Some, None, refl, sym, ap, ◌∙◌, subst, inl, inr, length-set, arith, Ok, Err}
+use Rattle.std.specs.Prelude.{◌⊎◌, ◌&&◌, not, is_ok}
 use Rattle.std.proofs.lemmas.Bool.Decides.{nat_tests, Decides-eqb}
-use Rattle.std.specs.Option.{option_map}
-use Rattle.std.proofs.lemmas.Bool.{cond_both, cases_lt, cases_eq, ne_eqb}
-use Rattle.std.proofs.lemmas.List.{set_past, get_or-set_same, get_or-set_other}
-use Rattle.std.proofs.lemmas.List.Sums.{sum_by-set, sum_by_push}
-use Rattle.strm_handles.specs.Handles.{Handles, entry_in, entry_at, entries_with, inserted, inserted_in, removed, occupied, occupied_in}
+use Rattle.std.proofs.lemmas.Bool.{cond_both, cases_eq, ne_eqb}
+use Rattle.strm_handles.specs.Handles.{Handles, entry_at, inserted, removed}
 use Rattle.strm_handles.specs.Lookups.{end_rep_in}
 use Rattle.strm_handles.specs.declared.entries.Entry.TheVariants as entries
-use Rattle.strm_handles.proofs.HandleLemmas.{given, sum_by-entries_with}
-use Rattle.strm_handles.specs.Kinds.{end_in, ends_held, context_in, contexts_held}
+use Rattle.strm_handles.proofs.HandleLemmas.{given}
 use Rattle.strm_handles.specs.declared.entries.Entry.{Entry}
 use Rattle.strm_codes.specs.declared.codes.ReturnCode.{ReturnCode}
 use Rattle.strm_codes.specs.declared.codes.TransmitIndex.{TransmitIndex}
 use Rattle.strm_codes.specs.declared.codes.TransmitIndex.TheVariants as index
-use Rattle.strm_codes.specs.Layout.{scalars_of}
-use Rattle.strm_memory.specs.Items.{items_at, stored_at}
-use Rattle.strm_machine.specs.State.{State, Guest, no_guest, is_gone, guest_in, memory_in, sets_in, with_memory, with_table}
+use Rattle.strm_machine.specs.State.{State, Guest, guest_in, sets_in, with_table}
 use Rattle.strm_machine.specs.Acts.{act_of, end_named_by}
 use Rattle.strm_error_contexts.specs.Contexts.{next_number}
 use Rattle.strm_machine.specs.ErrorContexts.{context_number}
@@ -27,55 +21,47 @@ use Rattle.strm_machine.specs.declared.steps.Step.{Step}
 use Rattle.strm_machine.specs.declared.steps.Step.TheVariants as steps
 use Rattle.strm_machine.specs.Making.{read_entry, write_entry, end_entry, with_read_end, with_ends, with_stream}
 use Rattle.strm_machine.specs.Moves.{without_handle, handle_given}
-use Rattle.strm_machine.specs.Operating.{Operated, completes_alone, finds, rendezvous_by, moves, operate}
-use Rattle.strm_machine.specs.Reactions.{Reaction, on_end, on_set, polls, texts, on_memory, written_back, performs}
-use Rattle.strm_machine.specs.Sides.{end_of, opposite, same_side, read_of, write_of}
+use Rattle.strm_machine.specs.Reactions.{Reaction, on_end, on_set, texts, on_memory, performs}
 use Rattle.strm_machine.specs.Tests.{named, named_by, stream_named, side_named, is_unknown_guest}
-use Rattle.strm_machine.specs.WaitableSets.{ready_in}
-use Rattle.strm_machine.specs.declared.acts.EndAct.{EndAct}
 use Rattle.strm_machine.specs.declared.acts.EndAct.TheVariants.{Operate, Drop, Cancel, Lift}
-use Rattle.strm_machine.specs.declared.acts.MemoryAct.{MemoryAct}
 use Rattle.strm_machine.specs.declared.acts.MemoryAct.TheVariants.{Poke, Dump}
 use Rattle.strm_machine.specs.declared.acts.NamedEnd.{NamedEnd}
-use Rattle.strm_machine.specs.declared.acts.SetAct.{SetAct}
 use Rattle.strm_machine.specs.declared.acts.SetAct.TheVariants as set_acts
-use Rattle.strm_machine.specs.declared.streams.Meeting.{Meeting}
-use Rattle.strm_machine.specs.declared.streams.Meeting.TheVariants.{BothComplete, ReadCompletes, WriteCompletes}
-use Rattle.strm_machine.specs.declared.streams.Operation.{Operation}
 use Rattle.strm_machine.specs.declared.streams.Side.{Side}
 use Rattle.strm_machine.specs.declared.streams.Side.TheVariants.{Writing, Reading}
 use Rattle.strm_machine.specs.declared.streams.Stream.{Stream}
-use Rattle.strm_machine.proofs.Shapes.{stream_on, begun_on, turn_on}
 use Rattle.strm_waitable_sets.specs.Sets.{Sets}
-use Rattle.strm_machine.proofs.TableLemmas.{set-keeps, handles-more, handles-with_same, handles-with_other}
+use Rattle.strm_machine.proofs.TableLemmas.{handles-more, handles-with_same, handles-with_other}
 use Rattle.strm_waitable_sets.specs.Sets.{handle_left}
 use Rattle.strm_guest_store.specs.declared.guest_limits.Gain.{Gain}
 use Rattle.strm_guest_store.specs.declared.guest_limits.GuestLimits.{GuestLimits}
-use Rattle.strm_transmit.specs.Counts.{counts_of}
-use Rattle.strm_guest_store.specs.Limits.{counts_in, bytes_for, limits_of, GetsNoMore, passes, is_past, is_pair_past, is_move_past, is_step_past}
+use Rattle.strm_guest_store.specs.Limits.{counts_in, limits_of, passes, is_past, is_pair_past, is_move_past, is_step_past}
 use Rattle.strm_guest_store.specs.declared.guest_limits.Gain.TheVariants.{Ends, Set, Context}
 use Rattle.std.proofs.Common.{Result}
 use Rattle.strm_codes.specs.declared.refusals.Refusal.{Refusal}
-use Rattle.strm_machine.specs.Reactions.{react, goes, shares_unless, lowers_context}
+use Rattle.strm_machine.specs.Reactions.{react, shares_unless, lowers_context}
 use Rattle.strm_machine.specs.Refusals.{first_of, lower_context_reasons}
 use Rattle.strm_machine.specs.declared.acts.Act.{Act}
 use Rattle.strm_machine.specs.declared.replies.Reply.{Reply}
 use Rattle.strm_machine.specs.declared.replies.Reply.TheVariants as replies
-use Rattle.strm_machine.proofs.ReactionLemmas.{reaction-by, reaction-trapped, lowers_context-trapped}
+use Rattle.strm_machine.proofs.ReactionLemmas.{reaction-by}
 use Rattle.strm_places.specs.Again.{with_stream_in, performs_at, reaction_at, reacts_at}
 use Rattle.strm_places.proofs.AgainLemmas.{reaction_at-by}
 use Rattle.strm_transmit.specs.Meets.{Meets}
 use Rattle.strm_transmit.specs.declared.errors.StoreError.{StoreError}
 use Rattle.strm_transmit.proofs.AgainLemmas.{meets_leaves}
+use Rattle.strm_codes.specs.declared.codes.ReturnCode.{ReturnCode}
+use Rattle.strm_guest_store.specs.Operations.{MeetsOrTells}
+use Rattle.strm_guest_store.specs.declared.operations.OperateError.{OperateError}
+use Rattle.strm_guest_store.specs.declared.operations.OperateError.TheVariants as errors
 use Rattle.strm_guest_store.proofs.TableGains.{NoMore, Fits, table, same, neither, inserted-no_more, with_table-by, end-one, keeps-no_more, end-fits, set-fits, context-fits, ends-no_more, replaced-no_more, freed, on_end-no_more, on_set-no_more, texts-no_more, on_memory-no_more, given-no_more}
 
 -- ## By the tests of a state
 
--- where the store is not trapped and the guest is there, the test is that of its limits
-test_of : (trapped unknown past : Bool) → trapped ≡ false → unknown ≡ false → (not (trapped || unknown) && past) ≡ false → past ≡ false
-test_of false false past t u e = e
-test_of true unknown past t u e = cc
-test_of false true past t u e = cc
+-- where the guest is there, the test is that of its limits
+test_of : (unknown past : Bool) → unknown ≡ false → (not unknown && past) ≡ false → past ≡ false
+test_of false past u e = e
+test_of true past u e = cc
 
 -- a handle that is looked up as an end's stands for one
 named-is_end : (ty : TransmitIndex) (h : Handles) (n : ℕ) (o : Option Entry) → entry_at h n ≡ o → is_ok (named_by ty h n) ≡ true → is_ok (end_rep_in o) ≡ true
@@ -94,7 +80,7 @@ named-is_end (index.Future payload) h n (Some (entries.Subtask rep is_host)) e o
 named-is_end (index.Stream payload) h n (Some (entries.WaitableSet rep)) e ok = rw e at ok
 named-is_end (index.Future payload) h n (Some (entries.WaitableSet rep)) e ok = rw e at ok
 
-module _ (limits : List GuestLimits) (state : State) (untrapped : state.trapped ≡ false) (g : ℕ) where
+module _ (limits : List GuestLimits) (state : State) (g : ℕ) where
   abbrev mine : GuestLimits
   mine = limits_of limits g
 
@@ -105,7 +91,7 @@ module _ (limits : List GuestLimits) (state : State) (untrapped : state.trapped 
   tested : (k : ℕ) (gain : Gain) → is_past state limits k gain ≡ false → g ≡ k → k < length state.guests → passes mine (counts_in state k) gain ≡ false
   tested k gain past e l =
       let known : is_unknown_guest state k ≡ false = grind (arith, nat_tests) in
-      rw e (test_of state.trapped (is_unknown_guest state k) (passes (limits_of limits k) (counts_in state k) gain) untrapped known past)
+      rw e (test_of (is_unknown_guest state k) (passes (limits_of limits k) (counts_in state k) gain) known past)
 
   -- a set, an error context, or an end more of a guest
   pub set-no_more : (k number : ℕ) (sets : Sets) → is_past state limits k Set ≡ false → Kept (table (with_table state.guests k (inserted (table state.guests k) (entries.WaitableSet number)) sets) g)
@@ -281,39 +267,32 @@ module _ (limits : List GuestLimits) (state : State) (untrapped : state.trapped 
 
 -- ## Every call
 
-making-trapped : (n : ℕ) (state : State) (step : Step) → state.trapped ≡ true → reacts_at n state step ≡ goes replies.StoreTrapped state
-unfolding reaction_at
-making-trapped n state step t = rw t refl
-
-lowered-no_more : (limits : List GuestLimits) (state : State) (g number k : ℕ) → state.trapped ≡ false → is_past state limits k Context ≡ false → NoMore (limits_of limits g) (table state.guests g) (table (lowers_context state number k).state.guests g)
+lowered-no_more : (limits : List GuestLimits) (state : State) (g number k : ℕ) → is_past state limits k Context ≡ false → NoMore (limits_of limits g) (table state.guests g) (table (lowers_context state number k).state.guests g)
 unfolding lowers_context
-lowered-no_more limits state g number k t past =
+lowered-no_more limits state g number k past =
     cond_both state.trapped _ _ (λ (r : Reaction). NoMore (limits_of limits g) (table state.guests g) (table r.state.guests g)) (λ e. same (limits_of limits g) state g)
-    (λ e. shared-no_more limits state t g number k (first_of (lower_context_reasons state number k)) past)
+    (λ e. shared-no_more limits state g number k (first_of (lower_context_reasons state number k)) past)
 
--- where the store is trapped nothing changes
-module _ (limits : List GuestLimits) (old new : State) (result : Result Reply StoreError) (g : ℕ) where
+module _ (limits : List GuestLimits) (old new : State) (g : ℕ) where
   abbrev Now : State → Type 0
   Now s = NoMore (limits_of limits g) (table old.guests g) (table s.guests g)
 
   was : Now old
   was = same (limits_of limits g) old g
 
-  -- what a reaction leaves is known where it is not that of a trapped store
-  by_trap : (r : Reaction) → (old.trapped ≡ true → r ≡ goes replies.StoreTrapped old) → (old.trapped ≡ false → Now r.state) → Meets old new result r → Now new
-  by_trap r trapped untrapped m = by old.trapped refl
-    where
-      by : (b : Bool) → old.trapped ≡ b → Now new
-      by true t = meets_leaves Now old new result r was (subst (λ (x : Reaction). Now x.state) (sym (trapped t)) was) m
-      by false t = meets_leaves Now old new result r was (untrapped t) m
+  module _ (result : Result Reply StoreError) where
+    pub step-gains : (step : Step) → is_step_past old limits step ≡ false → Meets old new result (react old step) → Now new
+    step-gains step past m = meets_leaves Now old new result (react old step) was (stepped-no_more limits old g step past) m
 
-  pub step-gains : (step : Step) → is_step_past old limits step ≡ false → Meets old new result (react old step) → Now new
-  step-gains step past m =
-      by_trap (react old step) (reaction-trapped old (act_of step)) (λ t. stepped-no_more limits old t g step past) m
+    pub making-gains : (n : ℕ) (step : Step) → is_step_past old limits step ≡ false → Meets old new result (reacts_at n old step) → Now new
+    making-gains n step past m = meets_leaves Now old new result (reacts_at n old step) was (made-no_more limits old g n step past) m
 
-  pub making-gains : (n : ℕ) (step : Step) → is_step_past old limits step ≡ false → Meets old new result (reacts_at n old step) → Now new
-  making-gains n step past m = by_trap (reacts_at n old step) (making-trapped n old step) (λ t. made-no_more limits old t g n step past) m
+    pub lowering-gains : (number k : ℕ) → is_past old limits k Context ≡ false → Meets old new result (lowers_context old number k) → Now new
+    lowering-gains number k past m =
+        meets_leaves Now old new result (lowers_context old number k) was (lowered-no_more limits old g number k past) m
 
-  pub lowering-gains : (number k : ℕ) → is_past old limits k Context ≡ false → Meets old new result (lowers_context old number k) → Now new
-  lowering-gains number k past m =
-      by_trap (lowers_context old number k) (lowers_context-trapped old number k) (λ t. lowered-no_more limits old g number k t past) m
+  -- a read or write
+  pub operation-gains : (result : Result ReturnCode OperateError) (step : Step) → is_step_past old limits step ≡ false → MeetsOrTells old new result step → Now new
+  operation-gains (Ok code) step past m = step-gains (Ok (replies.Code code)) step past m
+  operation-gains (Err (errors.Refused refusal)) step past m = subst Now (sym m.1) was
+  operation-gains (Err (errors.BadItem item)) step past m = subst Now (sym m.1) was

@@ -1,7 +1,11 @@
 pub mod CountLemmas
+-- an operation is of the guest that has its end, and what traps a store
+pub mod OwnerLemmas
 pub mod AmongLemmas
 pub mod AgainLemmas
 pub mod BaseLemmas
+-- reads and writes, and items that are none
+pub mod OperateLemmas
 pub mod TableGains
 pub mod GainLemmas
 pub mod MessageLemmas

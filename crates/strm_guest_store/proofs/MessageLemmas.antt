@@ -1,5 +1,5 @@
 -- Messages have no more bytes than are counted for them.
-use Rattle.std.proofs.Common.{◌≡◌, ℕ, ◌+◌, ◌*◌, ◌≤◌, List, [], ◌∷◌, sum_by, Option, Some, None, refl, arith}
+use Rattle.std.proofs.Common.{◌≡◌, ℕ, ◌*◌, ◌≤◌, List, [], ◌∷◌, sum_by, Option, Some, None, refl, arith}
 use Rattle.std.proofs.lemmas.List.Sums.{sum_by-cons, sum_by-le-sum_by}
 use Rattle.strm_handles.specs.declared.entries.Entry.{Entry}
 use Rattle.strm_handles.specs.declared.entries.Entry.TheVariants as entries

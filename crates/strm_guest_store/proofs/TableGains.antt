@@ -1,9 +1,9 @@
 -- How many handles a table has, of each kind, after a change: no more than it had, or than limits allow.
-use Rattle.std.proofs.Common.{◌≡◌, ◌≢◌, ℕ, zero, suc, ◌+◌, ◌<◌, ◌≤◌, min, max, Bool, true, false, List, [], ◌∷◌, length, set, sum_by, Option, Some, None, ℤ, refl, sym, ap, ◌∙◌, subst, inl, inr, length-set, arith}
-use Rattle.std.specs.Prelude.{◌⊎◌, ◌||◌, ◌&&◌, not, is_ok, nat_lt}
-use Rattle.std.proofs.lemmas.Bool.Decides.{nat_tests, Decides-eqb}
+use Rattle.std.proofs.Common.{◌≡◌, ◌≢◌, ℕ, zero, suc, ◌+◌, ◌<◌, ◌≤◌, min, max, Bool, true, false, List, [], ◌∷◌, length, set, sum_by, Option, Some, None, ℤ, refl, ap, inl, inr, arith}
+use Rattle.std.specs.Prelude.{◌⊎◌, ◌||◌, is_ok, nat_lt}
+use Rattle.std.proofs.lemmas.Bool.Decides.{nat_tests}
 use Rattle.std.specs.Option.{option_map}
-use Rattle.std.proofs.lemmas.Bool.{cond_both, cases_lt, cases_eq, ne_eqb}
+use Rattle.std.proofs.lemmas.Bool.{cond_both, cases_lt, cases_eq}
 use Rattle.std.proofs.lemmas.List.{set_past, get_or-set_same, get_or-set_other}
 use Rattle.std.proofs.lemmas.List.Sums.{sum_by-set, sum_by_push}
 use Rattle.strm_handles.specs.Handles.{Handles, entry_in, entry_at, entries_with, inserted, inserted_in, removed, occupied, occupied_in}
@@ -17,20 +17,12 @@ use Rattle.strm_codes.specs.declared.codes.TransmitIndex.{TransmitIndex}
 use Rattle.strm_codes.specs.declared.codes.TransmitIndex.TheVariants as index
 use Rattle.strm_codes.specs.Layout.{scalars_of}
 use Rattle.strm_memory.specs.Items.{items_at, stored_at}
-use Rattle.strm_machine.specs.State.{State, Guest, no_guest, is_gone, guest_in, memory_in, sets_in, with_memory, with_table}
-use Rattle.strm_machine.specs.Acts.{act_of, end_named_by}
-use Rattle.strm_error_contexts.specs.Contexts.{next_number}
-use Rattle.strm_machine.specs.ErrorContexts.{context_number}
-use Rattle.strm_machine.specs.Refusals.{refusal}
-use Rattle.strm_machine.proofs.RefusalLemmas.{named_ok, move_fits}
-use Rattle.strm_machine.specs.declared.steps.Step.{Step}
-use Rattle.strm_machine.specs.declared.steps.Step.TheVariants as steps
-use Rattle.strm_machine.specs.Making.{read_entry, write_entry, end_entry, with_read_end, with_ends, with_stream}
-use Rattle.strm_machine.specs.Moves.{without_handle, handle_given}
+use Rattle.strm_machine.specs.State.{State, Guest, no_guest, is_gone, guest_in, memory_in, with_memory, with_table}
+use Rattle.strm_machine.specs.Making.{end_entry}
 use Rattle.strm_machine.specs.Operating.{Operated, completes_alone, finds, rendezvous_by, moves, operate}
-use Rattle.strm_machine.specs.Reactions.{Reaction, on_end, on_set, polls, texts, on_memory, written_back, performs}
+use Rattle.strm_machine.specs.Reactions.{Reaction, on_end, on_set, polls, texts, on_memory, written_back}
 use Rattle.strm_machine.specs.Sides.{end_of, opposite, same_side, read_of, write_of}
-use Rattle.strm_machine.specs.Tests.{named, named_by, stream_named, side_named, is_unknown_guest}
+use Rattle.strm_machine.specs.Tests.{named, stream_named}
 use Rattle.strm_machine.specs.WaitableSets.{ready_in}
 use Rattle.strm_machine.specs.declared.acts.EndAct.{EndAct}
 use Rattle.strm_machine.specs.declared.acts.EndAct.TheVariants.{Operate, Drop, Cancel, Lift}
@@ -47,12 +39,10 @@ use Rattle.strm_machine.specs.declared.streams.Side.TheVariants.{Writing, Readin
 use Rattle.strm_machine.specs.declared.streams.Stream.{Stream}
 use Rattle.strm_machine.proofs.Shapes.{stream_on, begun_on, turn_on}
 use Rattle.strm_waitable_sets.specs.Sets.{Sets}
-use Rattle.strm_machine.proofs.TableLemmas.{set-keeps, handles-more, handles-with_same, handles-with_other}
-use Rattle.strm_waitable_sets.specs.Sets.{handle_left}
-use Rattle.strm_guest_store.specs.declared.guest_limits.Gain.{Gain}
+use Rattle.strm_machine.proofs.TableLemmas.{set-keeps}
 use Rattle.strm_guest_store.specs.declared.guest_limits.GuestLimits.{GuestLimits}
 use Rattle.strm_transmit.specs.Counts.{counts_of}
-use Rattle.strm_guest_store.specs.Limits.{counts_in, bytes_for, limits_of, GetsNoMore, passes, is_past, is_pair_past, is_move_past, is_step_past}
+use Rattle.strm_guest_store.specs.Limits.{bytes_for, GetsNoMore, passes}
 use Rattle.strm_guest_store.specs.declared.guest_limits.Gain.TheVariants.{Ends, Set, Context}
 
 -- ## A sum over the entries of a table

@@ -1,15 +1,34 @@
 -- The states of a store among guests. Ours.
-use Rattle.std.specs.Prelude.{ℕ, ◌+◌, ◌*◌, ◌≤◌, ◌<◌, length}
-use Rattle.strm_machine.specs.State.{State, memory_in}
+use Rattle.std.specs.Prelude.{◌≡◌, ℕ, ◌+◌, ◌*◌, ◌≤◌, ◌<◌, true, false, length}
+use Rattle.strm_handles.specs.Handles.{IsTable}
+use Rattle.strm_machine.specs.Moments.{is_end}
+use Rattle.strm_machine.specs.Sides.{end_of}
+use Rattle.strm_machine.specs.State.{State, guest_in, memory_in, stream_at}
+use Rattle.strm_machine.specs.Tests.{end_named}
+use Rattle.strm_machine.specs.declared.streams.Owner.TheVariants.{Held}
+use Rattle.strm_machine.specs.declared.streams.Side.{Side}
 use Rattle.strm_host_machine.specs.Does.{Fits}
-use Rattle.strm_transmit.specs.Guests.{Unhosted, nobody}
+use Rattle.strm_transmit.specs.Guests.{Unhosted, nobody, AreOfOwners}
+
+-- handles and ends agree: an end that a handle names is its guest's, under that handle, and each end that a guest has
+-- is named so; and each table is one
+pub record HandlesAgree (state : State) : Type 0 where
+  pub tables : (g : ℕ) → IsTable (guest_in state.guests g).handles
+  pub named : (g handle s : ℕ) (side : Side) → is_end s side (end_named state g handle) ≡ true →
+      (end_of side (stream_at state s)).owner ≡ Held g handle
+  pub held : (g handle s : ℕ) (side : Side) → (end_of side (stream_at state s)).owner ≡ Held g handle →
+      is_end s side (end_named state g handle) ≡ true
 
 -- sound, no host end has an end of a stream, and none has to be there; and there are no more streams than the
--- limit on places has room for at once, since the places of those that are gone are given again
+-- limit on places has room for at once, since the places of those that are gone are given again. Handles and ends
+-- agree, each operation is of the guest that has its end, and nothing traps such a store
 pub record IsAmongGuests (state : State) : Type 0 where
   pub unhosted : Unhosted state
   pub fits : Fits state nobody
   pub few : 3 * length state.streams ≤ state.limits.places
+  pub held : HandlesAgree state
+  pub owned : AreOfOwners state.streams
+  pub untrapped : state.trapped ≡ false
 
 -- a guest's memory has so many bytes from an address on
 pub record HasBytes (state : State) (guest address count : ℕ) : Type 0 where

@@ -1,4 +1,5 @@
 pub mod Among
 pub mod Lending
+pub mod Operations
 pub mod Limits
 pub mod Limited

@@ -24,7 +24,7 @@ unbounded = record { handles = 4294967295; ends = 4294967295; bytes = 1844674407
 abbrev pub limits_of : List GuestLimits → ℕ → GuestLimits
 limits_of limits g = slice_index_or limits g unbounded
 
--- what is answered of a guest's limits, also by a store that was trapped
+-- what is answered of a guest's limits
 abbrev pub limits_answer : State → List GuestLimits → ℕ → Result GuestLimits Refusal
 limits_answer state limits g = of_guest state g (Ok (limits_of limits g))
 
@@ -75,12 +75,11 @@ passes limits counts (Ends count) = passes_by_ends limits counts count
 passes limits counts Set = passes_by_set limits counts
 passes limits counts Context = passes_by_context limits counts
 
--- a call would give a guest more than its limits allow. Of a store that was trapped and of a guest that is
--- not there the store's own answer tells
+-- a call would give a guest more than its limits allow. Of a guest that is not there the store's own answer
+-- tells
 abbrev pub is_past : State → List GuestLimits → ℕ → Gain → Bool
 is_past state limits g gain =
-    not (state.trapped || is_unknown_guest state g)
-    && passes (limits_of limits g) (counts_in state g) gain
+    not (is_unknown_guest state g) && passes (limits_of limits g) (counts_in state g) gain
 
 -- the making of a stream between two guests, which may be one, would give one of them more than that
 abbrev pub is_pair_past : State → List GuestLimits → ℕ → ℕ → Bool

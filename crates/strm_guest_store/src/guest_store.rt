@@ -3,7 +3,7 @@
 //! Meaning: `State.antt` of `strm_machine`, and `Guests.antt` of `strm_transmit`. Source: wasmtime,
 //! `futures_and_streams.rs`, `ConcurrentState`; that host ends stand apart is ours.
 
-ghost use Rattle.std.specs.Prelude.{◌≡◌, ◌<◌, ◌≤◌, ◌↔◌, ◌*◌, length, IsSome, IfSome, IsTrue};
+ghost use Rattle.std.specs.Prelude.{◌≡◌, ◌<◌, ◌≤◌, ◌↔◌, ◌*◌, false, length, IsSome, IfSome, IsTrue};
 ghost use Rattle.strm_buffers.specs.AllTells.{tells_of};
 ghost use Rattle.strm_codes.specs.Types.{kind_of, payload_of};
 ghost use Rattle.strm_machine.specs.State.{empty, is_live, stream_at, memory_in};
@@ -15,6 +15,7 @@ mod futures;
 mod making;
 mod memories;
 mod moves;
+mod operating;
 mod queries;
 mod sets;
 mod streams;
@@ -81,11 +82,11 @@ impl GuestStore {
         self.store.tag()
     }
 
-    /// Whether it answers nothing any more but `StoreTrapped`.
-    pub fn trapped(&self) -> bool
-        ensures { result ≡ self.now.trapped }
+    /// Nothing traps it, and no call answers `StoreTrapped`. It does nothing.
+    pub fn nothing_traps(&self)
+        ensures { self.now.trapped ≡ false }
     {
-        self.store.trapped()
+        let _ = &self.store;
     }
 
     /// The numbers that streams and futures got so far: they are below this. One is given again once both ends

@@ -2,7 +2,7 @@
 //!
 //! Meaning: `Guests.antt` of `strm_transmit`, `Bases.antt` of `strm_machine`, `Again.antt` of `strm_places`. Ours.
 
-ghost use Rattle.std.specs.Prelude.{◌≡◌, ℕ, ◌<◌, ◌^◌, false, List, length, Result};
+ghost use Rattle.std.specs.Prelude.{◌≡◌, ℕ, ◌<◌, ◌^◌, false, List, length, Result, Err};
 ghost use Rattle.strm_machine.specs.Bases.{BasesStay};
 ghost use Rattle.strm_machine.specs.Reactions.{react, lowers_context};
 ghost use Rattle.strm_machine.specs.State.{State, with_bytes};
@@ -12,7 +12,13 @@ ghost use Rattle.strm_machine.specs.declared.steps.Step.{Step};
 ghost use Rattle.strm_places.specs.Again.{reacts_at};
 ghost use Rattle.strm_transmit.specs.Meets.{Meets};
 ghost use Rattle.strm_transmit.specs.declared.errors.StoreError.{StoreError};
+ghost use Rattle.strm_transmit.specs.declared.errors.StoreError.TheVariants as store_errors;
+ghost use Rattle.strm_codes.specs.declared.codes.ReturnCode.{ReturnCode};
+ghost use Rattle.strm_transmit.specs.declared.store.bad_items.BadItem.{BadItem};
 ghost use Rattle.strm_guest_store.specs.Among.{IsAmongGuests, HasBytes};
+ghost use Rattle.strm_guest_store.specs.Operations.{MeetsOrTells};
+ghost use Rattle.strm_guest_store.specs.declared.operations.OperateError.{OperateError};
+ghost use Rattle.strm_guest_store.specs.declared.operations.OperateError.TheVariants as errors;
 
 /// Bytes that are written into a guest's memory between two calls, as many as one likes, leave the state
 /// one of a store among guests: that which a poke of these bytes leaves. So a clause of a call, which
@@ -25,7 +31,7 @@ pub fn memories_may_be_written()
 
 /// Whatever call is made, and whatever it answers, each memory of which it was told lies where it lay. Each
 /// call of `GuestStore` that may change the store is a step by its clause `meets`, a making that gives a
-/// stream some number, or a lowering. It does nothing.
+/// stream some number, a read or write, or a lowering. It does nothing.
 pub fn memories_stay()
     ensures steps { (old new : State) (result : Result Reply StoreError) (step : Step)
         → IsAmongGuests old → Meets old new result (react old step)
@@ -33,6 +39,8 @@ pub fn memories_stay()
     ensures makings { (old new : State) (result : Result Reply StoreError) (n : ℕ) (step : Step)
         → IsAmongGuests old → Meets old new result (reacts_at n old step)
         → BasesStay old.guests new.guests }
+    ensures operations { (old new : State) (result : Result ReturnCode OperateError) (step : Step)
+        → IsAmongGuests old → MeetsOrTells old new result step → BasesStay old.guests new.guests }
     ensures lowerings { (old new : State) (result : Result Reply StoreError) (number guest : ℕ) →
         Meets old new result (lowers_context old number guest) → BasesStay old.guests new.guests }
 {}
@@ -43,4 +51,19 @@ pub fn memories_stay()
 pub fn makings_go_on()
     ensures { (state : State) → IsAmongGuests state → state.limits.places < 2 ^ 32 →
         are_streams_full state ≡ false }
+{}
+
+/// Nothing traps a store among guests, and no step of it answers that it is trapped. It does nothing.
+pub fn nothing_traps()
+    ensures untrapped { (state : State) → IsAmongGuests state → state.trapped ≡ false }
+    ensures answers { (old new : State) (step : Step) → IsAmongGuests old →
+        Meets old new (Err store_errors.StoreTrapped) (react old step) → ⊥ }
+{}
+
+/// A read or write that stopped at an item which is none answers the same whenever it is made again in that
+/// state, and the item is one only. It does nothing.
+pub fn bad_items_are_told_again()
+    ensures { (state new : State) (step : Step) (item : BadItem)
+        (again : Result ReturnCode OperateError) → MeetsOrTells state state (Err (errors.BadItem item)) step
+        → IsAmongGuests state → MeetsOrTells state new again step → again ≡ Err (errors.BadItem item) }
 {}

@@ -41,7 +41,7 @@ impl LimitedStore {
         }
     }
 
-    /// How much a guest may have at once. A store that was trapped answers too. Refused: UnknownGuest.
+    /// How much a guest may have at once. Refused: UnknownGuest.
     pub fn guest_limits(&self, guest: u32) -> Result<GuestLimits, Refusal>
         ensures exact { result ≡ limits_answer self.now.store self.now.limits guest }
     {
@@ -52,8 +52,7 @@ impl LimitedStore {
     }
 
     /// Sets how much a guest may have at once. What it has stays, also where that is more; it only gets no
-    /// more of it. Also of a store that was trapped. Takes 16 bytes for each guest up to it. Refused:
-    /// UnknownGuest.
+    /// more of it. Takes 16 bytes for each guest up to it. Refused: UnknownGuest.
     pub fn set_guest_limits(&mut self, guest: u32, limits: GuestLimits) -> Result<(), StoreError>
         ensures set { OnOk result (limits_of self.new.limits guest ≡ limits) }
         ensures others { OnOk result
@@ -75,14 +74,11 @@ impl LimitedStore {
         }
     }
 
-    /// Whether a call would give a guest more than its limits allow. Not so of a store that was trapped and
-    /// of a guest that is not there, of which the call itself tells.
+    /// Whether a call would give a guest more than its limits allow. Not so of a guest that is not there, of
+    /// which the call itself tells.
     pub fn is_past(&self, guest: u32, gain: Gain) -> bool
         ensures { result ≡ is_past self.now.store self.now.limits guest gain }
     {
-        if self.store.trapped() {
-            return false;
-        }
         match self.store.guest_counts(guest) {
             Ok(counts) => self.limits.get(guest).passes(&counts, gain),
             Err(_) => false,

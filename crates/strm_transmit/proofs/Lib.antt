@@ -32,6 +32,8 @@ pub mod PipeKeptLemmas
 pub mod RoundLemmas
 pub mod RoundStoreLemmas
 pub mod OperateLemmas
+-- a read or write that stops at an item that is none
+pub mod BadItemLemmas
 pub mod SetLemmas
 pub mod ContextLemmas
 pub mod NextLemmas

@@ -10,6 +10,7 @@ pub mod OutOfMemory
 pub mod HostEnds
 pub mod Hosted
 pub mod Turning
+pub mod BadItems
 pub mod Operating
 pub mod Performing
 pub mod Piping

@@ -1,5 +1,5 @@
 -- What the functions of a read or write promise one another. Ours.
-use Rattle.std.specs.Prelude.{◌≡◌, ◌≢◌, ℕ, ◌<◌, false, length, None, Result, Err}
+use Rattle.std.specs.Prelude.{◌≡◌, ◌≢◌, ℕ, ◌<◌, false, length, None, Result, Err, IfErr}
 use Rattle.strm_buffers.specs.Tells.{Tells}
 use Rattle.strm_codes.specs.declared.codes.ReturnCode.{ReturnCode}
 use Rattle.strm_machine.specs.State.{State, stream_at}
@@ -13,7 +13,8 @@ use Rattle.strm_transmit.specs.Hosted.{MeetsHosted, StillFits, RunsOutOnlyPollin
 use Rattle.strm_transmit.specs.Meets.{Meets, as_reply}
 use Rattle.strm_transmit.specs.Turning.{IsPlacedOn, IsNumberWithin}
 use Rattle.strm_transmit.specs.declared.errors.StoreError.{StoreError}
-use Rattle.strm_transmit.specs.declared.errors.StoreError.TheVariants.{OutOfMemory}
+use Rattle.strm_transmit.specs.BadItems.{MeetsOrStays}
+use Rattle.strm_transmit.specs.declared.errors.StoreError.TheVariants.{BadItem, OutOfMemory}
 
 -- a read or write is done, and a host end on the other side has its turn
 pub record Operates (old new : State) (tells told : Tells) (act : Act) (result : Result ReturnCode StoreError) : Type 0 where
@@ -25,9 +26,9 @@ pub record Operates (old new : State) (tells told : Tells) (act : Act) (result :
   pub held : RunsOutNoneHeld old tells act result
 
 -- a read or write is done, and no host end is polled
-pub record OperatesAlone (old new : State) (act : Act) (result : Result ReturnCode StoreError) : Type 0 where
-  -- it is the machine's step
-  pub meets : Meets old new (as_reply replies.Code result) (reaction old act)
+pub record OperatesOrStays (old new : State) (act : Act) (result : Result ReturnCode StoreError) : Type 0 where
+  -- it is the machine's step, or an item that is none leaves the store as it was
+  pub meets : MeetsOrStays old new (as_reply replies.Code result) (reaction old act)
   -- host ends that fitted the store fit it still
   pub fits : StillFits old new
   pub takes_no_memory : result ≢ Err OutOfMemory
@@ -47,4 +48,11 @@ pub record MayBegin (state : State) (side : Side) (s : ℕ) (operation : Operati
 pub record BeginsOn (old new : State) (side : Side) (s : ℕ) (operation : Operation) (result : Result ReturnCode StoreError) : Type 0 where
   -- it is the machine's step
   pub meets : Meets old new (as_reply replies.Code result) (on_stream old s side operation)
+  pub takes_no_memory : result ≢ Err OutOfMemory
+
+-- the same, or an item that is none leaves the store as it was
+pub record BeginsOrStays (old new : State) (side : Side) (s : ℕ) (operation : Operation) (result : Result ReturnCode StoreError) : Type 0 where
+  pub meets : MeetsOrStays old new (as_reply replies.Code result) (on_stream old s side operation)
+  -- no other error comes
+  pub bad : IfErr result (λ error. error ≡ BadItem s)
   pub takes_no_memory : result ≢ Err OutOfMemory

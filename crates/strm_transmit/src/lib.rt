@@ -14,6 +14,7 @@ pub mod steps;
 pub mod store;
 mod telling;
 
+pub use store::bad_items::BadItem;
 pub use store::counts::GuestCounts;
 pub use store::queries::{EndInfo, Handle};
 pub use strm_machine::chunks::Chunk;

@@ -9,6 +9,7 @@ ghost use Rattle.strm_machine.specs.State.{empty, is_live, stream_at, memory_in}
 ghost use Rattle.strm_machine.specs.Soundness.{type_with};
 ghost use Rattle.strm_machine.specs.Tests.{is_unknown_guest};
 
+pub mod bad_items;
 mod contexts;
 pub mod counts;
 mod driving;

@@ -11,7 +11,7 @@ pub(crate) const BYTES: Payload = Payload::One(Scalar::U8);
 
 pub(crate) const WORDS: Payload = Payload::One(Scalar::U32);
 
-const CHARS: Payload = Payload::One(Scalar::Char);
+pub(crate) const CHARS: Payload = Payload::One(Scalar::Char);
 
 /// The types that tests have.
 #[derive(Clone, Copy, PartialEq)]
@@ -59,6 +59,11 @@ pub(crate) enum Call {
     /// Of an end, an address and a count.
     Read(End, u32, u32),
     Write(End, u32, u32),
+    /// Of an end of chars, an address and a count.
+    ReadChars(End, u32, u32),
+    WriteChars(End, u32, u32),
+    /// The item at which a read of so many chars to address 0 would stop.
+    BadItem(End, u32),
     /// Of an end and an address.
     ReadValue(End, u32),
     WriteValue(End, u32),

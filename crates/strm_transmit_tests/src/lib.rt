@@ -6,6 +6,8 @@
 #![tactic(auto)]
 
 #[cfg(test)]
+mod bad_items;
+#[cfg(test)]
 mod calls;
 #[cfg(test)]
 mod contexts;

@@ -46,6 +46,8 @@ pub(crate) enum Told {
     /// A step's reply that is a refusal.
     RefusedReply(Refusal),
     BadItem(u32),
+    /// The guest that writes an item that is none, its handle, and the item's place.
+    BadItemOf(u32, u32, u32),
     HostFailed(HostEnd),
     HostBroke(HostEnd),
     Trapped,

@@ -1,6 +1,6 @@
 //! A store among guests alone: three bytes go from one guest to another.
 
-ghost use Rattle.std.specs.Prelude.{◌≡◌, ◌≢◌, ℕ, take, length, false, Some, Ok, Err, IfOk, IfSome};
+ghost use Rattle.std.specs.Prelude.{◌≡◌, ◌≢◌, ℕ, take, length, false, Some, IfOk, IfSome};
 ghost use Rattle.strm_codes.specs.declared.codes.ReturnCode.TheVariants.{Completed};
 ghost use Rattle.strm_machine.specs.State.{memory_in, stream_at};
 ghost use Rattle.strm_machine.specs.declared.streams.Owner.TheVariants.{Held};
@@ -10,17 +10,38 @@ ghost use Rattle.strm_uses.specs.declared.embed.Told.TheVariants.{Trap};
 use std::alloc::Global;
 use strm_codes::codes::{ReturnCode, TransmitIndex};
 use strm_codes::payloads::Payload;
-use strm_codes::refusals::Refusal;
 use strm_codes::scalars::Scalar;
 use strm_guest_store::guest_store::GuestStore;
+use strm_guest_store::operations::OperateError;
 use strm_guest_store::{Chunk, Handle, Limits, Owner, StoreError};
 
 const BYTES: Payload = Payload::One(Scalar::U8);
+
+const CHARS: Payload = Payload::One(Scalar::Char);
 
 const LIMITS: Limits = Limits {
     handles: 2,
     places: 3,
 };
+
+/// Why nothing was handed over.
+#[derive(Clone, Copy, Debug)]
+pub enum HandError {
+    Store(StoreError),
+    Operate(OperateError),
+}
+
+impl From<StoreError> for HandError {
+    fn from(error: StoreError) -> HandError {
+        HandError::Store(error)
+    }
+}
+
+impl From<OperateError> for HandError {
+    fn from(error: OperateError) -> HandError {
+        HandError::Operate(error)
+    }
+}
 
 /// A store of guests alone, after bytes were handed over: the read's answer, and the write's event.
 #[derive(Drop)]
@@ -31,7 +52,7 @@ pub struct Handed {
 }
 
 /// Hands three bytes from the memory of one guest to another's, over a stream between them.
-pub fn hand_three(alloc: Global, bytes: &Chunk) -> Result<Handed, StoreError>
+pub fn hand_three(alloc: Global, bytes: &Chunk) -> Result<Handed, HandError>
     requires { length bytes.now ≡ 3 }
     ensures memory { IfOk result (λ handed.
         take 3 (memory_in handed.store.guests 1) ≡ bytes.now) }
@@ -51,31 +72,24 @@ pub fn hand_three(alloc: Global, bytes: &Chunk) -> Result<Handed, StoreError>
     Ok(Handed { store, read, told })
 }
 
-/// What a guest is told that asked to read.
+/// What comes of a guest's read.
 #[derive(Clone, Copy, Debug)]
 pub enum Told {
-    /// The word of its read's code.
+    /// The guest goes on with this word, that of its read's code.
     Word(u32),
-    /// It asked for what may not be done, and traps.
-    Trap(Refusal),
+    /// This guest traps: it asked for what may not be done, or writes an item that is none.
+    Trap(u32),
 }
 
-/// Reads for a guest. What may not be done traps the guest alone, and has changed nothing; any other
-/// error is the runtime's.
-pub fn read_for(
-    store: &mut GuestStore,
-    guest: u32,
-    handle: u32,
-    address: u32,
-    count: u32,
-) -> Result<Told, StoreError>
-    ensures trapped { (refusal : Refusal) → result ≡ Ok (Trap refusal) → store.new ≡ store.old }
-    ensures passed_on { (refusal : Refusal) → result ≢ Err (StoreError.Refused refusal) }
+/// Reads for a guest. Where that may not be done, the guest traps; where an item is none, the guest that
+/// writes it, which may be another. Nothing has changed then, and all others go on.
+pub fn read_for(store: &mut GuestStore, guest: u32, handle: u32, address: u32, count: u32) -> Told
+    ensures { (other : ℕ) → result ≡ Trap other → store.new ≡ store.old }
 {
-    match store.stream_read(guest, BYTES, handle, address, count) {
-        Ok(code) => Ok(Told::Word(code.encode())),
-        Err(StoreError::Refused(refusal)) => Ok(Told::Trap(refusal)),
-        Err(error) => Err(error),
+    match store.stream_read(guest, CHARS, handle, address, count) {
+        Ok(code) => Told::Word(code.encode()),
+        Err(OperateError::Refused(_)) => Told::Trap(guest),
+        Err(OperateError::BadItem(item)) => Told::Trap(item.guest),
     }
 }
 

@@ -3,7 +3,8 @@
 use crate::allocations::granting;
 use crate::calls::Call;
 use crate::limits::GuestLimits;
-use crate::sys::{self, Count, Handle, Limits, Member, Pair, StoreHandle};
+use crate::sys::{self, BadItem, Count, Handle, Limits, Member, Pair, StoreHandle};
+use crate::words::side_word;
 use plain::payload::TransmitKind::{Future, Stream};
 use plain::streams::Side::{Read, Write};
 
@@ -100,11 +101,12 @@ impl Archive {
             Call::MemoryWrite { .. } | Call::MemoryRead { .. } | Call::MemoryAt { .. } => {
                 self.answer_memory(call, before)
             }
-            Call::Free | Call::Tag | Call::Trapped | Call::Streams => self.answer_store(call, before),
+            Call::Free | Call::Tag | Call::Streams => self.answer_store(call, before),
             Call::Moved { .. } | Call::TransmitIndex { .. } => self.answer_stream(call, before),
             Call::HandleInfo { .. } | Call::NextHandle { .. } | Call::HandleCount { .. } => {
                 self.answer_handle(call, before)
             }
+            Call::FindBadItem { .. } => self.answer_bad_item(call, before),
             Call::SetGuestLimits { .. } | Call::GuestLimits { .. } => self.answer_limits(call, before),
             _ => self.answer_context(call, before),
         }
@@ -143,7 +145,6 @@ impl Archive {
         let store: Handles = &mut self.store;
         let word = match call {
             Call::Tag => unsafe { sys::strm_tag(store) },
-            Call::Trapped => unsafe { sys::strm_trapped(store) }.into(),
             Call::Streams => unsafe { sys::strm_streams(store) }.into(),
             _ => {
                 self.free();
@@ -168,6 +169,18 @@ impl Archive {
             ),
             _ => unreachable!("a call of another family"),
         }
+    }
+
+    fn answer_bad_item(&mut self, call: &Call, before: Words) -> Answer {
+        let Call::FindBadItem { side, guest, ty, handle, address, count } = *call else {
+            unreachable!("a call of another family")
+        };
+        let [first, second, third] = [before[0], before[1], before[2]].map(|word| word as u32);
+        let out = BadItem { guest: first, handle: second, index: third };
+        let words = |out: &BadItem| [out.guest, out.handle, out.index].map(u64::from);
+        self.put(before, out, words, |store, out| unsafe {
+            sys::strm_find_bad_item(store, side_word(side), guest, ty, handle, address, count, out)
+        })
     }
 
     // A call that tells of a handle.

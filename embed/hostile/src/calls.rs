@@ -1,6 +1,7 @@
 //! The calls of the archive, with all that a caller chooses.
 
 use crate::limits::GuestLimits;
+use crate::words::{FUTURE, side_word};
 use plain::compare::random::Random;
 use plain::payload::TransmitKind::{self, Future, Stream};
 use plain::streams::Side::{self, Read, Write};
@@ -12,7 +13,6 @@ use std::fmt;
 pub enum Call {
     Free,
     Tag,
-    Trapped,
     Streams,
     Moved { stream: u32 },
     TransmitIndex { stream: u32 },
@@ -28,6 +28,8 @@ pub enum Call {
     New { kind: TransmitKind, guest: u32, payload: u64 },
     /// A count that is not passed of a future.
     Operate { side: Side, kind: TransmitKind, guest: u32, payload: u64, handle: u32, address: u32, count: u32 },
+    /// The item at which a read or write with these arguments stops.
+    FindBadItem { side: Side, guest: u32, ty: u64, handle: u32, address: u32, count: u32 },
     Cancel { side: Side, kind: TransmitKind, guest: u32, payload: u64, handle: u32 },
     Drop { side: Side, kind: TransmitKind, guest: u32, payload: u64, handle: u32 },
     TakeEvent { guest: u32, handle: u32 },
@@ -49,13 +51,19 @@ pub enum Call {
 }
 
 impl Call {
+    /// Of a read or write, the question at which item it stops.
+    pub fn find_bad_item(&self) -> Option<Call> {
+        let Call::Operate { side, kind, guest, payload, handle, address, count } = *self else { return None };
+        let ty = if kind == Future { payload | FUTURE } else { payload };
+        Some(Call::FindBadItem { side, guest, ty, handle, address, count })
+    }
+
     /// The name of the export, without `strm_`.
     #[rustfmt::skip]
     pub fn export(&self) -> &'static str {
         match self {
             Call::Free => "store_free",
             Call::Tag => "tag",
-            Call::Trapped => "trapped",
             Call::Streams => "streams",
             Call::Moved { .. } => "moved",
             Call::TransmitIndex { .. } => "transmit_index",
@@ -74,6 +82,7 @@ impl Call {
             Call::Operate { kind: Stream, side: Read, .. } => "stream_read",
             Call::Operate { kind: Future, side: Write, .. } => "future_write",
             Call::Operate { kind: Future, side: Read, .. } => "future_read",
+            Call::FindBadItem { .. } => "find_bad_item",
             Call::Cancel { kind: Stream, side: Write, .. } => "stream_cancel_write",
             Call::Cancel { kind: Stream, side: Read, .. } => "stream_cancel_read",
             Call::Cancel { kind: Future, side: Write, .. } => "future_cancel_write",
@@ -107,7 +116,7 @@ impl Call {
     fn arguments(&self) -> Vec<u64> {
         let of = |words: &[u32]| words.iter().copied().map(u64::from).collect();
         match *self {
-            Call::Free | Call::Tag | Call::Trapped | Call::Streams => Vec::new(),
+            Call::Free | Call::Tag | Call::Streams => Vec::new(),
             Call::Moved { stream } | Call::TransmitIndex { stream } => of(&[stream]),
             Call::AddGuest { size } => of(&[size]),
             Call::MemoryWrite { guest, address, bytes } => of(&[guest, address, bytes.len]),
@@ -120,6 +129,9 @@ impl Call {
                 vec![guest.into(), payload, handle.into(), address.into(), count.into()]
             }
             Call::Operate { guest, payload, handle, address, .. } => vec![guest.into(), payload, handle.into(), address.into()],
+            Call::FindBadItem { side, guest, ty, handle, address, count } => {
+                vec![side_word(side).into(), guest.into(), ty, handle.into(), address.into(), count.into()]
+            }
             Call::Cancel { guest, payload, handle, .. } | Call::Drop { guest, payload, handle, .. } => vec![guest.into(), payload, handle.into()],
             Call::TakeEvent { guest, handle } | Call::HandleInfo { guest, handle } | Call::ContextRep { guest, handle } | Call::ContextDrop { guest, handle } => of(&[guest, handle]),
             Call::NewBetween { writer, reader, ty } => vec![writer.into(), reader.into(), ty],

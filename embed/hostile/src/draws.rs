@@ -418,7 +418,7 @@ impl Draws<'_> {
         let guest = self.guest();
         Some(match self.random.below(16) {
             0 => Call::Tag,
-            1 => Call::Trapped,
+            1 => self.operate()?.find_bad_item()?,
             2 => Call::Streams,
             3 | 4 => Call::Moved { stream: self.stream(false)? },
             5 | 6 => Call::TransmitIndex { stream: self.stream(false)? },

@@ -30,7 +30,7 @@ pub struct Limits {
 }
 
 impl Limits {
-    /// What a call answers that sets or tells them, also of a store that was trapped.
+    /// What a call answers that sets or tells them.
     pub fn answer(&mut self, store: &Store, call: &Call, before: Words, seen: &Answer) -> Option<Answer> {
         let (Call::SetGuestLimits { guest, .. } | Call::GuestLimits { guest }) = *call else { return None };
         if guest as usize >= store.guests.len() {

@@ -32,9 +32,6 @@ use std::time::Instant;
 use strm_sys as sys;
 use tally::Tally;
 
-/// How many calls are made of a store after it trapped.
-const MOST_AFTER_TRAP: u32 = 30;
-
 /// Fewer calls than these need not come to every export.
 const FEW_CALLS: u64 = 100_000;
 
@@ -103,7 +100,12 @@ impl Drawing<'_> {
         let Drawing { random, profile, run, .. } = self;
         let Some(store) = run.model.store() else { return Ok(()) };
         let call = draw(&mut Draws::new(random, profile, store));
-        self.step(call).map(|_| ())
+        let answer = self.step(call)?;
+        // Whoever is told of a bad item asks whose it is.
+        match call.find_bad_item() {
+            Some(question) if answer.status == sys::BAD_ITEM => self.step(question).map(|_| ()),
+            _ => Ok(()),
+        }
     }
 
     // All calls of the store.
@@ -116,9 +118,6 @@ impl Drawing<'_> {
         while left > 0 {
             self.draw(|draws| draws.call())?;
             left -= 1;
-            if self.run.model.is_trapped() {
-                left = left.min(MOST_AFTER_TRAP);
-            }
         }
         self.finish()
     }
@@ -180,14 +179,14 @@ fn one_store(wanted: &Wanted, seed: u64, tally: &mut Tally) -> Result<bool, (His
     }
     let mut drawing = Drawing { wanted, random, profile, run, history, tally };
     let made = drawing.make();
-    let is_trapped = drawing.run.model.is_trapped();
-    made.map(|()| is_trapped).map_err(|difference| (drawing.history, difference))
+    let met_bad_item = drawing.run.model.met_bad_item();
+    made.map(|()| met_bad_item).map_err(|difference| (drawing.history, difference))
 }
 
-fn tell(wanted: &Wanted, tally: &Tally, (stores, trapped): (u64, u64), begun: Instant) {
+fn tell(wanted: &Wanted, tally: &Tally, (stores, bad): (u64, u64), begun: Instant) {
     let (calls, seconds) = (tally.calls(), begun.elapsed().as_secs_f64());
     println!(
-        "{calls} calls of {stores} stores, {trapped} of them trapped: {seconds:.1} s, {:.0} calls a second",
+        "{calls} calls of {stores} stores, {bad} of them with a bad item: {seconds:.1} s, {:.0} calls a second",
         calls as f64 / seconds
     );
     for (status, count) in tally.statuses() {
@@ -224,11 +223,11 @@ fn main() -> ExitCode {
         return ExitCode::FAILURE;
     }
     tally.count("version", 0);
-    let (mut stores, mut trapped) = (0, 0);
+    let (mut stores, mut bad) = (0, 0);
     while tally.calls() < wanted.calls {
         let seed = wanted.seed.wrapping_mul(1 << 32).wrapping_add(stores);
         match one_store(&wanted, seed, &mut tally) {
-            Ok(is_trapped) => trapped += u64::from(is_trapped),
+            Ok(met_bad_item) => bad += u64::from(met_bad_item),
             Err((history, difference)) => {
                 let made = history.steps.len();
                 let (history, Difference(what)) = shrinking::shortest(history, difference);
@@ -238,6 +237,6 @@ fn main() -> ExitCode {
         }
         stores += 1;
     }
-    tell(&wanted, &tally, (stores, trapped), begun);
+    tell(&wanted, &tally, (stores, bad), begun);
     if fits_header(&tally) { ExitCode::SUCCESS } else { ExitCode::FAILURE }
 }

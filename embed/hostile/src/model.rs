@@ -14,7 +14,7 @@ use plain::store::{Limits, Reply, Store};
 /// A store as it should be.
 pub struct Model {
     tag: u64,
-    is_trapped: bool,
+    met_bad_item: bool,
     // None once it was freed.
     store: Option<Store>,
     limits: GuestLimits,
@@ -24,7 +24,7 @@ impl Model {
     pub fn new(tag: u64, handles: usize, places: u32) -> Model {
         let limits = Limits { handles: handles as u64, places: places.into() };
         let store = Some(Store::with_limits(limits));
-        Model { tag, is_trapped: false, store, limits: GuestLimits::default() }
+        Model { tag, met_bad_item: false, store, limits: GuestLimits::default() }
     }
 
     /// The store, if it was not freed.
@@ -32,9 +32,9 @@ impl Model {
         self.store.as_ref()
     }
 
-    /// Whether a call trapped it.
-    pub fn is_trapped(&self) -> bool {
-        self.is_trapped
+    /// Whether a call stopped at an item that is none.
+    pub fn met_bad_item(&self) -> bool {
+        self.met_bad_item
     }
 
     /// The bytes of each guest's memory.
@@ -53,7 +53,6 @@ impl Model {
                 of(0, before)
             }
             (Call::Tag, _) => told(self.tag),
-            (Call::Trapped, _) => told(self.is_trapped.into()),
             (Call::Streams, Some(store)) => told(store.streams.len() as u64),
             _ => self.answer_with_status(call, before, seen),
         }
@@ -68,9 +67,6 @@ impl Model {
             return answer;
         }
         let Some(step) = Step::of(call) else { return of(sys::UNKNOWN_PAYLOAD, before) };
-        if self.is_trapped {
-            return of(sys::STORE_TRAPPED, before);
-        }
         if self.limits.is_past(store, call) {
             return of(sys::GUEST_LIMIT, before);
         }
@@ -80,7 +76,7 @@ impl Model {
             return if answer.status == 0 { of(sys::OUT_OF_MEMORY, before) } else { answer };
         }
         let answer = answered(step.on(store, seen), before);
-        self.is_trapped |= answer.status == sys::BAD_ITEM;
+        self.met_bad_item |= answer.status == sys::BAD_ITEM;
         answer
     }
 }
@@ -94,7 +90,7 @@ pub fn of(status: u32, words: Words) -> Answer {
 fn answer_of_none(call: &Call, before: Words) -> Answer {
     match *call {
         Call::Free => of(0, before),
-        Call::Tag | Call::Trapped | Call::Streams => of(0, over(before, [0])),
+        Call::Tag | Call::Streams => of(0, over(before, [0])),
         Call::MemoryRead { len, .. } => {
             let bytes = vec![before[0] as u8; len as usize];
             Answer { status: sys::NO_STORE, words: before, bytes }

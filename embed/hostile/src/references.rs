@@ -22,11 +22,11 @@ type Origin = (usize, usize);
 #[rustfmt::skip]
 fn names_of(call: &mut Call) -> Vec<(Role, &mut u32)> {
     match call {
-        Call::Free | Call::Tag | Call::Trapped | Call::Streams | Call::AddGuest { .. } => Vec::new(),
+        Call::Free | Call::Tag | Call::Streams | Call::AddGuest { .. } => Vec::new(),
         Call::Moved { stream } | Call::TransmitIndex { stream } => vec![(Role::Stream, stream)],
         Call::MemoryWrite { guest, .. } | Call::MemoryRead { guest, .. } | Call::MemoryAt { guest } | Call::NextHandle { guest, .. } | Call::HandleCount { guest } | Call::SetGuestLimits { guest, .. } | Call::GuestLimits { guest }
         | Call::New { guest, .. } | Call::SetNew { guest } | Call::ContextNew { guest, .. } => vec![(Role::Guest, guest)],
-        Call::Operate { guest, handle, .. } | Call::Cancel { guest, handle, .. } | Call::Drop { guest, handle, .. }
+        Call::Operate { guest, handle, .. } | Call::FindBadItem { guest, handle, .. } | Call::Cancel { guest, handle, .. } | Call::Drop { guest, handle, .. }
         | Call::TakeEvent { guest, handle } | Call::HandleInfo { guest, handle } | Call::Lift { guest, handle, .. } | Call::SetPoll { guest, set: handle }
         | Call::SetDrop { guest, set: handle } | Call::ContextMessage { guest, handle, .. }
         | Call::ContextRep { guest, handle } | Call::ContextDrop { guest, handle } => {

@@ -37,7 +37,7 @@ impl Tally {
             .seen
             .keys()
             .map(|(export, status)| (*export, name_of(*status)))
-            .filter(|(_, name)| !matches!(name.as_str(), "DONE" | "NO_STORE" | "STORE_TRAPPED"))
+            .filter(|(_, name)| !matches!(name.as_str(), "DONE" | "NO_STORE"))
             .filter(|(export, name)| !listed.get(export).is_some_and(|names| names.contains(&name.as_str())))
             .map(|(export, name)| format!("strm_{export}: {name}"))
             .collect();
@@ -93,7 +93,7 @@ fn listed() -> BTreeMap<&'static str, Vec<&'static str>> {
 // of each call is not listed of one.
 fn can_come(export: &str, name: &str, is_scarce: bool) -> bool {
     match name {
-        "INDEX_OVERFLOW" | "NO_STORE" | "STORE_TRAPPED" => false,
+        "INDEX_OVERFLOW" | "NO_STORE" => false,
         "FULL" => export != "add_guest",
         "OUT_OF_MEMORY" => is_scarce,
         _ => true,

@@ -3,6 +3,7 @@
 use crate::sys;
 use plain::codes::{Refusal, ReturnCode};
 use plain::payload::{Fields, Payload, Scalar, TransmitIndex};
+use plain::streams::Side;
 
 /// The bit of a tuple's word.
 pub const TUPLE: u64 = 1 << 32;
@@ -12,6 +13,14 @@ pub const FUTURE: u64 = 1 << 33;
 
 /// The word of no event.
 pub const NO_EVENT: u64 = 3;
+
+/// The word of a side.
+pub fn side_word(side: Side) -> u32 {
+    match side {
+        Side::Write => sys::SIDE_WRITING,
+        Side::Read => sys::SIDE_READING,
+    }
+}
 
 fn scalar_at(word: u64) -> Option<Scalar> {
     Scalar::ALL.get(usize::try_from(word).ok()?.wrapping_sub(1)).copied()
@@ -108,12 +117,12 @@ pub fn name_of(status: u32) -> String {
     let name = match status {
         0 => "Done".to_owned(),
         sys::BAD_ITEM => "BadItem".to_owned(),
-        sys::STORE_TRAPPED => "StoreTrapped".to_owned(),
         sys::OUT_OF_MEMORY => "OutOfMemory".to_owned(),
         sys::UNKNOWN_PAYLOAD => "UnknownPayload".to_owned(),
         sys::UNKNOWN_STREAM => "UnknownStream".to_owned(),
         sys::NO_STORE => "NoStore".to_owned(),
         sys::GUEST_LIMIT => "GuestLimit".to_owned(),
+        sys::NO_BAD_ITEM => "NoBadItem".to_owned(),
         number => match sys::REFUSALS.get(number as usize - 1) {
             Some(refusal) => format!("{refusal:?}"),
             None => return number.to_string(),

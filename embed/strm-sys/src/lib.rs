@@ -33,6 +33,18 @@ pub struct Count {
     pub high: u64,
 }
 
+/// An item that is no Unicode scalar value: who writes it, and which of its write's items it is.
+#[repr(C)]
+#[derive(Clone, Copy, Debug, Default, PartialEq, Eq)]
+pub struct BadItem {
+    /// The guest that has the write end.
+    pub guest: u32,
+    /// Its handle of that end.
+    pub handle: u32,
+    /// The item's place among all items of the write, from 0.
+    pub index: u32,
+}
+
 /// A member of a set and what it was told: its handle, and a code, or STRM_NO_EVENT.
 #[repr(C)]
 #[derive(Clone, Copy, Debug, Default, PartialEq, Eq)]
@@ -243,11 +255,8 @@ pub const TEXTS: [&str; 30] = [
     "the message is longer than 4,096 bytes",
 ];
 
-/// An item is no Unicode scalar value. The store is trapped from now on.
+/// An item that was to move is no Unicode scalar value. strm_find_bad_item tells which, and who writes it.
 pub const BAD_ITEM: u32 = 64;
-
-/// An earlier call trapped the store.
-pub const STORE_TRAPPED: u32 = 65;
 
 /// An allocation was refused, and nothing has changed.
 pub const OUT_OF_MEMORY: u32 = 66;
@@ -263,6 +272,9 @@ pub const NO_STORE: u32 = 69;
 
 /// A guest that is there would get more than its limits allow. It is told before any refusal.
 pub const GUEST_LIMIT: u32 = 72;
+
+/// A read or write with these arguments stops at no item.
+pub const NO_BAD_ITEM: u32 = 73;
 
 /// The handle is of an end of a stream or future.
 pub const KIND_END: u32 = 1;
@@ -304,31 +316,27 @@ unsafe extern "C" {
     pub fn strm_store_free(store: *mut StoreHandle);
     /// The number that the store was made with; 0 of {NULL}.
     pub fn strm_tag(store: *mut StoreHandle) -> u64;
-    /// Whether an earlier call trapped the store, which then answers STRM_STORE_TRAPPED to all that changes it;
-    /// not so of {NULL}.
-    pub fn strm_trapped(store: *mut StoreHandle) -> bool;
     /// The numbers that streams and futures got so far are below this; 0 of {NULL}. One is given again once both ends
     /// of its stream are gone, so it never passes a third of `places`: a store keeps room for no more streams than
     /// that, and no making is refused since streams were made and dropped before.
     pub fn strm_streams(store: *mut StoreHandle) -> u32;
-    /// Puts at `out` how many items were received so far on the stream that got this number last; also of a store
-    /// that was trapped. UNKNOWN_STREAM where none got it.
+    /// Puts at `out` how many items were received so far on the stream that got this number last. UNKNOWN_STREAM
+    /// where none got it.
     pub fn strm_moved(store: *mut StoreHandle, stream: u32, out: &mut Count) -> u32;
-    /// Puts at `out` the type of the stream that has this number, while an end of it is there; also of a store that
-    /// was trapped. UNKNOWN_STREAM of any other.
+    /// Puts at `out` the type of the stream that has this number, while an end of it is there. UNKNOWN_STREAM of any
+    /// other.
     pub fn strm_transmit_index(store: *mut StoreHandle, stream: u32, out: &mut u64) -> u32;
     /// Adds a guest with a memory of `size` zero bytes, and puts its number at `out`; the first is 0. Refused:
     /// MemoryTooBig (268,435,456 bytes of all guests together), Full (1,048,576 guests). OUT_OF_MEMORY.
     pub fn strm_add_guest(store: *mut StoreHandle, size: u32, out: &mut u32) -> u32;
     /// Copies `len` bytes into a guest's memory, from `address` on. Refused: UnknownGuest, OutOfBounds.
     pub fn strm_memory_write(store: *mut StoreHandle, guest: u32, address: u32, bytes: *const u8, len: usize) -> u32;
-    /// Copies `len` bytes of a guest's memory out, from `address` on; also of a store that was trapped. Refused:
-    /// UnknownGuest, OutOfBounds.
+    /// Copies `len` bytes of a guest's memory out, from `address` on. Refused: UnknownGuest, OutOfBounds.
     pub fn strm_memory_read(store: *mut StoreHandle, guest: u32, address: u32, out: *mut u8, len: usize) -> u32;
     /// Puts at `out` where a guest's memory lies, and at `len` how many bytes it has; of no bytes `out` is an
     /// address that may not be read. They lie there until the store is given up, from the beginning of a block of
     /// malloc's on, at a multiple of 16. The caller may read and write them between calls, and must not during one.
-    /// Also of a store that was trapped. Refused: UnknownGuest.
+    /// Refused: UnknownGuest.
     pub fn strm_memory_at(store: *mut StoreHandle, guest: u32, out: &mut *mut u8, len: &mut usize) -> u32;
     /// Makes a stream whose two ends the guest gets, and puts their handles and the stream's number at `out`,
     /// which may be that of a stream both of whose ends are gone. `canon stream.new`. Refused: UnknownGuest,
@@ -383,6 +391,12 @@ unsafe extern "C" {
     /// Drops the read end. `canon future.drop-readable`. Refused: UnknownGuest, UnknownHandle, WrongKind,
     /// WrongType, WrongEnd, Busy. UNKNOWN_PAYLOAD.
     pub fn strm_future_drop_readable(store: *mut StoreHandle, guest: u32, payload: u64, handle: u32) -> u32;
+    /// Puts the item at `out` at which a read (`side` is STRM_SIDE_READING) or a write (any other `side`) with
+    /// these arguments stops: the guest that writes it, its handle of the write end, and the item's place among
+    /// all items of that write, from 0. It is asked after a call that answered BAD_ITEM, with that call's
+    /// arguments; of a future `count` is not looked at. NO_BAD_ITEM where that call would not stop at one.
+    /// UNKNOWN_PAYLOAD.
+    pub fn strm_find_bad_item(store: *mut StoreHandle, side: u32, guest: u32, ty: u64, handle: u32, address: u32, count: u32, out: &mut BadItem) -> u32;
     /// Makes a stream or future from one guest to another, which may be the same, and puts the handles of its
     /// ends and its number at `out`, as strm_stream_new does. Refused: UnknownGuest, IndexOverflow, HandleLimit,
     /// Full. GUEST_LIMIT, OUT_OF_MEMORY, UNKNOWN_PAYLOAD.
@@ -437,20 +451,19 @@ unsafe extern "C" {
     /// Refused: UnknownGuest, UnknownHandle, WrongKind.
     pub fn strm_error_context_drop(store: *mut StoreHandle, guest: u32, handle: u32) -> u32;
     /// Puts at `out` what a handle of a guest is of, and of an end all that a runtime asks of it. Nothing is
-    /// taken of what it is to be told; also of a store that was trapped. Refused: UnknownGuest, UnknownHandle.
+    /// taken of what it is to be told. Refused: UnknownGuest, UnknownHandle.
     pub fn strm_handle_info(store: *mut StoreHandle, guest: u32, handle: u32, out: &mut Handle) -> u32;
     /// Puts at `out` the least handle of a guest above `after`, and what it is of, as strm_handle_info does; where
-    /// no handle is above it, its number and kind are 0. From 0 on, and then from each handle, it tells all of
-    /// them, and goes over the guest's table once; also of a store that was trapped. Refused: UnknownGuest.
+    /// no handle is above it, its number and kind are 0. From 0 on, and then from each handle, it tells all of them,
+    /// and goes over the guest's table once. Refused: UnknownGuest.
     pub fn strm_next_handle(store: *mut StoreHandle, guest: u32, after: u32, out: &mut Handle) -> u32;
-    /// Puts at `out` how many handles a guest has, and looks at none of them; also of a store that was trapped.
-    /// Refused: UnknownGuest.
+    /// Puts at `out` how many handles a guest has, and looks at none of them. Refused: UnknownGuest.
     pub fn strm_handle_count(store: *mut StoreHandle, guest: u32, out: &mut u32) -> u32;
     /// Sets how much a guest may have at once: handles of whatever kind, ends of streams and futures among them, and
     /// bytes that the store keeps for it, 4,096 for each handle of an error context. What it has stays, also where
-    /// that is more; it only gets no more of it. Also of a store that was trapped. It takes 16 bytes for each guest up
-    /// to this one. Refused: UnknownGuest. OUT_OF_MEMORY.
+    /// that is more; it only gets no more of it. It takes 16 bytes for each guest up to this one. Refused:
+    /// UnknownGuest. OUT_OF_MEMORY.
     pub fn strm_set_guest_limits(store: *mut StoreHandle, guest: u32, handles: u32, ends: u32, bytes: u64) -> u32;
-    /// Puts at `out` how much a guest may have at once; also of a store that was trapped. Refused: UnknownGuest.
+    /// Puts at `out` how much a guest may have at once. Refused: UnknownGuest.
     pub fn strm_guest_limits(store: *mut StoreHandle, guest: u32, out: &mut Limits) -> u32;
 }

@@ -1,8 +1,26 @@
 //! Why a call did not answer.
 
-use crate::{Code, Refusal};
+use crate::{Code, Guest, Handle, Refusal};
 use core::fmt;
 use strm_sys as sys;
+
+/// An item that is no Unicode scalar value, and who writes it.
+///
+/// ```
+/// use strm::{BadItem, Guest, Handle};
+///
+/// let item = BadItem { guest: Guest(0), handle: Handle(3), index: 2 };
+/// assert_eq!(item.to_string(), "item 2 of what guest 0 writes by handle 3 is no Unicode scalar value");
+/// ```
+#[derive(Clone, Copy, Debug, PartialEq, Eq, Hash)]
+pub struct BadItem {
+    /// The guest that has the write end.
+    pub guest: Guest,
+    /// Its handle of that end.
+    pub handle: Handle,
+    /// The item's place among all items of the write, from 0, those that moved before among them.
+    pub index: u32,
+}
 
 /// Why a call did not answer.
 ///
@@ -21,10 +39,10 @@ use strm_sys as sys;
 pub enum Error {
     /// It may not be done now. Nothing has changed.
     Refused(Refusal),
-    /// An item is no Unicode scalar value. Nothing was moved, and the store is trapped from now on.
-    BadItem,
-    /// An earlier call trapped the store. Nothing has changed.
-    StoreTrapped,
+    /// An item that was to move is no Unicode scalar value. Nothing has changed: the embedder ends the guest that
+    /// writes it ([`Store::end_guest`](crate::Store::end_guest)), all others go on, and until then the same call
+    /// answers the same.
+    BadItem(BadItem),
     /// An allocation was refused. Nothing has changed.
     OutOfMemory,
     /// A guest would get more than its limits allow, which is told before any refusal. Nothing has changed.
@@ -39,12 +57,21 @@ pub enum Error {
     NotAnItem,
 }
 
+impl fmt::Display for BadItem {
+    fn fmt(&self, f: &mut fmt::Formatter<'_>) -> fmt::Result {
+        let BadItem { guest, handle, index } = self;
+        write!(
+            f,
+            "item {index} of what {guest} writes by {handle} is no Unicode scalar value"
+        )
+    }
+}
+
 impl fmt::Display for Error {
     fn fmt(&self, f: &mut fmt::Formatter<'_>) -> fmt::Result {
         f.write_str(match self {
             Error::Refused(refusal) => return write!(f, "refused: {refusal}"),
-            Error::BadItem => "an item is no Unicode scalar value, and the store is trapped",
-            Error::StoreTrapped => "the store was trapped",
+            Error::BadItem(item) => return item.fmt(f),
             Error::OutOfMemory => "out of memory",
             Error::GuestLimit => "the guest's limit would be passed",
             Error::SameGuest => "the two guests are one",
@@ -102,11 +129,23 @@ pub(crate) fn code(call: impl FnOnce(&mut u32) -> u32) -> Result<Code, Error> {
     wrote(call).map(Code::of)
 }
 
+// The code of a read or write. Where it stops at an item, the other call tells which: the store is as it was.
+#[inline(always)]
+pub(crate) fn operated(
+    call: impl FnOnce(&mut u32) -> u32,
+    find: impl FnOnce() -> BadItem,
+) -> Result<Code, Error> {
+    let mut word = 0;
+    match call(&mut word) {
+        0 => Ok(Code::of(word)),
+        sys::BAD_ITEM => Err(Error::BadItem(find())),
+        status => Err(error(status)),
+    }
+}
+
 #[cold]
 fn error(status: u32) -> Error {
     match status {
-        sys::BAD_ITEM => Error::BadItem,
-        sys::STORE_TRAPPED => Error::StoreTrapped,
         sys::OUT_OF_MEMORY => Error::OutOfMemory,
         sys::GUEST_LIMIT => Error::GuestLimit,
         number => Error::Refused(sys::REFUSALS[number as usize - 1]),

@@ -81,7 +81,7 @@ pub use ends::{
     End, EndError, FutureReader, FutureWriter, Kind, ReadFuture, ReadStream, StreamReader, StreamWriter,
     WriteFuture, WriteStream,
 };
-pub use errors::Error;
+pub use errors::{BadItem, Error};
 pub use item::{Field, Item};
 pub use numbers::{ErrorContext, ErrorContextId, Guest, Handle, Member, Pair, StreamId, WaitableSet};
 pub use owned::{Owned, Receiver, Sender, ValueReceiver, ValueSender, future, stream};

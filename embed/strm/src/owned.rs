@@ -21,8 +21,11 @@ pub use streams::stream;
 /// has under way and drops the end.
 ///
 /// - A call that waits keeps its task's waker with the store. It is woken by the call on the other end that gives
-///   this one something to be told, whoever makes that call and by which names; by a call that takes what is waited
-///   for; and where the store is trapped. It is not woken else, and no other task is.
+///   this one something to be told, whoever makes that call and by which names; and by a call that takes what is
+///   waited for. It is not woken else, and no other task is.
+/// - A call that meets a bad item answers [`Error::BadItem`], with nothing moved, and waits no more; a write that waits
+///   goes on waiting where a read met its bad item. What is left is to end the guest that the error names, by
+///   [`Store::end_guest`](crate::Store::end_guest).
 /// - A call whose future is dropped is cancelled. What moved before stays moved: items that were received then are
 ///   handed out next, and [`Owned::given_up`] has the code.
 /// - Whole items, as `recv` and `send` have them, lie in a room of the end's own in its guest's memory meanwhile: see
@@ -292,7 +295,8 @@ impl<K: Kind, T: Item, S: Share> Owned<K, T, S> {
     ///
     /// # Errors
     ///
-    /// [`Error::StoreTrapped`]. Refused where another took the end away, or it can't write its last value.
+    /// Refused where another took the end away, or it can't write its last value. [`Error::BadItem`] where another wrote
+    /// over that value.
     ///
     /// ```
     /// # let (store, a, b) = strm::example_shared()?;
@@ -451,7 +455,7 @@ impl<K: Kind, T: Item, S: Share> Owned<K, T, S> {
 impl<K: Kind, T: Item, S: Share> Drop for Owned<K, T, S> {
     fn drop(&mut self) {
         if self.is_owner {
-            // Nobody is there to be told of a trapped store.
+            // Nobody is there to be told of a refusal.
             let _ = self.release();
         }
     }

@@ -65,8 +65,8 @@ impl fmt::Display for Limits {
 /// [`Share`](crate::Share) says how several share one.
 ///
 /// A call is refused for the first reason that holds, in the order that its `# Errors` has, and a refused call
-/// changes nothing. Before each of them comes [`Error::StoreTrapped`], of each call that changes a store which a bad
-/// item trapped.
+/// changes nothing. Nothing that a guest does stops the calls of another: a bad item stops its writer alone, which
+/// [`Error::BadItem`] names.
 pub struct Store {
     raw: Raw,
     pub(crate) waits: Waits,
@@ -145,23 +145,6 @@ impl Store {
     pub fn tag(&self) -> u64 {
         // SAFETY: above.
         unsafe { sys::strm_tag(self.at()) }
-    }
-
-    /// Whether a bad item trapped the store.
-    ///
-    /// ```
-    /// # use strm::{Code, Error, Payload, Type};
-    /// # let (mut store, writer, reader, _) = strm::example()?;
-    /// let pair = store.new_between(writer, reader, Type::Stream(Payload::CHAR))?;
-    /// store.memory_write(writer, 0, &0xd800u32.to_le_bytes())?;
-    /// let _ = store.stream_write(writer, Payload::CHAR, pair.write, 0, 1)?;
-    /// assert_eq!(store.stream_read(reader, Payload::CHAR, pair.read, 0, 1), Err(Error::BadItem));
-    /// assert!(store.trapped());
-    /// # Ok::<(), Error>(())
-    /// ```
-    pub fn trapped(&self) -> bool {
-        // SAFETY: above.
-        unsafe { sys::strm_trapped(self.at()) }
     }
 
     /// The numbers that streams and futures got so far are below this. One is given again once both ends of its

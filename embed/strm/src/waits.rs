@@ -104,15 +104,6 @@ impl Waits {
         last
     }
 
-    /// All tasks are woken: the store was trapped, and nothing will be told any more.
-    pub fn wake_all(&mut self) {
-        for (_, waiter) in mem::take(&mut self.waiters) {
-            if let Waiter::Task(waker) = waiter {
-                self.released.woken.extend(waker);
-            }
-        }
-    }
-
     /// From now on wakers are left to who asks for them with [`Waits::released`], or used by each call again.
     pub fn defer(&mut self, is_deferred: bool) {
         self.is_deferred = is_deferred;

@@ -1,8 +1,8 @@
 //! What the examples of the calls do not show: many calls, threads, tuples, and each kind of error.
 
 use strm::{
-    Code, EndInfo, Error, Guest, Handle, HandleInfo, Limits, OtherEnd, Pair, Payload, Refusal, Scalar, Side,
-    Store, StreamId, Type,
+    BadItem, Code, EndInfo, Error, Guest, Handle, HandleInfo, Limits, OtherEnd, Pair, Payload, Refusal,
+    Scalar, Side, Store, StreamId, Type,
 };
 
 const BYTES: Type = Type::Stream(Payload::U8);
@@ -73,24 +73,56 @@ fn each_tuple_is_a_type_of_its_own() {
 }
 
 #[test]
-fn a_bad_item_traps_the_store() {
-    let (mut store, writer, reader, _) = two();
+fn a_bad_item_stops_its_writer_alone() {
+    let (mut store, writer, reader, bytes) = two();
     let pair = store
         .new_between(writer, reader, Type::Stream(Payload::CHAR))
         .unwrap();
-    store.memory_mut(writer).unwrap()[..4].copy_from_slice(&0xd800u32.to_le_bytes());
+    let chars = ['a' as u32, 'b' as u32, 0xd800, 'c' as u32].map(u32::to_le_bytes);
+    store.memory_mut(writer).unwrap()[..16].copy_from_slice(chars.as_flattened());
     assert_eq!(
-        store.stream_write(writer, Payload::CHAR, pair.write, 0, 1),
+        store.stream_write(writer, Payload::CHAR, pair.write, 0, 4),
         Ok(Code::Blocked)
     );
     assert_eq!(
         store.stream_read(reader, Payload::CHAR, pair.read, 0, 1),
-        Err(Error::BadItem)
+        Ok(Code::Completed(1))
     );
-    assert_eq!(store.add_guest(1), Err(Error::StoreTrapped));
-    assert_eq!(store.memory(writer).unwrap()[..2], [0, 0xd8]);
-    assert_eq!(end(&store, writer, pair.write).stream, pair.stream);
-    assert_eq!(store.handle_count(writer), Ok(2));
+    // The place is among all items of the write, and until it is cancelled the answer is the same.
+    let item = BadItem {
+        guest: writer,
+        handle: pair.write,
+        index: 2,
+    };
+    for _ in 0..2 {
+        assert_eq!(
+            store.stream_read(reader, Payload::CHAR, pair.read, 4, 3),
+            Err(Error::BadItem(item))
+        );
+        assert_eq!(store.moved(pair.stream), Some(1));
+    }
+    assert_eq!(
+        store.stream_read(reader, Payload::CHAR, pair.read, 4, 1),
+        Ok(Code::Completed(1))
+    );
+    assert_eq!(
+        store.stream_write(writer, Payload::U8, bytes.write, 0, 1),
+        Ok(Code::Blocked)
+    );
+    assert_eq!(
+        store.stream_cancel_write(writer, Payload::CHAR, pair.write),
+        Ok(Code::Cancelled(2))
+    );
+    assert_eq!(
+        store.stream_read(reader, Payload::CHAR, pair.read, 8, 1),
+        Ok(Code::Blocked)
+    );
+    // The writer is told of its own items too.
+    let item = BadItem { index: 0, ..item };
+    assert_eq!(
+        store.stream_write(writer, Payload::CHAR, pair.write, 8, 1),
+        Err(Error::BadItem(item))
+    );
 }
 
 #[test]

@@ -8,7 +8,7 @@ use std::pin::Pin;
 use std::rc::Rc;
 use std::sync::{Arc, Mutex};
 use std::task::{Context, Poll, Wake, Waker};
-use strm::{Code, Error, Guest, Item, Payload, Receiver, Refusal, Sender, Share};
+use strm::{BadItem, Code, Error, Guest, Item, Payload, Receiver, Refusal, Sender, Share};
 use tasks::{Draws, Shared, Tasks, handles, hosts, step, within};
 
 fn poll_once<R>(call: impl Future<Output = R>) -> Poll<R> {
@@ -66,6 +66,44 @@ fn a_forgotten_read_is_given_up_by_the_next() {
     assert_eq!(receiver.given_up(), Some(Code::Cancelled(0)));
     assert!(poll_once(sender.send(8)).is_pending());
     assert!(poll_once(receiver.recv()).is_pending()); // the send was given up, too
+}
+
+#[test]
+fn a_bad_item_stops_the_calls_that_meet_it_alone() {
+    let (store, [a, b]) = hosts();
+    let (sender, mut receiver) = strm::stream::<char, _>(&store, a, b, 4).unwrap();
+    let (mut other, mut beside) = strm::stream::<char, _>(&store, a, b, 1).unwrap();
+    let (guest, handle) = sender.into_end().into_raw();
+    let item = BadItem {
+        guest,
+        handle,
+        index: 1,
+    };
+    store.with(|store| {
+        store.put_items(a, 4096, &[0x41u32, 0xd800]).unwrap();
+        assert_eq!(
+            store.stream_write(a, Payload::CHAR, handle, 4096, 2),
+            Ok(Code::Blocked)
+        );
+    });
+    for _ in 0..2 {
+        assert_eq!(ready(receiver.recv()), Err(Error::BadItem(item)));
+        assert_eq!(receiver.given_up(), None);
+    }
+    // What comes before the item is there, and other streams go on.
+    assert_eq!(ready(receiver.read(4096, 1)), Ok(Code::Completed(1)));
+    let mut recv = std::pin::pin!(beside.recv());
+    assert!(
+        recv.as_mut()
+            .poll(&mut Context::from_waker(Waker::noop()))
+            .is_pending()
+    );
+    assert_eq!(ready(other.send('x')), Ok(()));
+    assert_eq!(ready(recv), Ok(Some('x')));
+    assert_eq!(ready(receiver.recv()), Err(Error::BadItem(item)));
+    // Once the writer is ended, the reader is told so.
+    assert_eq!(store.with(|store| store.end_guest(item.guest)), Ok(0));
+    assert_eq!(ready(receiver.recv()), Ok(None));
 }
 
 // One end sends numbers, the other receives them, and both are given up and moved as is drawn.

@@ -5,7 +5,7 @@ mod tasks;
 use std::sync::Arc;
 use std::sync::atomic::{AtomicUsize, Ordering::Relaxed};
 use std::task::{Context, Wake, Waker};
-use strm::{Code, Error, Guest, Payload, Receiver, Refusal, Sender, Share, Type};
+use strm::{BadItem, Code, Error, Guest, Payload, Receiver, Refusal, Sender, Share, Type};
 use tasks::{Shared, Tasks, handles, hosts};
 
 type Bytes = (Sender<u8, Shared>, Receiver<u8, Shared>);
@@ -85,8 +85,8 @@ fn by_a_guest_that_ends_with_the_end_that_waits() {
 }
 
 #[test]
-fn by_a_trapped_store() {
-    is_woken_by(Err(Error::StoreTrapped), |store, [writer, reader, _], _sender| {
+fn by_the_end_of_a_guest_that_writes_a_bad_item() {
+    is_woken_by(Ok(None), |store, [writer, reader, _], _sender| {
         store.with(|store| {
             let pair = store
                 .new_between(writer, reader, Type::Stream(Payload::CHAR))
@@ -94,7 +94,13 @@ fn by_a_trapped_store() {
             store.put_items(writer, 0, &[0xd800u32]).unwrap();
             let _ = store.stream_write(writer, Payload::CHAR, pair.write, 0, 1);
             let code = store.stream_read(reader, Payload::CHAR, pair.read, 0, 1);
-            assert_eq!(code, Err(Error::BadItem));
+            let item = BadItem {
+                guest: writer,
+                handle: pair.write,
+                index: 0,
+            };
+            assert_eq!(code, Err(Error::BadItem(item)));
+            assert_eq!(store.end_guest(item.guest), Ok(0));
         });
     });
 }

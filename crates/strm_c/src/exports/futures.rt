@@ -12,12 +12,12 @@ ghost use Rattle.strm_guest_store.specs.declared.guest_limits.Gain.TheVariants.{
 ghost use Rattle.strm_c.specs.Limits.{WithinLimits, is_past_of};
 ghost use Rattle.strm_c.specs.Making.{AnswersMaking};
 ghost use Rattle.strm_c.specs.Payloads.{payload_at};
-ghost use Rattle.strm_c.specs.Statuses.{AnswersOf};
+ghost use Rattle.strm_c.specs.Statuses.{spared, AnswersOf};
 
 use crate::exports::pairs::{StrmPair, pair};
 use crate::handles::StoreHandle;
 use crate::payloads::payload_at;
-use crate::statuses::{GUEST_LIMIT, NO_STORE, Status, UNKNOWN_PAYLOAD, code, done};
+use crate::statuses::{GUEST_LIMIT, NO_STORE, Status, UNKNOWN_PAYLOAD, code, done, operated};
 
 /// Makes a future whose two ends the guest gets, and puts their handles and the future's number at `out`,
 /// as strm_stream_new does. `canon future.new`. Refused: UnknownGuest, IndexOverflow, HandleLimit, Full.
@@ -53,6 +53,7 @@ pub extern "C" fn strm_future_new(
 /// Writes the value that lies at `address` of the guest's memory, and puts the code at `out`.
 /// `canon future.write`. Refused: UnknownGuest, OutOfBounds, NotAligned, UnknownHandle, WrongKind, WrongType,
 /// ConcurrentFutureStreamOp, WriteToDroppedFuture, IntraComponent. BAD_ITEM, UNKNOWN_PAYLOAD.
+#[tactic(auto, using(crate::proofs::OperateLemmas::is_operated))]
 #[unsafe(no_mangle)]
 pub extern "C" fn strm_future_write(
     store: &mut StoreHandle,
@@ -63,7 +64,8 @@ pub extern "C" fn strm_future_write(
     out: &mut u32,
 ) -> Status
     ensures answers { AnswersOf store.old.state (payload_at payload)
-        (λ s payload. react s (steps.Write guest (index.Future payload) handle address 1))
+        (λ s payload. spared s (react s
+        (steps.Write guest (index.Future payload) handle address 1)))
         result out.old out.new store.new.state }
     ensures limits { store.new.limits ≡ store.old.limits }
 {
@@ -73,12 +75,13 @@ pub extern "C" fn strm_future_write(
     let Some(payload) = payload_at(payload) else {
         return UNKNOWN_PAYLOAD;
     };
-    code(store.future_write(guest, payload, handle, address), out)
+    operated(store.future_write(guest, payload, handle, address), out)
 }
 
 /// Reads the value to `address` of the guest's memory, and puts the code at `out`. `canon future.read`.
 /// Refused: UnknownGuest, OutOfBounds, NotAligned, UnknownHandle, WrongKind, WrongType,
 /// ConcurrentFutureStreamOp, FutureAlreadyRead, IntraComponent. BAD_ITEM, UNKNOWN_PAYLOAD.
+#[tactic(auto, using(crate::proofs::OperateLemmas::is_operated))]
 #[unsafe(no_mangle)]
 pub extern "C" fn strm_future_read(
     store: &mut StoreHandle,
@@ -89,7 +92,8 @@ pub extern "C" fn strm_future_read(
     out: &mut u32,
 ) -> Status
     ensures answers { AnswersOf store.old.state (payload_at payload)
-        (λ s payload. react s (steps.Read guest (index.Future payload) handle address 1))
+        (λ s payload. spared s (react s
+        (steps.Read guest (index.Future payload) handle address 1)))
         result out.old out.new store.new.state }
     ensures limits { store.new.limits ≡ store.old.limits }
 {
@@ -99,7 +103,7 @@ pub extern "C" fn strm_future_read(
     let Some(payload) = payload_at(payload) else {
         return UNKNOWN_PAYLOAD;
     };
-    code(store.future_read(guest, payload, handle, address), out)
+    operated(store.future_read(guest, payload, handle, address), out)
 }
 
 /// Cancels the write that waits, and puts the code at `out`. `canon future.cancel-write`. Refused: UnknownGuest,

@@ -28,8 +28,8 @@ pub struct StrmLimits {
 
 /// Sets how much a guest may have at once: handles of whatever kind, ends of streams and futures among them, and
 /// bytes that the store keeps for it, 4,096 for each handle of an error context. What it has stays, also where
-/// that is more; it only gets no more of it. Also of a store that was trapped. It takes 16 bytes for each guest up
-/// to this one. Refused: UnknownGuest. OUT_OF_MEMORY.
+/// that is more; it only gets no more of it. It takes 16 bytes for each guest up to this one. Refused:
+/// UnknownGuest. OUT_OF_MEMORY.
 #[unsafe(no_mangle)]
 pub extern "C" fn strm_set_guest_limits(
     store: &mut StoreHandle,
@@ -60,7 +60,7 @@ pub extern "C" fn strm_set_guest_limits(
     done(store.set_guest_limits(guest, limits))
 }
 
-/// Puts at `out` how much a guest may have at once; also of a store that was trapped. Refused: UnknownGuest.
+/// Puts at `out` how much a guest may have at once. Refused: UnknownGuest.
 #[unsafe(no_mangle)]
 pub extern "C" fn strm_guest_limits(
     store: &mut StoreHandle,

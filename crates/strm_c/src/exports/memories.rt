@@ -47,8 +47,7 @@ pub extern "C" fn strm_memory_write(
     done(store.write_memory(guest, address, bytes))
 }
 
-/// Copies `len` bytes of a guest's memory out, from `address` on; also of a store that was trapped. Refused:
-/// UnknownGuest, OutOfBounds.
+/// Copies `len` bytes of a guest's memory out, from `address` on. Refused: UnknownGuest, OutOfBounds.
 #[unsafe(no_mangle)]
 pub extern "C" fn strm_memory_read(
     store: &mut StoreHandle,
@@ -106,7 +105,7 @@ fn tell(store: &mut GuestStore, guest: u32, out: &mut *const u8, len: &mut usize
 /// Puts at `out` where a guest's memory lies, and at `len` how many bytes it has; of no bytes `out` is an
 /// address that may not be read. They lie there until the store is given up, from the beginning of a block of
 /// malloc's on, at a multiple of 16. The caller may read and write them between calls, and must not during one.
-/// Also of a store that was trapped. Refused: UnknownGuest.
+/// Refused: UnknownGuest.
 #[unsafe(no_mangle)]
 pub extern "C" fn strm_memory_at(
     store: &mut StoreHandle,

@@ -70,7 +70,7 @@ pub struct StrmHandle {
 }
 
 /// Puts at `out` what a handle of a guest is of, and of an end all that a runtime asks of it. Nothing is
-/// taken of what it is to be told; also of a store that was trapped. Refused: UnknownGuest, UnknownHandle.
+/// taken of what it is to be told. Refused: UnknownGuest, UnknownHandle.
 #[unsafe(no_mangle)]
 pub extern "C" fn strm_handle_info(
     store: &mut StoreHandle,
@@ -93,8 +93,8 @@ pub extern "C" fn strm_handle_info(
 }
 
 /// Puts at `out` the least handle of a guest above `after`, and what it is of, as strm_handle_info does; where
-/// no handle is above it, its number and kind are 0. From 0 on, and then from each handle, it tells all of
-/// them, and goes over the guest's table once; also of a store that was trapped. Refused: UnknownGuest.
+/// no handle is above it, its number and kind are 0. From 0 on, and then from each handle, it tells all of them,
+/// and goes over the guest's table once. Refused: UnknownGuest.
 #[unsafe(no_mangle)]
 pub extern "C" fn strm_next_handle(
     store: &mut StoreHandle,
@@ -116,8 +116,7 @@ pub extern "C" fn strm_next_handle(
     next(store.next_handle(guest, after), out)
 }
 
-/// Puts at `out` how many handles a guest has, and looks at none of them; also of a store that was trapped.
-/// Refused: UnknownGuest.
+/// Puts at `out` how many handles a guest has, and looks at none of them. Refused: UnknownGuest.
 #[unsafe(no_mangle)]
 pub extern "C" fn strm_handle_count(store: &mut StoreHandle, guest: u32, out: &mut u32) -> Status
     ensures status { IfSome store.old.state (λ s. result ≡ found_status (count_answer s guest)) }

@@ -2,7 +2,7 @@
 //!
 //! Source: wasmtime, `ConcurrentState`.
 
-ghost use Rattle.std.specs.Prelude.{◌≡◌, ◌≢◌, ◌*◌, ◌<◌, ◌↔◌, ◌≤◌, false, [], Some, None, IfSome, IsTrue, length};
+ghost use Rattle.std.specs.Prelude.{◌≡◌, ◌≢◌, ◌*◌, ◌<◌, ◌↔◌, ◌≤◌, [], Some, None, IfSome, IsTrue, length};
 ghost use Rattle.strm_codes.specs.Types.{kind_of, payload_of};
 ghost use Rattle.strm_machine.specs.State.{empty, is_live, stream_at};
 ghost use Rattle.strm_machine.specs.Soundness.{type_of};
@@ -70,21 +70,6 @@ pub extern "C" fn strm_tag(store: &mut StoreHandle) -> u64
     store.tag()
 }
 
-/// Whether an earlier call trapped the store, which then answers STRM_STORE_TRAPPED to all that changes it;
-/// not so of {NULL}.
-#[unsafe(no_mangle)]
-pub extern "C" fn strm_trapped(store: &mut StoreHandle) -> bool
-    ensures trapped { IfSome store.old.state (λ s. result ≡ s.trapped) }
-    ensures none { store.old.state ≡ None → result ≡ false }
-    ensures same { store.new.state ≡ store.old.state }
-    ensures limits { store.new.limits ≡ store.old.limits }
-{
-    let Some(store) = store.get_mut() else {
-        return false;
-    };
-    store.trapped()
-}
-
 /// The numbers that streams and futures got so far are below this; 0 of {NULL}. One is given again once both ends
 /// of its stream are gone, so it never passes a third of `places`: a store keeps room for no more streams than
 /// that, and no making is refused since streams were made and dropped before.
@@ -110,8 +95,8 @@ pub struct StrmCount {
     pub high: u64,
 }
 
-/// Puts at `out` how many items were received so far on the stream that got this number last; also of a store
-/// that was trapped. UNKNOWN_STREAM where none got it.
+/// Puts at `out` how many items were received so far on the stream that got this number last. UNKNOWN_STREAM
+/// where none got it.
 #[unsafe(no_mangle)]
 pub extern "C" fn strm_moved(store: &mut StoreHandle, stream: u32, out: &mut StrmCount) -> Status
     ensures made { IfSome store.old.state (λ s. result ≡ 0 ↔ (stream < length s.streams)) }
@@ -130,8 +115,8 @@ pub extern "C" fn strm_moved(store: &mut StoreHandle, stream: u32, out: &mut Str
     count(store.moved(stream), out)
 }
 
-/// Puts at `out` the type of the stream that has this number, while an end of it is there; also of a store that
-/// was trapped. UNKNOWN_STREAM of any other.
+/// Puts at `out` the type of the stream that has this number, while an end of it is there. UNKNOWN_STREAM of any
+/// other.
 #[unsafe(no_mangle)]
 pub extern "C" fn strm_transmit_index(store: &mut StoreHandle, stream: u32, out: &mut u64) -> Status
     ensures live { IfSome store.old.state

@@ -12,12 +12,14 @@ ghost use Rattle.strm_guest_store.specs.declared.guest_limits.Gain.TheVariants.{
 ghost use Rattle.strm_c.specs.Limits.{WithinLimits, is_past_of};
 ghost use Rattle.strm_c.specs.Making.{AnswersMaking};
 ghost use Rattle.strm_c.specs.Payloads.{payload_at};
-ghost use Rattle.strm_c.specs.Statuses.{AnswersCall, AnswersOf};
+ghost use Rattle.strm_c.specs.Statuses.{spared, AnswersCall, AnswersOf};
 
 use crate::exports::pairs::{StrmPair, pair};
 use crate::handles::StoreHandle;
 use crate::payloads::payload_at;
-use crate::statuses::{GUEST_LIMIT, NO_STORE, Status, UNKNOWN_PAYLOAD, code, done, event};
+use crate::statuses::{
+    GUEST_LIMIT, NO_STORE, Status, UNKNOWN_PAYLOAD, code, done, event, operated,
+};
 
 /// Makes a stream whose two ends the guest gets, and puts their handles and the stream's number at `out`,
 /// which may be that of a stream both of whose ends are gone. `canon stream.new`. Refused: UnknownGuest,
@@ -54,6 +56,7 @@ pub extern "C" fn strm_stream_new(
 /// write that waits (STRM_BLOCKED) leaves its items where they are until they move. `canon stream.write`.
 /// Refused: UnknownGuest, StreamOpTooBig, OutOfBounds, NotAligned, UnknownHandle, WrongKind, WrongType,
 /// ConcurrentFutureStreamOp, WriteToDroppedStream, IntraComponent. BAD_ITEM, UNKNOWN_PAYLOAD.
+#[tactic(auto, using(crate::proofs::OperateLemmas::is_operated))]
 #[unsafe(no_mangle)]
 pub extern "C" fn strm_stream_write(
     store: &mut StoreHandle,
@@ -65,7 +68,8 @@ pub extern "C" fn strm_stream_write(
     out: &mut u32,
 ) -> Status
     ensures answers { AnswersOf store.old.state (payload_at payload)
-        (λ s payload. react s (steps.Write guest (index.Stream payload) handle address count))
+        (λ s payload. spared s (react s
+        (steps.Write guest (index.Stream payload) handle address count)))
         result out.old out.new store.new.state }
     ensures limits { store.new.limits ≡ store.old.limits }
 {
@@ -75,7 +79,7 @@ pub extern "C" fn strm_stream_write(
     let Some(payload) = payload_at(payload) else {
         return UNKNOWN_PAYLOAD;
     };
-    code(
+    operated(
         store.stream_write(guest, payload, handle, address, count),
         out,
     )
@@ -85,6 +89,7 @@ pub extern "C" fn strm_stream_write(
 /// `canon stream.read`. Refused: UnknownGuest, StreamOpTooBig, OutOfBounds, NotAligned, UnknownHandle,
 /// WrongKind, WrongType, ConcurrentFutureStreamOp, ReadFromDroppedStream, IntraComponent. BAD_ITEM,
 /// UNKNOWN_PAYLOAD.
+#[tactic(auto, using(crate::proofs::OperateLemmas::is_operated))]
 #[unsafe(no_mangle)]
 pub extern "C" fn strm_stream_read(
     store: &mut StoreHandle,
@@ -96,7 +101,8 @@ pub extern "C" fn strm_stream_read(
     out: &mut u32,
 ) -> Status
     ensures answers { AnswersOf store.old.state (payload_at payload)
-        (λ s payload. react s (steps.Read guest (index.Stream payload) handle address count))
+        (λ s payload. spared s (react s
+        (steps.Read guest (index.Stream payload) handle address count)))
         result out.old out.new store.new.state }
     ensures limits { store.new.limits ≡ store.old.limits }
 {
@@ -106,7 +112,7 @@ pub extern "C" fn strm_stream_read(
     let Some(payload) = payload_at(payload) else {
         return UNKNOWN_PAYLOAD;
     };
-    code(
+    operated(
         store.stream_read(guest, payload, handle, address, count),
         out,
     )

@@ -10,8 +10,7 @@ use strm_codes::refusals::Refusal;
 use strm_transmit::GuestCounts;
 
 impl GuestStore {
-    /// How many handles a guest has, and of which kinds. It looks at none of them. A store that was trapped
-    /// answers too. Refused: UnknownGuest.
+    /// How many handles a guest has, and of which kinds. It looks at none of them. Refused: UnknownGuest.
     pub fn guest_counts(&self, guest: u32) -> Result<GuestCounts, Refusal>
         ensures exact { result ≡ counts_answer self.now guest }
     {

@@ -9,8 +9,10 @@ ghost use Rattle.strm_machine.specs.Reactions.{react};
 ghost use Rattle.strm_machine.specs.declared.replies.Reply.TheVariants as replies;
 ghost use Rattle.strm_machine.specs.declared.steps.Step.TheVariants as steps;
 ghost use Rattle.strm_transmit.specs.Meets.{Meets, as_reply};
+ghost use Rattle.strm_guest_store.specs.Operations.{MeetsOrTells};
 
 use crate::guest_store::{GuestStore, no_hosts};
+use crate::operations::OperateError;
 use strm_codes::codes::{ReturnCode, TransmitIndex};
 use strm_codes::payloads::Payload;
 use strm_machine::acts::NamedEnd;
@@ -26,15 +28,14 @@ impl GuestStore {
         payload: Payload,
         handle: u32,
         address: u32,
-    ) -> Result<ReturnCode, StoreError>
-        ensures meets { Meets self.old self.new (as_reply replies.Code result)
-            (react self.old (steps.Write guest (index.Future payload) handle address 1)) }
+    ) -> Result<ReturnCode, OperateError>
+        ensures meets { MeetsOrTells self.old self.new result
+            (steps.Write guest (index.Future payload) handle address 1) }
         ensures stays { BasesStay self.old.guests self.new.guests }
-        ensures takes_no_memory { result ≢ Err StoreError.OutOfMemory }
     {
         let ty = TransmitIndex::Future(payload);
         let end = NamedEnd { guest, ty, handle };
-        self.store.operate_alone(Side::Writing, &end, address, 1)
+        self.operate(Side::Writing, &end, address, 1)
     }
 
     /// Reads the value to an address of the guest's memory. `canon future.read`.
@@ -44,15 +45,14 @@ impl GuestStore {
         payload: Payload,
         handle: u32,
         address: u32,
-    ) -> Result<ReturnCode, StoreError>
-        ensures meets { Meets self.old self.new (as_reply replies.Code result)
-            (react self.old (steps.Read guest (index.Future payload) handle address 1)) }
+    ) -> Result<ReturnCode, OperateError>
+        ensures meets { MeetsOrTells self.old self.new result
+            (steps.Read guest (index.Future payload) handle address 1) }
         ensures stays { BasesStay self.old.guests self.new.guests }
-        ensures takes_no_memory { result ≢ Err StoreError.OutOfMemory }
     {
         let ty = TransmitIndex::Future(payload);
         let end = NamedEnd { guest, ty, handle };
-        self.store.operate_alone(Side::Reading, &end, address, 1)
+        self.operate(Side::Reading, &end, address, 1)
     }
 
     /// Cancels the write of a future. `canon future.cancel-write`.

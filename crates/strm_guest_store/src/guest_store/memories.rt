@@ -26,8 +26,8 @@ impl GuestStore {
         self.store.has_guest(guest)
     }
 
-    /// The bytes of a guest's memory, to read and write until the store is used again; also of a store that
-    /// was trapped. `has_guest` tells whether the guest is there.
+    /// The bytes of a guest's memory, to read and write until the store is used again. `has_guest` tells
+    /// whether the guest is there.
     pub fn memory_mut(&mut self, guest: u32) -> &mut [u8]
         requires { guest < length self.old.guests }
         ensures value { result.now ≡ memory_in self.old.guests guest }
@@ -37,9 +37,8 @@ impl GuestStore {
     }
 
     /// Where a guest's memory lies, which is told: from now on it lies there, through every call
-    /// (`stays`), until the store is given up; also of a store that was trapped. Of a
-    /// memory without bytes it is the address of nothing. `has_guest` tells whether the guest is there.
-    /// wasmtime, `VMMemoryDefinition::base`.
+    /// (`stays`), until the store is given up. Of a memory without bytes it is the address of nothing.
+    /// `has_guest` tells whether the guest is there. wasmtime, `VMMemoryDefinition::base`.
     pub fn memory_base(&mut self, guest: u32) -> *const u8
         requires { guest < length self.old.guests }
         ensures told { self.new ≡ with_base_in self.old guest result }
@@ -71,8 +70,7 @@ impl GuestStore {
         self.store.write_memory(guest, address, bytes)
     }
 
-    /// Bytes of a guest's memory from an address on, as many as there is room for. A store that was
-    /// trapped answers too.
+    /// Bytes of a guest's memory from an address on, as many as there is room for.
     pub fn read_memory(&self, guest: u32, address: u32, out: &mut [u8]) -> Result<(), Refusal>
         ensures exact { result
             ≡ or_found (first_of (bytes_reasons self.now guest address (length out.old))) tt }

@@ -9,8 +9,10 @@ ghost use Rattle.strm_machine.specs.Reactions.{react};
 ghost use Rattle.strm_machine.specs.declared.replies.Reply.TheVariants as replies;
 ghost use Rattle.strm_machine.specs.declared.steps.Step.TheVariants as steps;
 ghost use Rattle.strm_transmit.specs.Meets.{Meets, as_reply};
+ghost use Rattle.strm_guest_store.specs.Operations.{MeetsOrTells};
 
 use crate::guest_store::{GuestStore, no_hosts};
+use crate::operations::OperateError;
 use strm_codes::codes::{ReturnCode, TransmitIndex};
 use strm_codes::payloads::Payload;
 use strm_machine::acts::NamedEnd;
@@ -28,16 +30,14 @@ impl GuestStore {
         handle: u32,
         address: u32,
         count: u32,
-    ) -> Result<ReturnCode, StoreError>
-        ensures meets { Meets self.old self.new (as_reply replies.Code result)
-            (react self.old (steps.Write guest (index.Stream payload) handle address count)) }
+    ) -> Result<ReturnCode, OperateError>
+        ensures meets { MeetsOrTells self.old self.new result
+            (steps.Write guest (index.Stream payload) handle address count) }
         ensures stays { BasesStay self.old.guests self.new.guests }
-        ensures takes_no_memory { result ≢ Err StoreError.OutOfMemory }
     {
         let ty = TransmitIndex::Stream(payload);
         let end = NamedEnd { guest, ty, handle };
-        self.store
-            .operate_alone(Side::Writing, &end, address, count)
+        self.operate(Side::Writing, &end, address, count)
     }
 
     /// Reads items to an address of the guest's memory on. `canon stream.read`.
@@ -48,16 +48,14 @@ impl GuestStore {
         handle: u32,
         address: u32,
         count: u32,
-    ) -> Result<ReturnCode, StoreError>
-        ensures meets { Meets self.old self.new (as_reply replies.Code result)
-            (react self.old (steps.Read guest (index.Stream payload) handle address count)) }
+    ) -> Result<ReturnCode, OperateError>
+        ensures meets { MeetsOrTells self.old self.new result
+            (steps.Read guest (index.Stream payload) handle address count) }
         ensures stays { BasesStay self.old.guests self.new.guests }
-        ensures takes_no_memory { result ≢ Err StoreError.OutOfMemory }
     {
         let ty = TransmitIndex::Stream(payload);
         let end = NamedEnd { guest, ty, handle };
-        self.store
-            .operate_alone(Side::Reading, &end, address, count)
+        self.operate(Side::Reading, &end, address, count)
     }
 
     /// Cancels the write of a stream. `canon stream.cancel-write`.

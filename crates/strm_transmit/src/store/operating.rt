@@ -11,26 +11,28 @@
 //!   the end is copied only there.
 //! - `operate_here` refuses, has a host end polled, or calls `take_apart`, which moves items. That is a
 //!   call, so that what refuses is small enough to be inlined.
-//! - `operate_alone`, `alone_any`, `alone_apart` and `alone_here` are the same where no host end is
-//!   polled. `alone_here` has `take_called` and `take` inlined, since no other step stands beside it in
-//!   the calls of `strm_guest_store`.
+//! - `operate_or_stay`, `stay_any`, `stay_apart` and `stay_here` are the same where no host end is
+//!   polled, and where the store stays as it was at an item that is none. `stay_here` has
+//!   `take_called_or_stay` and `take_or_stay` inlined, since no other step stands beside it in the calls
+//!   of `strm_guest_store`. `operate_alone` traps the store where these leave it.
 //!
 //! The compiler drops `inline(always)`, with no message, from a function that would grow very large. Then
 //! the function's name stands among the symbols of what was built, as `nm` prints them: of the functions
 //! here only those of `inline(never)` may stand there.
 
-ghost use Rattle.std.specs.Prelude.{◌≡◌, ◌≢◌, ◌<◌, length, false, Err, None};
+ghost use Rattle.std.specs.Prelude.{◌≡◌, ◌≢◌, ◌<◌, length, true, Err, None, IfOk, OnErr};
 ghost use Rattle.strm_machine.specs.State.{stream_at};
 ghost use Rattle.strm_machine.specs.Meetings.{begun};
 ghost use Rattle.strm_machine.specs.Sides.{end_of};
-ghost use Rattle.strm_machine.specs.Reactions.{on_stream, reaction};
+ghost use Rattle.strm_machine.specs.Reactions.{goes, on_stream, reaction};
 ghost use Rattle.strm_machine.specs.declared.acts.Act.TheVariants.{OnEnd};
 ghost use Rattle.strm_machine.specs.declared.acts.EndAct.TheVariants.{Operate};
 ghost use Rattle.strm_machine.specs.declared.replies.Reply.TheVariants as replies;
 ghost use Rattle.strm_host_machine.specs.Does.{Fits};
 ghost use Rattle.strm_transmit.specs.Meets.{Meets, as_reply};
 ghost use Rattle.strm_transmit.specs.Hosted.{MeetsHosted, StillFits, RunsOutOnlyPolling, RunsOutNoneHeld};
-ghost use Rattle.strm_transmit.specs.Operating.{Operates, OperatesAlone, MayBegin, BeginsOn};
+ghost use Rattle.strm_transmit.specs.BadItems.{MeetsOrStays, left_by};
+ghost use Rattle.strm_transmit.specs.Operating.{Operates, OperatesOrStays, MayBegin, BeginsOn, BeginsOrStays};
 ghost use Rattle.strm_transmit.specs.Turning.{IsPlacedOn, IsNumberWithin};
 
 use crate::errors::StoreError;
@@ -43,6 +45,7 @@ use strm_codes::counts::ItemCount;
 use strm_codes::payloads::Payload;
 use strm_machine::acts::NamedEnd;
 use strm_machine::streams::{Operation, Side};
+use strm_memory::copies::BadItem;
 
 impl Store {
     /// A read or write of the end that is named; a future's count is not looked at.
@@ -149,61 +152,99 @@ impl Store {
         ensures fits { StillFits self.old self.new }
         ensures takes_no_memory { result ≢ Err StoreError.OutOfMemory }
     {
-        match number_type(end.ty) {
-            Some(ty) => {
-                let end = NamedEnd { ty, ..*end };
-                self.alone_here(side, &end, address, count)
+        match self.operate_or_stay(side, end, address, count) {
+            Ok(code) => Ok(code),
+            Err(error) => {
+                self.trap_at_bad_item(error);
+                Err(error)
             }
-            None => self.alone_any(side, end, address, count),
         }
     }
 
-    // The same of any payload.
+    // The store is trapped after an item that is none, and after no other error.
+    fn trap_at_bad_item(&mut self, error: StoreError)
+        ensures { self.new ≡ left_by error self.old }
+    {
+        match error {
+            StoreError::BadItem { .. } => self.trap(),
+            StoreError::Refused(_)
+            | StoreError::HostFailed { .. }
+            | StoreError::HostBroke { .. }
+            | StoreError::StoreTrapped
+            | StoreError::OutOfMemory => {}
+        }
+    }
+
+    /// The same, but that an item which is none leaves the store as it was: it is not trapped, and the
+    /// same call answers the same again. `bad_item` tells whose the item is.
     #[inline(always)]
-    fn alone_any(
+    pub fn operate_or_stay(
         &mut self,
         side: Side,
         end: &NamedEnd,
         address: u32,
         count: u32,
     ) -> Result<ReturnCode, StoreError>
-        ensures operates { OperatesAlone self.old self.new
+        ensures meets { MeetsOrStays self.old self.new (as_reply replies.Code result)
+            (reaction self.old (OnEnd side end.now (Operate address count))) }
+        ensures fits { StillFits self.old self.new }
+        ensures takes_no_memory { result ≢ Err StoreError.OutOfMemory }
+    {
+        match number_type(end.ty) {
+            Some(ty) => {
+                let end = NamedEnd { ty, ..*end };
+                self.stay_here(side, &end, address, count)
+            }
+            None => self.stay_any(side, end, address, count),
+        }
+    }
+
+    // The same of any payload.
+    #[inline(always)]
+    fn stay_any(
+        &mut self,
+        side: Side,
+        end: &NamedEnd,
+        address: u32,
+        count: u32,
+    ) -> Result<ReturnCode, StoreError>
+        ensures operates { OperatesOrStays self.old self.new
             (OnEnd side end.now (Operate address count)) result }
     {
-        self.alone_apart(side, *end, address, count)
+        self.stay_apart(side, *end, address, count)
     }
 
     // The same, apart from the code for plain numbers.
     #[inline(never)]
-    fn alone_apart(
+    fn stay_apart(
         &mut self,
         side: Side,
         end: NamedEnd,
         address: u32,
         count: u32,
     ) -> Result<ReturnCode, StoreError>
-        ensures operates { OperatesAlone self.old self.new
+        ensures operates { OperatesOrStays self.old self.new
             (OnEnd side end (Operate address count)) result }
     {
-        self.alone_here(side, &end, address, count)
+        self.stay_here(side, &end, address, count)
     }
 
     // The same: refused, or done.
     #[inline(always)]
-    fn alone_here(
+    fn stay_here(
         &mut self,
         side: Side,
         end: &NamedEnd,
         address: u32,
         count: u32,
     ) -> Result<ReturnCode, StoreError>
-        ensures operates { OperatesAlone self.old self.new
+        ensures operates { OperatesOrStays self.old self.new
             (OnEnd side end.now (Operate address count)) result }
     {
         self.sound();
         self.served();
         match self.admit(self.operation_found(side, end, address, count)) {
-            Ok(found) => self.take_called(side, found.0, end.guest, address, found.1),
+            Ok(found) => self.take_called_or_stay(side, found.0, end.guest, address, found.1),
             Err(error) => Err(error),
         }
     }
@@ -237,40 +278,61 @@ impl Store {
         requires called { MayBegin self.old side stream (begun guest address count) }
         ensures begins { BeginsOn self.old self.new side stream (begun guest address count) result }
     {
-        let payload = self.stream(stream).payload();
-        let mine = begin(guest, address, count);
-        self.take(side, stream, &payload, mine)
+        match self.take_called_or_stay(side, stream, guest, address, count) {
+            Ok(code) => Ok(code),
+            Err(_) => {
+                self.trap();
+                Err(StoreError::BadItem { stream })
+            }
+        }
     }
 
-    // An operation begins on a stream.
+    // The same, but that an item which is none leaves the store as it was.
     #[inline(always)]
-    fn take(
+    fn take_called_or_stay(
+        &mut self,
+        side: Side,
+        stream: u32,
+        guest: u32,
+        address: u32,
+        count: ItemCount,
+    ) -> Result<ReturnCode, StoreError>
+        requires called { MayBegin self.old side stream (begun guest address count) }
+        ensures begins { BeginsOrStays self.old self.new side stream (begun guest address count)
+            result }
+    {
+        let payload = self.stream(stream).payload();
+        let mine = begin(guest, address, count);
+        match self.take_or_stay(side, stream, &payload, mine) {
+            Ok(code) => Ok(code),
+            Err(_) => Err(StoreError::BadItem { stream }),
+        }
+    }
+
+    // An operation begins on a stream. Where an item that would move is none, the store is as it was.
+    #[inline(always)]
+    fn take_or_stay(
         &mut self,
         side: Side,
         stream: u32,
         payload: &Payload,
         mine: Operation,
-    ) -> Result<ReturnCode, StoreError>
+    ) -> Result<ReturnCode, BadItem>
         requires there { stream < length self.old.streams }
         requires payload { payload.now ≡ (stream_at self.old stream).payload }
         requires idle { (end_of side (stream_at self.old stream)).operation ≡ None }
         requires begun { mine ≡ begun mine.guest mine.address mine.left }
         requires mine { IsPlacedOn self.old stream mine }
         requires numbers { IsNumberWithin self.old side stream mine.guest }
-        requires untrapped { self.old.trapped ≡ false }
-        ensures meets { Meets self.old self.new (as_reply replies.Code result)
-            (on_stream self.old stream side mine) }
-        ensures takes_no_memory { result ≢ Err StoreError.OutOfMemory }
+        ensures ok { IfOk result (λ code. on_stream self.old stream side mine
+            ≡ goes (replies.Code code) self.new) }
+        ensures bad { OnErr result (on_stream self.old stream side mine
+            ≡ goes (replies.BadItem stream) (record self.old { trapped = true })) }
+        ensures err { OnErr result (self.new ≡ self.old) }
     {
         let meeting = &mut self.streams[stream as usize];
         let taken = meet_or_wait(self.alloc, &mut self.guests, meeting, payload, side, mine);
         retell(&mut self.ready, &self.guests, meeting);
-        match taken {
-            Ok(code) => Ok(code),
-            Err(_) => {
-                self.is_trapped = true;
-                Err(StoreError::BadItem { stream })
-            }
-        }
+        taken
     }
 }

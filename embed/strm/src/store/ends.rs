@@ -86,13 +86,14 @@ impl Store {
         }
     }
 
-    /// Gives up all that a guest has, as where it trapped: what its ends have under way is cancelled, and ends, sets
-    /// and error contexts are dropped. Whoever has the other ends is told so. Answers how many handles stay: the
-    /// write ends of futures that owe their readers a value, which the runtime writes in the guest's place.
+    /// Gives up all that a guest has, as where it trapped or writes a bad item: what its ends have under way is
+    /// cancelled, and ends, sets and error contexts are dropped. Whoever has the other ends is told so. Answers how
+    /// many handles stay: the write ends of futures that owe their readers a value, which the runtime writes in the
+    /// guest's place.
     ///
     /// # Errors
     ///
-    /// Refused: `UnknownGuest`. [`Error::StoreTrapped`].
+    /// Refused: `UnknownGuest`.
     ///
     /// ```
     /// # use strm::{Code, Payload};

@@ -1,7 +1,8 @@
 //! Futures, as streams of one value.
 
-use crate::errors::{code, done, wrote};
-use crate::{Code, Error, Guest, Handle, Pair, Payload, Store};
+use super::Named;
+use crate::errors::{code, done, operated, wrote};
+use crate::{Code, Error, Guest, Handle, Pair, Payload, Side, Store, Type};
 use strm_sys as sys;
 
 /// Futures, as streams of one value.
@@ -49,10 +50,19 @@ impl Store {
         handle: Handle,
         address: u32,
     ) -> Result<Code, Error> {
-        // SAFETY: above.
-        let answer = code(|out| unsafe {
-            sys::strm_future_write(self.at(), guest.0, payload.word(), handle.0, address, out)
-        });
+        let end = Named {
+            guest,
+            handle,
+            ty: Type::Future(payload),
+            side: Side::Writing,
+        };
+        let answer = operated(
+            // SAFETY: above.
+            |out| unsafe {
+                sys::strm_future_write(self.at(), guest.0, payload.word(), handle.0, address, out)
+            },
+            || self.find_bad_item(end, address, 1),
+        );
         self.called(guest, handle, answer)
     }
 
@@ -80,10 +90,19 @@ impl Store {
         handle: Handle,
         address: u32,
     ) -> Result<Code, Error> {
-        // SAFETY: above.
-        let answer = code(|out| unsafe {
-            sys::strm_future_read(self.at(), guest.0, payload.word(), handle.0, address, out)
-        });
+        let end = Named {
+            guest,
+            handle,
+            ty: Type::Future(payload),
+            side: Side::Reading,
+        };
+        let answer = operated(
+            // SAFETY: above.
+            |out| unsafe {
+                sys::strm_future_read(self.at(), guest.0, payload.word(), handle.0, address, out)
+            },
+            || self.find_bad_item(end, address, 1),
+        );
         self.called(guest, handle, answer)
     }
 

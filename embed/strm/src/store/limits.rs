@@ -75,7 +75,7 @@ impl Store {
         done(unsafe { sys::strm_set_guest_limits(self.at(), guest.0, handles, ends, bytes) })
     }
 
-    /// How much a guest may have at once; also of a store that was trapped.
+    /// How much a guest may have at once.
     ///
     /// # Errors
     ///

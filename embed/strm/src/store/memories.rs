@@ -139,7 +139,7 @@ impl Store {
         done(unsafe { sys::strm_memory_write(self.at(), guest.0, address, bytes.as_ptr(), bytes.len()) })
     }
 
-    /// Copies bytes of a guest's memory out, from an address on; also of a store that was trapped.
+    /// Copies bytes of a guest's memory out, from an address on.
     ///
     /// # Errors
     ///

@@ -105,6 +105,13 @@ impl Side {
             Side::Reading => Side::Writing,
         }
     }
+
+    pub(crate) const fn word(self) -> u32 {
+        match self {
+            Side::Writing => sys::SIDE_WRITING,
+            Side::Reading => sys::SIDE_READING,
+        }
+    }
 }
 
 impl From<sys::Handle> for HandleInfo {
@@ -176,7 +183,7 @@ impl fmt::Display for HandleInfo {
     }
 }
 
-/// What a runtime asks of its handles, which changes nothing. A store that was trapped answers too.
+/// What a runtime asks of its handles, which changes nothing.
 impl Store {
     /// What a handle of a guest is of, and of an end all that is told of one. Nothing is taken of what it is
     /// to be told.

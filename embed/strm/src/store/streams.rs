@@ -1,8 +1,28 @@
 //! Streams.
 
-use crate::errors::{code, done, event, wrote};
-use crate::{Code, Error, Guest, Handle, Pair, Payload, Store};
+use super::Named;
+use crate::errors::{code, done, event, operated, wrote};
+use crate::{BadItem, Code, Error, Guest, Handle, Pair, Payload, Side, Store, Type};
 use strm_sys as sys;
+
+impl Store {
+    // The item at which a read or write stopped just now; of a future the count is not looked at.
+    #[cold]
+    pub(super) fn find_bad_item(&self, end: Named, address: u32, count: u32) -> BadItem {
+        let (side, ty) = (end.side.word(), end.ty.word());
+        let (Guest(guest), Handle(handle)) = (end.guest, end.handle);
+        let mut out = sys::BadItem::default();
+        // SAFETY: above.
+        let status =
+            unsafe { sys::strm_find_bad_item(self.at(), side, guest, ty, handle, address, count, &mut out) };
+        debug_assert_eq!(status, 0);
+        BadItem {
+            guest: Guest(out.guest),
+            handle: Handle(out.handle),
+            index: out.index,
+        }
+    }
+}
 
 /// Streams.
 impl Store {
@@ -55,10 +75,19 @@ impl Store {
         address: u32,
         count: u32,
     ) -> Result<Code, Error> {
-        // SAFETY: above.
-        let answer = code(|out| unsafe {
-            sys::strm_stream_write(self.at(), guest.0, payload.word(), handle.0, address, count, out)
-        });
+        let end = Named {
+            guest,
+            handle,
+            ty: Type::Stream(payload),
+            side: Side::Writing,
+        };
+        let answer = operated(
+            // SAFETY: above.
+            |out| unsafe {
+                sys::strm_stream_write(self.at(), guest.0, payload.word(), handle.0, address, count, out)
+            },
+            || self.find_bad_item(end, address, count),
+        );
         self.called(guest, handle, answer)
     }
 
@@ -71,10 +100,17 @@ impl Store {
     /// them [`Error::BadItem`].
     ///
     /// ```
-    /// # use strm::{Code, Error, Handle, Payload, Refusal, Type};
+    /// # use strm::{BadItem, Code, Error, Handle, Payload, Refusal, Type};
     /// # let (mut store, writer, reader, pair) = strm::example()?;
     /// let _ = store.stream_write(writer, Payload::U8, pair.write, 0, 3)?;
     /// assert_eq!(store.stream_read(reader, Payload::U8, pair.read, 0, 2)?, Code::Completed(2));
+    ///
+    /// // A bad item of the writer's stops the read, which tells whose it is.
+    /// let chars = store.new_between(writer, reader, Type::Stream(Payload::CHAR))?;
+    /// store.put_items(writer, 0, &[0xd800u32])?;
+    /// let _ = store.stream_write(writer, Payload::CHAR, chars.write, 0, 1)?;
+    /// let item = BadItem { guest: writer, handle: chars.write, index: 0 };
+    /// assert_eq!(store.stream_read(reader, Payload::CHAR, chars.read, 0, 1), Err(Error::BadItem(item)));
     /// # Ok::<(), strm::Error>(())
     /// ```
     #[inline]
@@ -86,10 +122,19 @@ impl Store {
         address: u32,
         count: u32,
     ) -> Result<Code, Error> {
-        // SAFETY: above.
-        let answer = code(|out| unsafe {
-            sys::strm_stream_read(self.at(), guest.0, payload.word(), handle.0, address, count, out)
-        });
+        let end = Named {
+            guest,
+            handle,
+            ty: Type::Stream(payload),
+            side: Side::Reading,
+        };
+        let answer = operated(
+            // SAFETY: above.
+            |out| unsafe {
+                sys::strm_stream_read(self.at(), guest.0, payload.word(), handle.0, address, count, out)
+            },
+            || self.find_bad_item(end, address, count),
+        );
         self.called(guest, handle, answer)
     }
 

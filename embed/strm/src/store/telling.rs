@@ -2,7 +2,7 @@
 //!
 //! An end gets something to be told by a call on the other end alone. So after each such call the store is asked who
 //! has the other end, and whether that is to be told something now: then the task that waits there is woken. Where
-//! no task waits for any end, nothing is asked.
+//! no task waits for any end, nothing is asked, nor where the call was refused, since that changes nothing.
 
 use crate::waits::{LastValue, Place, Released};
 use crate::{EndInfo, Error, Guest, Handle, HandleInfo, OtherEnd, Side, Store, StreamId};
@@ -25,9 +25,9 @@ impl Store {
         handle: Handle,
         answer: Result<R, Error>,
     ) -> Result<R, Error> {
-        if !self.waits.is_empty() {
+        if answer.is_ok() && !self.waits.is_empty() {
             let end = self.end_info(guest, handle);
-            self.tell(end, false, answer.as_ref().err());
+            self.tell(end, false);
         }
         answer
     }
@@ -47,8 +47,8 @@ impl Store {
     // An end has another handle now, or none.
     #[inline]
     pub(crate) fn gone<R>(&mut self, end: Option<EndInfo>, answer: Result<R, Error>) -> Result<R, Error> {
-        if !self.waits.is_empty() {
-            self.tell(end, true, answer.as_ref().err());
+        if answer.is_ok() && !self.waits.is_empty() {
+            self.tell(end, true);
         }
         answer
     }
@@ -87,17 +87,12 @@ impl Store {
     }
 
     #[cold]
-    fn tell(&mut self, end: Option<EndInfo>, is_taken: bool, error: Option<&Error>) {
-        match (error, end) {
-            (Some(Error::BadItem | Error::StoreTrapped), _) => self.waits.wake_all(),
-            (None, Some(end)) => {
-                if is_taken {
-                    self.take_away((end.stream, end.side));
-                }
-                self.tell_other(end);
-            }
-            _ => return,
+    fn tell(&mut self, end: Option<EndInfo>, is_taken: bool) {
+        let Some(end) = end else { return };
+        if is_taken {
+            self.take_away((end.stream, end.side));
         }
+        self.tell_other(end);
         self.waits.flush();
     }
 

@@ -1,5 +1,5 @@
 use Rattle.strm_guest_store.proofs.AgainLemmas.{step_at-bases}
-use Rattle.strm_guest_store.proofs.BaseLemmas.{step-bases, lowering-bases}
+use Rattle.strm_guest_store.proofs.BaseLemmas.{step-bases, lowering-bases, operation-bases}
 use Rattle.strm_guest_store.proofs.laws.memories_stay.Goals as goal
 
 pub returns-clause-steps : goal.returns-clause-steps
@@ -10,3 +10,6 @@ returns-clause-lowerings c = lowering-bases
 
 pub returns-clause-makings : goal.returns-clause-makings
 returns-clause-makings c = step_at-bases
+
+pub returns-clause-operations : goal.returns-clause-operations
+returns-clause-operations c = operation-bases
