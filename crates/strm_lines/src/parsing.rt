@@ -11,7 +11,7 @@ ghost use Rattle.strm_lines.specs.declared.parsing.ParseError.TheVariants.{OutOf
 use crate::lines::keep_line;
 use crate::lists::Steps;
 use crate::one_by_one::TakesSteps;
-use crate::words::{cut, number};
+use crate::words::{cut_near, number};
 use std::alloc::Global;
 use strm_codes::counts::OutOfMemory;
 use thiserror::Error;
@@ -162,12 +162,13 @@ fn parse_lines<L: TakesSteps>(steps: &mut L, bytes: &[u8], lines: usize) -> Resu
 }
 
 /// The first line, and what follows its line feed.
+#[inline(always)]
 pub fn first_line(bytes: &[u8]) -> (&[u8], &[u8])
     requires { 0 < length bytes.now }
     ensures lines { lines_of bytes.now ≡ result.0.now ∷ lines_of result.1.now }
     ensures less { length result.1.now < length bytes.now }
 {
-    match cut(b'\n', bytes) {
+    match cut_near(b'\n', bytes) {
         Some(parts) => parts,
         None => bytes.split_at(bytes.len()),
     }

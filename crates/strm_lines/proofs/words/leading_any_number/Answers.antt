@@ -2,7 +2,7 @@ use Rattle.std.proofs.Common.{◌+◌, ◌-◌, ◌*◌, ◌^◌, ◌≤◌, dro
 use Rattle.std.proofs.lemmas.List.{drop_more, drop_all}
 use Rattle.strm_lines.specs.Reading.{read_to}
 use Rattle.strm_lines.proofs.NumberLemmas.{read_to-digit, read_to-large, read_to-end}
-use Rattle.strm_lines.proofs.words.leading_number.Goals as goal
+use Rattle.strm_lines.proofs.words.leading_any_number.Goals as goal
 
 pub returns-in_default : goal.returns-in_default
 returns-in_default c =
