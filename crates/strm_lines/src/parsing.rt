@@ -11,7 +11,7 @@ ghost use Rattle.strm_lines.specs.declared.parsing.ParseError.TheVariants.{OutOf
 use crate::lines::keep_line;
 use crate::lists::Steps;
 use crate::one_by_one::TakesSteps;
-use crate::words::{cut_near, number};
+use crate::words::{cut, number};
 use std::alloc::Global;
 use strm_codes::counts::OutOfMemory;
 use thiserror::Error;
@@ -168,7 +168,7 @@ pub fn first_line(bytes: &[u8]) -> (&[u8], &[u8])
     ensures lines { lines_of bytes.now ≡ result.0.now ∷ lines_of result.1.now }
     ensures less { length result.1.now < length bytes.now }
 {
-    match cut_near(b'\n', bytes) {
+    match cut(b'\n', bytes) {
         Some(parts) => parts,
         None => bytes.split_at(bytes.len()),
     }

@@ -2,11 +2,13 @@
 //!
 //! Source: ours.
 
-ghost use Rattle.std.specs.Prelude.{◌≡◌, ◌++◌, ◌+◌, ◌-◌, ◌*◌, ◌%◌, ◌^◌, ◌≤◌, ◌<◌, true, false, IsTrue, length, drop, slice_index_or, SomeIff, Some, None};
+ghost use Rattle.std.specs.Prelude.{◌≡◌, ◌∷◌, ◌++◌, ◌+◌, ◌-◌, ◌*◌, ◌%◌, ◌^◌, ◌≤◌, ◌<◌, true, false, IsTrue, length, drop, codes, slice_index_or, SomeIff, IfSome, Some, None};
+ghost use Rattle.strm_lines.specs.Words.{scalar_word};
 ghost use Rattle.std.specs.Option.{option_map};
+ghost use Rattle.memchr.specs.Find.{IsFirstByte, is_byte};
 ghost use Rattle.strm_lines.specs.Reading.{behind, cut_at, early, late, named_among, scalar_read, fields_read, shape_read, payload_read, leading, is_digit, decimal_number, read_to, number_within, nibble, pairs_from, hex, type_read};
 
-use memchr::memchr;
+use memchr::memchr_iter;
 use strm_codes::codes::TransmitIndex;
 use strm_codes::payloads::{Payload, Shape};
 use strm_codes::scalars::Scalar;
@@ -161,36 +163,22 @@ fn behind_number(number: u32, line: &[u8], at: usize) -> Option<(u32, &[u8])>
     Some((number, rest))
 }
 
+// Where the first such byte is. It is looked for among the nearest first.
+fn place_of(byte: u8, bytes: &[u8]) -> Option<usize>
+    ensures { IsFirstByte (is_byte byte) bytes.now result }
+{
+    memchr_iter(byte, bytes).next()
+}
+
 /// What comes before and after the first such byte.
+#[inline(always)]
 pub fn cut(byte: u8, bytes: &[u8]) -> Option<(&[u8], &[u8])>
     ensures { option_map (λ p. (p.0.now, p.1.now)) result ≡ cut_at byte bytes.now }
 {
-    let at = memchr(byte, bytes)?;
+    let at = place_of(byte, bytes)?;
     let (front, _) = bytes.split_at(at);
     let (_, rest) = bytes.split_at(at + 1);
     Some((front, rest))
-}
-
-// The most places at which a byte is near.
-const NEAR: usize = 32;
-
-/// The same, where the byte is likely to be near: few places are looked at first.
-#[inline(always)]
-pub(crate) fn cut_near(byte: u8, bytes: &[u8]) -> Option<(&[u8], &[u8])>
-    ensures { option_map (λ p. (p.0.now, p.1.now)) result ≡ cut_at byte bytes.now }
-{
-    if bytes.len() < NEAR {
-        return cut(byte, bytes);
-    }
-    let (near, _) = bytes.split_at(NEAR);
-    match memchr(byte, near) {
-        Some(at) => {
-            let (front, _) = bytes.split_at(at);
-            let (_, rest) = bytes.split_at(at + 1);
-            Some((front, rest))
-        }
-        None => cut(byte, bytes),
-    }
 }
 
 // A scalar of the first half, by its name.
