@@ -1,5 +1,6 @@
 pub mod ChoiceLemmas
 pub mod CutLemmas
+pub mod PlaceLemmas
 pub mod NumberLemmas
 pub mod HexLemmas
 pub mod ReadingLemmas

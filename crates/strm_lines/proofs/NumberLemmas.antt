@@ -1,5 +1,5 @@
 -- Decimal numbers: what is read is what is written, the other way round, and none has a space.
-use Rattle.std.proofs.Common.{◌≡◌, ◌≢◌, ℕ, zero, suc, ◌+◌, ◌-◌, ◌*◌, ◌<◌, ◌≤◌, ◌^◌, List, [], ◌∷◌, length, get_or, Option, Some, None, Bool, true, false, cond, eqb, ltb, ◌&&◌, refl, ap, ◌∙◌, arith, rules, inl, inr}
+use Rattle.std.proofs.Common.{◌≡◌, ◌≢◌, ℕ, zero, suc, ◌+◌, ◌-◌, ◌*◌, ◌<◌, ◌≤◌, ◌^◌, List, [], ◌∷◌, length, drop, get_or, Option, Some, None, Bool, true, false, cond, eqb, ltb, ◌&&◌, refl, sym, ap, ◌∙◌, arith, rules, inl, inr}
 use Rattle.std.specs.Str.{all_ascii_digits}
 use Rattle.std.specs.Fmt.{decimal}
 use Rattle.std.proofs.lemmas.Bool.{ltb-true, lt-ltb, le-ltb}
@@ -198,3 +198,25 @@ unfolding leading cut_at decimal_number
 begins_short [] h = refl
 begins_short (c ∷ []) h = elim (eqb_tells c 32) [ inl t ↦ rw t.0 refl | inr t ↦ rw t.0 refl ]
 begins_short (c ∷ b ∷ cs) h = absurd (omega arith)
+
+-- numbers of one digit
+
+digit_small : (c : ℕ) → is_digit c ≡ true → 10 * 0 + (c - 48) < 2 ^ 32
+digit_small c d = grind (arith, nat_tests)
+
+-- a word that is one digit
+pub one_digit : (word : List ℕ) → length word ≡ 1 → is_digit (get_or word 0 0) ≡ true → Some (get_or word 0 0 - 48) ≡ decimal_number word
+one_digit [] l d = absurd (omega (arith, l))
+one_digit (c ∷ []) l d =
+    let same : 10 * 0 + (c - 48) ≡ c - 48 = omega arith in
+    ap Some (sym same) ∙ sym (read_word (c ∷ []) (omega arith) (rw d refl) (λ _. refl) (digit_small c d))
+one_digit (c ∷ b ∷ cs) l d = absurd (omega (arith, l))
+
+-- a line that begins with one digit and a space
+pub leading_digit : (line : List ℕ) → 1 < length line → is_digit (get_or line 0 0) ≡ true → get_or line 1 0 ≡ 32 → leading decimal_number line ≡ Some (get_or line 0 0 - 48, drop 2 line)
+leading_digit [] h d s = absurd (omega arith)
+leading_digit (c ∷ []) h d s = absurd (omega arith)
+leading_digit (c ∷ b ∷ rest) h d s =
+    let same : 10 * 0 + (c - 48) ≡ c - 48 = omega arith in
+    begins_digit (c ∷ b ∷ rest) h d (λ _. s) ∙ read_to-digit 0 c (b ∷ rest) d (digit_small c d)
+    ∙ ap (λ x. read_to (10 * 0 + (c - 48)) (x ∷ rest)) s ∙ read_to-space (10 * 0 + (c - 48)) rest ∙ ap (λ n. Some (n, rest)) same

@@ -33,12 +33,12 @@ AreSound (c ∷ commands) = IsSound c × AreSound commands
 explaining_sound : AreSound explaining
 unfolding explaining
 explaining_sound = (
-  made _ _ AreRead-three_numbers (λ v. refl) (λ v. refl),
+  made _ _ AreRead-two_numbers (λ v. refl) (λ v. refl),
   (
     made _ _ AreRead-three_numbers (λ v. refl) (λ v. refl),
     (
       made _ _ AreRead-three_numbers (λ v. refl) (λ v. refl),
-      (made _ _ AreRead-two_numbers (λ v. refl) (λ v. refl), tt),
+      (made _ _ AreRead-three_numbers (λ v. refl) (λ v. refl), tt),
     ),
   ),
 )
@@ -46,11 +46,11 @@ explaining_sound = (
 gathering_sound : AreSound gathering
 unfolding gathering
 gathering_sound = (
-  made _ _ AreRead-number (λ v. refl) (λ v. refl),
+  made _ _ AreRead-two_numbers (λ v. refl) (λ v. refl),
   (
     made _ _ AreRead-three_numbers (λ v. refl) (λ v. refl),
     (
-      made _ _ AreRead-two_numbers (λ v. refl) (λ v. refl),
+      made _ _ AreRead-number (λ v. refl) (λ v. refl),
       (made _ _ AreRead-two_numbers (λ v. refl) (λ v. refl), explaining_sound),
     ),
   ),

@@ -225,3 +225,16 @@ leading_bytes line rest e = ap (leading type_read) (behind_sound (codes "stream:
 pub whole_bytes : (word rest : List ℕ) → behind (codes "stream:u8") word ≡ Some rest → length rest ≡ 0 → type_read word ≡ Some (Stream (One U8))
 whole_bytes word [] e h = ap type_read (behind_sound (codes "stream:u8") word [] e) ∙ type_complete (Stream (One U8)) tt
 whole_bytes word (x ∷ rest) e h = absurd (omega (arith, h))
+
+-- a line on which a type stands first
+leading_spelled : (ty : TransmitIndex) → IsType ty → (line rest : List ℕ) → line ≡ type_text ty ++ 32 ∷ rest → leading type_read line ≡ Some (ty, rest)
+leading_spelled ty h line rest e = ap (leading type_read) e ∙ leading_complete IsReading-type IsWord-type ty rest h
+
+-- one of a scalar, whose name begins with a letter that is read before the rest of it
+pub leading_stream : (letter line behind_it rest : List ℕ) (s : Scalar) → Some behind_it ≡ behind (codes "stream:" ++ letter) line → letter ++ behind_it ≡ scalar_word s ++ 32 ∷ rest → leading type_read line ≡ Some (Stream (One s), rest)
+leading_stream letter line behind_it rest s e f =
+    leading_spelled (Stream (One s)) tt line rest (behind_sound (codes "stream:" ++ letter) line behind_it (sym e) ∙ ap (λ xs. codes "stream:" ++ xs) f)
+
+pub leading_future : (letter line behind_it rest : List ℕ) (s : Scalar) → Some behind_it ≡ behind (codes "future:" ++ letter) line → letter ++ behind_it ≡ scalar_word s ++ 32 ∷ rest → leading type_read line ≡ Some (Future (One s), rest)
+leading_future letter line behind_it rest s e f =
+    leading_spelled (Future (One s)) tt line rest (behind_sound (codes "future:" ++ letter) line behind_it (sym e) ∙ ap (λ xs. codes "future:" ++ xs) f)

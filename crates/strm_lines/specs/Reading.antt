@@ -236,17 +236,17 @@ command front arguments make =
 -- those of error contexts
 unfoldable pub explaining : List Command
 explaining =
-    command (codes "err-new ") three_numbers (λ v. ErrNew v.0 v.1 v.2)
-    ∷ command (codes "err-text ") three_numbers (λ v. ErrText v.0 v.1 v.2)
+    command (codes "err-drop ") two_numbers (λ v. ErrDrop v.0 v.1)
     ∷ command (codes "err-move ") three_numbers (λ v. ErrMove v.0 v.1 v.2)
-    ∷ command (codes "err-drop ") two_numbers (λ v. ErrDrop v.0 v.1) ∷ []
+    ∷ command (codes "err-new ") three_numbers (λ v. ErrNew v.0 v.1 v.2)
+    ∷ command (codes "err-text ") three_numbers (λ v. ErrText v.0 v.1 v.2) ∷ []
 
 -- those of waitable sets
 unfoldable pub gathering : List Command
 gathering =
-    command (codes "set-new ") decimal_number SetNew
+    command (codes "set-poll ") two_numbers (λ v. SetPoll v.0 v.1)
     ∷ command (codes "set-join ") three_numbers (λ v. SetJoin v.0 v.1 v.2)
-    ∷ command (codes "set-poll ") two_numbers (λ v. SetPoll v.0 v.1)
+    ∷ command (codes "set-new ") decimal_number SetNew
     ∷ command (codes "set-drop ") two_numbers (λ v. SetDrop v.0 v.1) ∷ explaining
 
 -- those of host ends

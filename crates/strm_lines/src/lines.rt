@@ -361,21 +361,21 @@ fn keep_gathering<L: TakesSteps>(steps: &mut L, line: &[u8]) -> bool
         ≡ L.steps steps.old ++ option_to_list (read_by gathering line.now) }
     ensures found { result ≡ is_some (read_by gathering line.now) }
 {
-    if let Some(rest) = behind(line, b"set-new ") {
-        let Some(guest) = number(rest) else {
+    if let Some(rest) = behind_both(line, b"set-poll", b" ") {
+        let Some((guest, set)) = two_numbers(rest) else {
             return false;
         };
-        keep(steps, Step::SetNew { guest })
+        keep(steps, Step::SetPoll { guest, set })
     } else if let Some(rest) = behind_both(line, b"set-join", b" ") {
         let Some((guest, set, handle)) = three_numbers(rest) else {
             return false;
         };
         keep(steps, Step::SetJoin { guest, set, handle })
-    } else if let Some(rest) = behind_both(line, b"set-poll", b" ") {
-        let Some((guest, set)) = two_numbers(rest) else {
+    } else if let Some(rest) = behind(line, b"set-new ") {
+        let Some(guest) = number(rest) else {
             return false;
         };
-        keep(steps, Step::SetPoll { guest, set })
+        keep(steps, Step::SetNew { guest })
     } else if let Some(rest) = behind_both(line, b"set-drop", b" ") {
         let Some((guest, set)) = two_numbers(rest) else {
             return false;
@@ -394,7 +394,17 @@ fn keep_explaining<L: TakesSteps>(steps: &mut L, line: &[u8]) -> bool
         ≡ L.steps steps.old ++ option_to_list (read_by explaining line.now) }
     ensures found { result ≡ is_some (read_by explaining line.now) }
 {
-    if let Some(rest) = behind(line, b"err-new ") {
+    if let Some(rest) = behind_both(line, b"err-drop", b" ") {
+        let Some((guest, handle)) = two_numbers(rest) else {
+            return false;
+        };
+        keep(steps, Step::ErrDrop { guest, handle })
+    } else if let Some(rest) = behind_both(line, b"err-move", b" ") {
+        let Some((guest, handle, to)) = three_numbers(rest) else {
+            return false;
+        };
+        keep(steps, Step::ErrMove { guest, handle, to })
+    } else if let Some(rest) = behind(line, b"err-new ") {
         let Some((guest, address, len)) = three_numbers(rest) else {
             return false;
         };
@@ -418,16 +428,6 @@ fn keep_explaining<L: TakesSteps>(steps: &mut L, line: &[u8]) -> bool
                 address,
             },
         )
-    } else if let Some(rest) = behind_both(line, b"err-move", b" ") {
-        let Some((guest, handle, to)) = three_numbers(rest) else {
-            return false;
-        };
-        keep(steps, Step::ErrMove { guest, handle, to })
-    } else if let Some(rest) = behind_both(line, b"err-drop", b" ") {
-        let Some((guest, handle)) = two_numbers(rest) else {
-            return false;
-        };
-        keep(steps, Step::ErrDrop { guest, handle })
     } else {
         false
     }

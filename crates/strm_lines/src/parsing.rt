@@ -162,6 +162,7 @@ fn parse_lines<L: TakesSteps>(steps: &mut L, bytes: &[u8], lines: usize) -> Resu
 }
 
 /// The first line, and what follows its line feed.
+#[inline(always)]
 pub fn first_line(bytes: &[u8]) -> (&[u8], &[u8])
     requires { 0 < length bytes.now }
     ensures lines { lines_of bytes.now ≡ result.0.now ∷ lines_of result.1.now }

@@ -2,11 +2,13 @@
 //!
 //! Source: ours.
 
-ghost use Rattle.std.specs.Prelude.{◌≡◌, ◌++◌, ◌+◌, ◌-◌, ◌*◌, ◌%◌, ◌^◌, ◌≤◌, ◌<◌, true, false, IsTrue, length, drop, slice_index_or, SomeIff, Some, None};
+ghost use Rattle.std.specs.Prelude.{◌≡◌, ◌∷◌, ◌++◌, ◌+◌, ◌-◌, ◌*◌, ◌%◌, ◌^◌, ◌≤◌, ◌<◌, true, false, IsTrue, length, drop, codes, slice_index_or, SomeIff, IfSome, Some, None};
+ghost use Rattle.strm_lines.specs.Words.{scalar_word};
 ghost use Rattle.std.specs.Option.{option_map};
+ghost use Rattle.memchr.specs.Find.{IsFirstByte, is_byte};
 ghost use Rattle.strm_lines.specs.Reading.{behind, cut_at, early, late, named_among, scalar_read, fields_read, shape_read, payload_read, leading, is_digit, decimal_number, read_to, number_within, nibble, pairs_from, hex, type_read};
 
-use memchr::memchr;
+use memchr::memchr_iter;
 use strm_codes::codes::TransmitIndex;
 use strm_codes::payloads::{Payload, Shape};
 use strm_codes::scalars::Scalar;
@@ -52,8 +54,21 @@ fn with_digit(number: u32, digit: u8) -> Option<u32>
 }
 
 // A number in decimal, below 2^32 and without leading zeros.
-#[tactic(auto, unfolding(crate::specs::Reading::decimal_number, crate::specs::Reading::digits_from))]
+#[inline(always)]
+#[tactic(auto, using(crate::proofs::NumberLemmas::one_digit))]
 pub(crate) fn number(word: &[u8]) -> Option<u32>
+    ensures { result ≡ decimal_number word.now }
+{
+    // Most have one digit.
+    if word.len() == 1 && word[0].is_ascii_digit() {
+        return Some(u32::from(word[0] - b'0'));
+    }
+    any_number(word)
+}
+
+// The same, whatever its length.
+#[tactic(auto, unfolding(crate::specs::Reading::decimal_number, crate::specs::Reading::digits_from))]
+fn any_number(word: &[u8]) -> Option<u32>
     ensures { result ≡ decimal_number word.now }
 {
     if word.is_empty() || (word[0] == b'0' && word.len() > 1) {
@@ -100,7 +115,21 @@ fn may_begin_number(line: &[u8]) -> bool
 }
 
 // The number before the first space, and what follows it.
+#[inline(always)]
 pub(crate) fn leading_number(line: &[u8]) -> Option<(u32, &[u8])>
+    ensures { option_map (λ p. (p.0, p.1.now)) result ≡ leading decimal_number line.now }
+{
+    // Most have one digit.
+    if line.len() >= 2 && line[0].is_ascii_digit() && line[1] == b' ' {
+        let (_, rest) = line.split_at(2);
+        return Some((u32::from(line[0] - b'0'), rest));
+    }
+    leading_any_number(line)
+}
+
+// The same, whatever its length.
+#[inline(never)]
+fn leading_any_number(line: &[u8]) -> Option<(u32, &[u8])>
     ensures { option_map (λ p. (p.0, p.1.now)) result ≡ leading decimal_number line.now }
 {
     if !may_begin_number(line) {
@@ -134,11 +163,19 @@ fn behind_number(number: u32, line: &[u8], at: usize) -> Option<(u32, &[u8])>
     Some((number, rest))
 }
 
+// Where the first such byte is. It is looked for among the nearest first.
+fn place_of(byte: u8, bytes: &[u8]) -> Option<usize>
+    ensures { IsFirstByte (is_byte byte) bytes.now result }
+{
+    memchr_iter(byte, bytes).next()
+}
+
 /// What comes before and after the first such byte.
+#[inline(always)]
 pub fn cut(byte: u8, bytes: &[u8]) -> Option<(&[u8], &[u8])>
     ensures { option_map (λ p. (p.0.now, p.1.now)) result ≡ cut_at byte bytes.now }
 {
-    let at = memchr(byte, bytes)?;
+    let at = place_of(byte, bytes)?;
     let (front, _) = bytes.split_at(at);
     let (_, rest) = bytes.split_at(at + 1);
     Some((front, rest))
@@ -284,8 +321,73 @@ pub(crate) fn leading_type(line: &[u8]) -> Option<(TransmitIndex, &[u8])>
 
 // The same of any type.
 #[inline(never)]
-#[tactic(auto, unfolding(crate::specs::Reading::leading))]
 fn leading_other_type(line: &[u8]) -> Option<(TransmitIndex, &[u8])>
+    ensures { option_map (λ p. (p.0, p.1.now)) result ≡ leading type_read line.now }
+{
+    match leading_number_type(line) {
+        Some(found) => Some(found),
+        None => leading_any_type(line),
+    }
+}
+
+// A type of whole numbers before the first space, and what follows it. Of any other nothing is said.
+#[inline(always)]
+fn leading_number_type(line: &[u8]) -> Option<(TransmitIndex, &[u8])>
+    ensures { IfSome result (λ p. leading type_read line.now ≡ Some (p.0, p.1.now)) }
+{
+    if let Some(rest) = behind(line, b"future:u") {
+        let (scalar, rest) = unsigned_behind(rest)?;
+        Some((TransmitIndex::Future(Payload::One(scalar)), rest))
+    } else if let Some(rest) = behind(line, b"stream:u") {
+        let (scalar, rest) = unsigned_behind(rest)?;
+        Some((TransmitIndex::Stream(Payload::One(scalar)), rest))
+    } else if let Some(rest) = behind(line, b"future:s") {
+        let (scalar, rest) = signed_behind(rest)?;
+        Some((TransmitIndex::Future(Payload::One(scalar)), rest))
+    } else {
+        let rest = behind(line, b"stream:s")?;
+        let (scalar, rest) = signed_behind(rest)?;
+        Some((TransmitIndex::Stream(Payload::One(scalar)), rest))
+    }
+}
+
+// The unsigned scalar of this width before a space, and what follows that.
+#[inline(always)]
+fn unsigned_behind(line: &[u8]) -> Option<(Scalar, &[u8])>
+    ensures { IfSome result (λ p. codes "u" ++ line.now ≡ scalar_word p.0 ++ 32 ∷ p.1.now) }
+{
+    if let Some(rest) = behind(line, b"32 ") {
+        Some((Scalar::U32, rest))
+    } else if let Some(rest) = behind(line, b"64 ") {
+        Some((Scalar::U64, rest))
+    } else if let Some(rest) = behind(line, b"16 ") {
+        Some((Scalar::U16, rest))
+    } else {
+        let rest = behind(line, b"8 ")?;
+        Some((Scalar::U8, rest))
+    }
+}
+
+// The same of a signed one.
+#[inline(always)]
+fn signed_behind(line: &[u8]) -> Option<(Scalar, &[u8])>
+    ensures { IfSome result (λ p. codes "s" ++ line.now ≡ scalar_word p.0 ++ 32 ∷ p.1.now) }
+{
+    if let Some(rest) = behind(line, b"32 ") {
+        Some((Scalar::S32, rest))
+    } else if let Some(rest) = behind(line, b"64 ") {
+        Some((Scalar::S64, rest))
+    } else if let Some(rest) = behind(line, b"16 ") {
+        Some((Scalar::S16, rest))
+    } else {
+        let rest = behind(line, b"8 ")?;
+        Some((Scalar::S8, rest))
+    }
+}
+
+// Any type before the first space, and what follows it.
+#[tactic(auto, unfolding(crate::specs::Reading::leading))]
+fn leading_any_type(line: &[u8]) -> Option<(TransmitIndex, &[u8])>
     ensures { option_map (λ p. (p.0, p.1.now)) result ≡ leading type_read line.now }
 {
     let (word, rest) = cut(b' ', line)?;

@@ -1,6 +1,6 @@
 -- The next stream that a host end serves, after one host end more was looked at; and whether all host
 -- ends that were looked at are those that the store needs.
-use Rattle.std.proofs.Common.{◌≡◌, ◌⊎◌, ℕ, ◌+◌, ◌<◌, ◌≤◌, ◌↔◌, Bool, true, false, cond, length, Option, Some, None, refl, sym, subst, ◌∙◌, inl, inr, ⊎_elim, arith}
+use Rattle.std.proofs.Common.{◌≡◌, ◌⊎◌, ℕ, ◌+◌, ◌<◌, ◌≤◌, ◌↔◌, Bool, true, false, cond, length, min, Option, Some, None, refl, sym, subst, ◌∙◌, inl, inr, ⊎_elim, arith}
 use Rattle.std.specs.Prelude.{nat_le, IsTrue}
 use Rattle.std.proofs.lemmas.Bool.{cases_lt, true≢false}
 use Rattle.std.proofs.lemmas.Bool.Decides.{nat_tests}
@@ -135,16 +135,27 @@ module _ (state : State) (from k : ℕ) where
       next_more state from (below_and_writer k) (below (k + 1)) Reading k reader_still reader_more (next_for_duty (duty_of Writing state k) from o)
       (next_more state from (below k) (below_and_writer k) Writing k writer_still writer_more o h)
 
--- and all of them
-pub next_of_all : (state : State) (from k : ℕ) (o : Option ℕ) → AreServed state.producers state.consumers state.streams → host_limit ≤ k → NextAmong state (below k) from o → NextServed state from o
-next_of_all state from k None h l n = λ side m t x e b. n side m t (omega (arith, l, duty_known side state.producers state.consumers state.streams m t h e)) e b
-next_of_all state from k (Some s) h l n = record {
-  behind = n.behind;
-  side = n.side;
-  number = n.number;
-  serves = n.serves;
-  least = λ side m t x e b. n.least side m t (omega (arith, l, duty_known side state.producers state.consumers state.streams m t h e)) e b;
-}
+-- and all of them, where those that there are fit
+module _ (state : State) (tells : Tells) (served : AreServed state.producers state.consumers state.streams) (fits : Fits state tells) where
+  there : (side : Side) (n s most : ℕ) → length tells.writers ≤ most → length tells.readers ≤ most → duty_of side state n ≡ Serves s → n < most
+  there Writing n s most w r e = omega (arith, w, (fits.writers n s e).there)
+  there Reading n s most w r e = omega (arith, r, (fits.readers n s e).there)
+
+  -- one that serves a stream is among the first so many
+  serving_below : (side : Side) (n s most k : ℕ) → length tells.writers ≤ most → length tells.readers ≤ most → min most host_limit ≤ k → duty_of side state n ≡ Serves s → n < k
+  serving_below side n s most k w r l e =
+      let known = duty_known side state.producers state.consumers state.streams n s served e in
+      omega (arith, l, known, there side n s most w r e)
+
+  pub next_of_all : (from most k : ℕ) (o : Option ℕ) → length tells.writers ≤ most → length tells.readers ≤ most → min most host_limit ≤ k → NextAmong state (below k) from o → NextServed state from o
+  next_of_all from most k None w r l n = λ side m t x e b. n side m t (serving_below side m t most k w r l e) e b
+  next_of_all from most k (Some s) w r l n = record {
+    behind = n.behind;
+    side = n.side;
+    number = n.number;
+    serves = n.serves;
+    least = λ side m t x e b. n.least side m t (serving_below side m t most k w r l e) e b;
+  }
 
 -- where the first number itself is served, the others need no look
 pub next_first : (state : State) (from k : ℕ) (o : Option ℕ) → o ≡ Some from → NextAmong state (below k) from o → NextServed state from o

@@ -71,15 +71,17 @@ impl Store {
         self.consumers[number].duty
     }
 
-    // The least stream from a number on that a host end serves.
-    fn next_served(&self, from: u32) -> Option<u32>
+    // The least stream from a number on that a host end serves, one of those that there are.
+    fn next_served<H: HostEnds>(&self, hosts: &H, from: u32) -> Option<u32>
+        requires fits { Fits self.now (H.tells hosts.now) }
         ensures next { NextServed self.now from result }
         ensures served { AreServed self.now.producers self.now.consumers self.now.streams }
         ensures few { length self.now.streams ≤ 4294967295 }
     {
         let _ = &self.producers;
+        let most = hosts.count_writers().max(hosts.count_readers());
         let mut least = None;
-        for number in 0..MOST_HOSTS {
+        for number in 0..most.min(MOST_HOSTS) {
             let of_writers = next_of(self.writer_duty(number), from, least);
             least = next_of(self.reader_duty(number), from, of_writers);
             if is_least(least, from) {
@@ -151,7 +153,7 @@ impl Store {
             (λ world. driven world (round_of world)) OfDrive }
     {
         let mut next = 0;
-        while let Some(stream) = self.next_served(next) {
+        while let Some(stream) = self.next_served(hosts, next) {
             self.drive_stream(hosts, stream)?;
             next = stream + 1;
         }

@@ -1,6 +1,6 @@
 use Rattle.std.proofs.Common.{◌≡◌, ◌<◌, ◌^◌, drop}
 use Rattle.strm_lines.specs.Reading.{read_to}
-use Rattle.strm_lines.proofs.words.leading_number.Given as goal
+use Rattle.strm_lines.proofs.words.leading_any_number.Given as goal
 
 abbrev pub invariant-loop-k : goal.invariant-loop-k
 invariant-loop-k l = record {

@@ -1,6 +1,6 @@
 use Rattle.std.proofs.Common.{◌≡◌, ◌<◌, ◌^◌, drop}
 use Rattle.strm_lines.specs.Reading.{digits_from}
-use Rattle.strm_lines.proofs.words.number.Given as goal
+use Rattle.strm_lines.proofs.words.any_number.Given as goal
 
 abbrev pub invariant-loop-byte : goal.invariant-loop-byte
 invariant-loop-byte l = record {
