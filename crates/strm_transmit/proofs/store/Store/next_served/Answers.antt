@@ -13,7 +13,7 @@ loop-number-preserved g c =
 pub returns-clause-next : goal.returns-clause-next
 returns-clause-next g c =
     next_of_all c.args.self.now _ (rw (← c.self.view_is) c.self.invariant.served) c.requires.fits c.args.from c.max-most.result c.loop-number.number _
-    (omega (arith, c.count_writers.ensures, c.max-most.ensures)) (omega (arith, c.count_readers.ensures, c.max-most.ensures)) (omega (arith, c.min.ensures, c.loop-number-test.false)) c.loop-number.invariant
+    (omega (arith, c.count_writers.ensures, c.max-most.ensures)) (omega (arith, c.count_readers.ensures, c.max-most.ensures)) (omega (arith, c.min-number-end.ensures, c.loop-number-test.false)) c.loop-number.invariant
 
 pub returns-then-is_least-clause-next : goal.returns-then-is_least-clause-next
 returns-then-is_least-clause-next g c =
