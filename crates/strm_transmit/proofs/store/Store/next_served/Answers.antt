@@ -1,4 +1,4 @@
-use Rattle.std.proofs.Common.{◌+◌, sym, arith}
+use Rattle.std.proofs.Common.{◌+◌, arith}
 use Rattle.strm_transmit.proofs.NextLemmas.{next_none, next_both, next_first, next_of_all}
 use Rattle.strm_transmit.proofs.store.Store.next_served.Goals as goal
 
