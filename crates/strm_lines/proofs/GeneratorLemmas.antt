@@ -1,5 +1,5 @@
 -- The steps that are drawn, one by one, and how many they are.
-use Rattle.std.proofs.Common.{◌≡◌, ◌≤◌, ℕ, zero, suc, ◌+◌, ◌-◌, ◌%◌, ◌^◌, List, [], ◌∷◌, ◌++◌, length, length-append, drop, refl, ap, ◌∙◌, arith}
+use Rattle.std.proofs.Common.{◌≡◌, ◌≤◌, ℕ, zero, suc, ◌+◌, ◌-◌, ◌%◌, ◌^◌, [], ◌∷◌, ◌++◌, length, length-append, drop, refl, ap, ◌∙◌, arith}
 use Rattle.std.proofs.lemmas.List.{drop_all, length-drop}
 use Rattle.strm_machine.specs.declared.steps.Step.{Step}
 use Rattle.strm_lines.specs.Generator.{next_state, drawn, drawn_step, drawn_steps, first_steps, generated}
