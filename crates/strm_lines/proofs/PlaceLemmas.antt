@@ -21,13 +21,17 @@ module _ (test : ℕ → Bool) (hay : List ℕ) where
       by_test true t others e = absurd cc
       by_test false f others e = nowhere_more i (i + suc n) f (λ k low high. others e k low (omega (arith, high)))
 
+  -- it is at this place, and at none of so many from the first on before that
+  abbrev pub IsFirstFrom : ℕ → ℕ → ℕ → Type 0
+  IsFirstFrom i n k = NoneBefore (Passes test hay) i (i + n) k × Passes test hay k
+
   -- the first that is listed
-  pub first_place : (i n k : ℕ) (rest : List ℕ) → places_from test hay i n ≡ k ∷ rest → NoneBefore (Passes test hay) i (i + n) k × Passes test hay k
+  pub first_place : (i n k : ℕ) (rest : List ℕ) → places_from test hay i n ≡ k ∷ rest → IsFirstFrom i n k
   unfolding places_from
   first_place i zero k rest e = absurd cc
   first_place i (suc n) k rest e = by_test (test (get_or hay i 0)) refl (first_place (i + 1) n k rest) e
     where
-      by_test : (b : Bool) → test (get_or hay i 0) ≡ b → (places_from test hay (i + 1) n ≡ k ∷ rest → NoneBefore (Passes test hay) (i + 1) (i + 1 + n) k × Passes test hay k) → cond b (i ∷ places_from test hay (i + 1) n) (places_from test hay (i + 1) n) ≡ k ∷ rest → NoneBefore (Passes test hay) i (i + suc n) k × Passes test hay k
+      by_test : (b : Bool) → test (get_or hay i 0) ≡ b → (places_from test hay (i + 1) n ≡ k ∷ rest → IsFirstFrom (i + 1) n k) → cond b (i ∷ places_from test hay (i + 1) n) (places_from test hay (i + 1) n) ≡ k ∷ rest → IsFirstFrom i (suc n) k
       by_test true t others e =
           let same : i ≡ k = cc in
           (record { low = omega (arith, same); high = omega (arith, same); before = λ m low high p. omega (arith, low, high, same) }, subst (Passes test hay) same t)
