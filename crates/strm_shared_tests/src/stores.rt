@@ -22,9 +22,10 @@ pub(crate) type Answer = Result<Reply, SharedError>;
 
 pub(crate) const STREAM: TransmitIndex = TransmitIndex::Stream(Payload::One(Scalar::U8));
 
+/// As many as a store may have at all: what a call takes grows with what is there, and not with these.
 pub(crate) const LIMITS: Limits = Limits {
-    handles: 64,
-    places: 64,
+    handles: 1_000_000_000,
+    places: 4_294_967_295,
 };
 
 /// How often a thread looks for another before the test fails.
