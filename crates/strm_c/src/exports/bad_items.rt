@@ -2,7 +2,7 @@
 //!
 //! Source: Canonical ABI, `load` of a char, which traps. Ours: the call.
 
-ghost use Rattle.std.specs.Prelude.{◌≡◌, ◌≢◌, Option, Some, None};
+ghost use Rattle.std.specs.Prelude.{◌≡◌};
 ghost use Rattle.strm_c.specs.BadItems.{item_in, side_of_word, TellsBadItem};
 ghost use Rattle.strm_c.specs.Payloads.{type_at};
 ghost use Rattle.strm_transmit.specs.BadItems.{step_of};
