@@ -378,8 +378,8 @@ STRM_ANSWER strm_future_drop_readable(
 
 /* Puts the item at `out` at which a read (`side` is STRM_SIDE_READING) or a write (any other `side`) with these
    arguments stops: the guest that writes it, its handle of the write end, and the item's place among all items of
-   that write, from 0. It is asked after a call that answered STRM_BAD_ITEM, with that call's arguments; of a future
-   `count` is not looked at. STRM_NO_BAD_ITEM where that call would not stop at one. STRM_UNKNOWN_PAYLOAD. */
+   that write, from 0. So whoever is told of a bad item asks whose it is, with the arguments of that call; of a
+   future `count` is not looked at. STRM_NO_BAD_ITEM where it would stop at none. STRM_UNKNOWN_PAYLOAD. */
 STRM_ANSWER strm_find_bad_item(
     const strm_store *store, uint32_t side, uint32_t guest, strm_type type, uint32_t handle, uint32_t address, uint32_t count, strm_bad_item *out);
 

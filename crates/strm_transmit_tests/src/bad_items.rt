@@ -31,11 +31,15 @@ fn found(store: &GuestStore, end: End, count: u32) -> Told {
     }
 }
 
+fn pokes(store: &mut GuestStore, guest: u32, address: u32, bytes: [u8; 4]) -> Told {
+    done(store.write_memory(guest, address, &bytes))
+}
+
 fn answer(store: &mut GuestStore, call: &Call) -> Told {
     match *call {
         Call::Guest(size) => number(store.add_guest(size)),
         Call::Between(writer, reader, ty) => pair(store.new_between(writer, reader, index_of(ty))),
-        Call::Poke(guest, address, bytes) => done(store.write_memory(guest, address, &bytes)),
+        Call::Poke(guest, address, bytes) => pokes(store, guest, address, bytes),
         Call::ReadChars(end, address, count) => {
             operated(store.stream_read(end.0, CHARS, end.1, address, count))
         }

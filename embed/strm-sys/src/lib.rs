@@ -393,9 +393,8 @@ unsafe extern "C" {
     pub fn strm_future_drop_readable(store: *mut StoreHandle, guest: u32, payload: u64, handle: u32) -> u32;
     /// Puts the item at `out` at which a read (`side` is STRM_SIDE_READING) or a write (any other `side`) with
     /// these arguments stops: the guest that writes it, its handle of the write end, and the item's place among
-    /// all items of that write, from 0. It is asked after a call that answered BAD_ITEM, with that call's
-    /// arguments; of a future `count` is not looked at. NO_BAD_ITEM where that call would not stop at one.
-    /// UNKNOWN_PAYLOAD.
+    /// all items of that write, from 0. So whoever is told of a bad item asks whose it is, with the arguments of
+    /// that call; of a future `count` is not looked at. NO_BAD_ITEM where it would stop at none. UNKNOWN_PAYLOAD.
     pub fn strm_find_bad_item(store: *mut StoreHandle, side: u32, guest: u32, ty: u64, handle: u32, address: u32, count: u32, out: &mut BadItem) -> u32;
     /// Makes a stream or future from one guest to another, which may be the same, and puts the handles of its
     /// ends and its number at `out`, as strm_stream_new does. Refused: UnknownGuest, IndexOverflow, HandleLimit,

@@ -50,9 +50,8 @@ fn found(item: BadItem, out: &mut StrmBadItem)
 
 /// Puts the item at `out` at which a read (`side` is STRM_SIDE_READING) or a write (any other `side`) with
 /// these arguments stops: the guest that writes it, its handle of the write end, and the item's place among
-/// all items of that write, from 0. It is asked after a call that answered BAD_ITEM, with that call's
-/// arguments; of a future `count` is not looked at. NO_BAD_ITEM where that call would not stop at one.
-/// UNKNOWN_PAYLOAD.
+/// all items of that write, from 0. So whoever is told of a bad item asks whose it is, with the arguments of
+/// that call; of a future `count` is not looked at. NO_BAD_ITEM where it would stop at none. UNKNOWN_PAYLOAD.
 #[unsafe(no_mangle)]
 pub extern "C" fn strm_find_bad_item(
     store: &mut StoreHandle,
