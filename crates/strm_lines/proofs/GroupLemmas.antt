@@ -10,6 +10,10 @@ Begin a commands = (line : List ℕ) → get_or line 0 0 ≡ a → read_by often
 abbrev BeginBoth : ℕ → ℕ → List Command → Type 0
 BeginBoth a b commands = (line : List ℕ) → get_or line 0 0 ≡ a → get_or line 1 0 ≡ b → read_by often line ≡ read_by commands line
 
+-- and with this third one
+abbrev BeginAll : ℕ → ℕ → ℕ → List Command → Type 0
+BeginAll a b c commands = (line : List ℕ) → get_or line 0 0 ≡ a → get_or line 1 0 ≡ b → get_or line 2 0 ≡ c → read_by often line ≡ read_by commands line
+
 pub begins_c : Begin 99 ending
 unfolding behind often touching making opening pairing ending moving hosting gathering explaining
 begins_c [] e = absurd (omega (arith, e))
@@ -68,6 +72,17 @@ begins_dr (x ∷ y ∷ line) e f =
     let first : x ≡ 100 = e in
     let second : y ≡ 114 = f in
     rw (first, second) refl
+
+pub begins_dri : BeginAll 100 114 105 hosting
+unfolding behind often touching making opening pairing ending moving hosting gathering explaining
+begins_dri [] e f g = absurd (omega (arith, e))
+begins_dri (x ∷ []) e f g = absurd (omega (arith, f))
+begins_dri (x ∷ y ∷ []) e f g = absurd (omega (arith, g))
+begins_dri (x ∷ y ∷ z ∷ line) e f g =
+    let first : x ≡ 100 = e in
+    let second : y ≡ 114 = f in
+    let third : z ≡ 105 = g in
+    rw (first, second, third) refl
 
 pub begins_er : BeginBoth 101 114 explaining
 unfolding behind often touching making opening pairing ending moving hosting gathering explaining

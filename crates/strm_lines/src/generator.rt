@@ -82,17 +82,17 @@ impl GivesSteps for Drawn {
         4usize.saturating_sub(self.begun as usize) + self.count as usize
     }
 
-    fn next(&mut self) -> Step {
+    fn put_next(&mut self, step: &mut Step) {
         if self.begun < 4 {
-            let step = first_step(self.begun);
+            *step = first_step(self.begun);
             self.begun += 1;
-            return step;
+            return;
         }
         let first = self.draws.draw();
         let second = self.draws.draw();
         let third = self.draws.draw();
         self.count -= 1;
-        drawn_step(first, second, third)
+        *step = drawn_step(first, second, third);
     }
 }
 

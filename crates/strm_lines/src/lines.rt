@@ -40,16 +40,19 @@ fn byte_at(line: &[u8], place: usize) -> u8
     if place < line.len() { line[place] } else { 0 }
 }
 
-// Commands among which a line's own is, if it has one, by its first two bytes.
+// Commands among which a line's own is, if it has one, by its first bytes.
 #[inline(always)]
-#[tactic(auto, using(crate::proofs::GroupLemmas::begins_c, crate::proofs::GroupLemmas::begins_dr, crate::proofs::GroupLemmas::begins_d, crate::proofs::GroupLemmas::begins_er, crate::proofs::GroupLemmas::begins_f, crate::proofs::GroupLemmas::begins_h, crate::proofs::GroupLemmas::begins_g, crate::proofs::GroupLemmas::begins_n, crate::proofs::GroupLemmas::begins_l, crate::proofs::GroupLemmas::begins_m, crate::proofs::GroupLemmas::begins_pa, crate::proofs::GroupLemmas::begins_pi, crate::proofs::GroupLemmas::begins_p, crate::proofs::GroupLemmas::begins_s))]
+#[tactic(auto, using(crate::proofs::GroupLemmas::begins_c, crate::proofs::GroupLemmas::begins_dri, crate::proofs::GroupLemmas::begins_dr, crate::proofs::GroupLemmas::begins_d, crate::proofs::GroupLemmas::begins_er, crate::proofs::GroupLemmas::begins_f, crate::proofs::GroupLemmas::begins_h, crate::proofs::GroupLemmas::begins_g, crate::proofs::GroupLemmas::begins_n, crate::proofs::GroupLemmas::begins_l, crate::proofs::GroupLemmas::begins_m, crate::proofs::GroupLemmas::begins_pa, crate::proofs::GroupLemmas::begins_pi, crate::proofs::GroupLemmas::begins_p, crate::proofs::GroupLemmas::begins_s))]
 fn group_of(line: &[u8]) -> Group
     ensures { read_by often line.now ≡ read_by (commands_of result) line.now }
 {
     match byte_at(line, 0) {
         b'c' => Group::Ending,
         b'd' => match byte_at(line, 1) {
-            b'r' => Group::Ending,
+            b'r' => match byte_at(line, 2) {
+                b'i' => Group::Hosting,
+                _ => Group::Ending,
+            },
             _ => Group::Touching,
         },
         b'e' => match byte_at(line, 1) {

@@ -84,8 +84,10 @@ impl Steps {
     {
         let mut steps = Steps::new(alloc);
         steps.reserve(given.len())?;
+        let mut step = Step::Drive;
         for _ in 0..given.len() {
-            steps.push(given.next())?;
+            given.put_next(&mut step);
+            steps.push(step)?;
         }
         Ok(steps)
     }
@@ -172,12 +174,12 @@ impl GivesSteps for StepsLeft<'_> {
         self.steps.len()
     }
 
-    fn next(&mut self) -> Step {
+    fn put_next(&mut self, step: &mut Step) {
         let Some((first, rest)) = self.steps.split_first() else {
             unreachable!()
         };
         self.steps = rest;
-        *first
+        *step = *first;
     }
 }
 

@@ -42,10 +42,10 @@ pub trait GivesSteps {
     fn len(&self) -> usize
         ensures { result ≡ length (left self.now) };
 
-    /// The next step.
-    fn next(&mut self) -> Step
+    /// Puts the next step into a place: a step is long, and is not moved.
+    fn put_next(&mut self, step: &mut Step)
         requires { 0 < length (left self.old) }
-        ensures { left self.old ≡ result ∷ left self.new };
+        ensures { left self.old ≡ step.new ∷ left self.new };
 }
 
 /// Keeps the replies of a run, one by one, in a form of its own.

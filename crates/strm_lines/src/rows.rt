@@ -153,14 +153,51 @@ fn find_chunk(chunks: &[Chunk], place: usize) -> Chunk
     }
 }
 
-// The step of a row, with its chunk.
+// Puts the step of a row into its place, arm by arm: a step that all arms make would be made elsewhere, of parts,
+// and moved. The arms of what has a chunk stand behind the others.
+macro_rules! put_same_step {
+    ($row:expr, $step:ident, $($with_chunk:tt)*) => {
+        match $row {
+            ShortStep::Guest { size } => *$step = Step::Guest { size },
+            ShortStep::New { guest, ty } => *$step = Step::New { guest, ty },
+            ShortStep::Between { writer, reader, ty } => *$step = Step::Between { writer, reader, ty },
+            ShortStep::Write { guest, ty, handle, address, count } => *$step = Step::Write { guest, ty, handle, address, count },
+            ShortStep::Read { guest, ty, handle, address, count } => *$step = Step::Read { guest, ty, handle, address, count },
+            ShortStep::DropWrite { guest, ty, handle } => *$step = Step::DropWrite { guest, ty, handle },
+            ShortStep::DropRead { guest, ty, handle } => *$step = Step::DropRead { guest, ty, handle },
+            ShortStep::CancelWrite { guest, ty, handle } => *$step = Step::CancelWrite { guest, ty, handle },
+            ShortStep::CancelRead { guest, ty, handle } => *$step = Step::CancelRead { guest, ty, handle },
+            ShortStep::Move { guest, ty, handle, to } => *$step = Step::Move { guest, ty, handle, to },
+            ShortStep::Lift { guest, ty, handle } => *$step = Step::Lift { guest, ty, handle },
+            ShortStep::Lower { reader, guest, ty } => *$step = Step::Lower { reader, guest, ty },
+            ShortStep::Close { reader } => *$step = Step::Close { reader },
+            ShortStep::HostNew { host } => *$step = Step::HostNew { host },
+            ShortStep::Pipe { reader, host } => *$step = Step::Pipe { reader, host },
+            ShortStep::Grant { host, count } => *$step = Step::Grant { host, count },
+            ShortStep::Drive => *$step = Step::Drive,
+            ShortStep::Event { guest, handle } => *$step = Step::Event { guest, handle },
+            ShortStep::SetNew { guest } => *$step = Step::SetNew { guest },
+            ShortStep::SetJoin { guest, set, handle } => *$step = Step::SetJoin { guest, set, handle },
+            ShortStep::SetPoll { guest, set } => *$step = Step::SetPoll { guest, set },
+            ShortStep::SetDrop { guest, set } => *$step = Step::SetDrop { guest, set },
+            ShortStep::ErrNew { guest, address, len } => *$step = Step::ErrNew { guest, address, len },
+            ShortStep::ErrText { guest, handle, address } => *$step = Step::ErrText { guest, handle, address },
+            ShortStep::ErrMove { guest, handle, to } => *$step = Step::ErrMove { guest, handle, to },
+            ShortStep::ErrDrop { guest, handle } => *$step = Step::ErrDrop { guest, handle },
+            ShortStep::Dump { guest, address, len } => *$step = Step::Dump { guest, address, len },
+            $($with_chunk)*
+        }
+    };
+}
+
+// Puts the step of a row into its place, with its chunk.
 #[inline(always)]
-fn step_of(chunks: &[Chunk], row: &ShortStep) -> Step
-    ensures { result ≡ whole_step chunks.now row.now }
+fn put_step(chunks: &[Chunk], row: &ShortStep, step: &mut Step)
+    ensures { step.new ≡ whole_step chunks.now row.now }
 {
-    same_step!(*row, ShortStep => Step,
-        ShortStep::Feed { host, bytes } => Step::Feed { host, bytes: find_chunk(chunks, bytes) },
-        ShortStep::Poke { guest, address, bytes } => Step::Poke { guest, address, bytes: find_chunk(chunks, bytes) },
+    put_same_step!(*row, step,
+        ShortStep::Feed { host, bytes } => *step = Step::Feed { host, bytes: find_chunk(chunks, bytes) },
+        ShortStep::Poke { guest, address, bytes } => *step = Step::Poke { guest, address, bytes: find_chunk(chunks, bytes) },
     )
 }
 
@@ -173,11 +210,11 @@ impl GivesSteps for RowsLeft<'_> {
     }
 
     #[inline(always)]
-    fn next(&mut self) -> Step {
+    fn put_next(&mut self, step: &mut Step) {
         let Some((first, rest)) = self.rows.split_first() else {
             unreachable!()
         };
         self.rows = rest;
-        step_of(self.chunks, first)
+        put_step(self.chunks, first, step);
     }
 }

@@ -59,6 +59,11 @@ impl Tail {
         ensures text { self.new ≡ decimal number ++ self.old }
         ensures short { length self.new ≤ 20 + length self.old }
     {
+        // Most have one digit.
+        if number < 10 {
+            self.put(&[b'0' + number as u8]);
+            return;
+        }
         self.start = write_digits(number, &mut self.bytes, self.start);
     }
 

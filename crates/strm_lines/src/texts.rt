@@ -88,6 +88,10 @@ fn push_number_line(out: &mut TextBytes, number: u32) -> Result<(), OutOfMemory>
     ensures ok { OnOk result (out.new ≡ out.old ++ line_ended (decimal number)) }
     ensures err { OnErr result (out.new ≡ out.old) }
 {
+    // Most have one digit.
+    if number < 10 {
+        return out.push_slice(&[b'0' + number as u8, b'\n']);
+    }
     let mut line = Tail::new();
     line.put_number(u64::from(number));
     out.push_slice(line.as_slice())

@@ -99,8 +99,9 @@ fn play_steps<L: GivesSteps, R: KeepsReplies, H: HostEnds>(
         (L.left steps.old) told store.new result }
 {
     laws_hold_among();
+    let mut step = Step::Drive;
     for _ in 0..steps.len() {
-        let step = steps.next();
+        steps.put_next(&mut step);
         sound(&step);
         let _reply = step_once(store, hosts, replies, &step)?;
     }

@@ -1,6 +1,6 @@
 use Rattle.std.proofs.Common.{◌≡◌, suc, ◌-◌, length, sym, ap, ◌∙◌, arith}
 use Rattle.strm_lines.proofs.GeneratorLemmas.{Draws, length-left, drawn-next}
-use Rattle.strm_lines.proofs.generator.DrawnGivesSteps.next.Goals as goal
+use Rattle.strm_lines.proofs.generator.DrawnGivesSteps.put_next.Goals as goal
 
 pub overflow_sub-self : goal.overflow_sub-self
 overflow_sub-self c =
