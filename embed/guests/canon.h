@@ -1,25 +1,27 @@
-/* What a guest calls: the built-ins of the Canonical ABI under its names, for streams of bytes and futures
-   of u32, and the codes by which an async function that has a callback says how it goes on. */
+/* What a guest calls: the built-ins of the Canonical ABI under its names, and the codes by which an async function
+   that has a callback says how it goes on. */
 #include <stdint.h>
 
 #define IMPORT(name) __attribute__((import_module("canon"), import_name(name)))
 #define EXPORT(name) __attribute__((export_name(name)))
 
-/* Handles of a new stream or future: the read end in the low half, the write end in the high one. */
-IMPORT("stream.new") uint64_t stream_new(void);
-IMPORT("stream.read") uint32_t stream_read(uint32_t handle, void *at, uint32_t count);
-IMPORT("stream.write") uint32_t stream_write(uint32_t handle, const void *at, uint32_t count);
-IMPORT("stream.cancel-read") uint32_t stream_cancel_read(uint32_t handle);
-IMPORT("stream.cancel-write") uint32_t stream_cancel_write(uint32_t handle);
-IMPORT("stream.drop-readable") void stream_drop_readable(uint32_t handle);
-IMPORT("stream.drop-writable") void stream_drop_writable(uint32_t handle);
-IMPORT("future.new") uint64_t future_new(void);
-IMPORT("future.read") uint32_t future_read(uint32_t handle, void *at);
-IMPORT("future.write") uint32_t future_write(uint32_t handle, const void *at);
-IMPORT("future.cancel-read") uint32_t future_cancel_read(uint32_t handle);
-IMPORT("future.cancel-write") uint32_t future_cancel_write(uint32_t handle);
-IMPORT("future.drop-readable") void future_drop_readable(uint32_t handle);
-IMPORT("future.drop-writable") void future_drop_writable(uint32_t handle);
+/* The built-ins of streams, or of futures, of T: a name that guest and embedder agree on, as u8. The new one's
+   handles are the read end's in the low half, and the write end's in the high one. */
+#define ENDS_OF(kind, T)                                                                    \
+    IMPORT(#kind "<" #T ">.new") uint64_t kind##_##T##_new(void);                           \
+    IMPORT(#kind "<" #T ">.cancel-read") uint32_t kind##_##T##_cancel_read(uint32_t);       \
+    IMPORT(#kind "<" #T ">.cancel-write") uint32_t kind##_##T##_cancel_write(uint32_t);     \
+    IMPORT(#kind "<" #T ">.drop-readable") void kind##_##T##_drop_readable(uint32_t);       \
+    IMPORT(#kind "<" #T ">.drop-writable") void kind##_##T##_drop_writable(uint32_t);
+#define STREAM_OF(T)                                                                                            \
+    ENDS_OF(stream, T)                                                                                          \
+    IMPORT("stream<" #T ">.read") uint32_t stream_##T##_read(uint32_t handle, void *at, uint32_t count);        \
+    IMPORT("stream<" #T ">.write") uint32_t stream_##T##_write(uint32_t handle, const void *at, uint32_t count);
+#define FUTURE_OF(T)                                                                          \
+    ENDS_OF(future, T)                                                                        \
+    IMPORT("future<" #T ">.read") uint32_t future_##T##_read(uint32_t handle, void *at);      \
+    IMPORT("future<" #T ">.write") uint32_t future_##T##_write(uint32_t handle, const void *at);
+
 IMPORT("waitable-set.new") uint32_t waitable_set_new(void);
 IMPORT("waitable.join") void waitable_join(uint32_t handle, uint32_t set);
 /* Answers the event's code, and puts the end's handle and what it is told at `at`. */

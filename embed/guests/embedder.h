@@ -1,53 +1,43 @@
-/* A small embedder of WebAssembly guests that share streams: copy it and change it.
+/* A small embedder of WebAssembly guests that share streams, for any engine: it is taken as it is.
 
-   A guest is a module that wasm2c made into C. Its linear memory is the memory that the store has of it, so
-   nothing is copied on the way. What it imports from "canon" are the built-ins of canon.h, each one call of
-   the store; one that is refused traps the guest, as a runtime's does, and nothing else. It is run as an
-   async function with a callback: `run`, and then `callback` for each event of the set that it waits for. */
+   A guest is run as an async function with a callback: `run`, and then `callback` for each event of the set that it
+   waits for. Once it ends or traps it has given up all that it had, and the other guests are told. How a guest is
+   entered is its engine's: wasm2c.h has one whose memories are the store's, and copies.h what an engine needs that
+   has its own. */
 #ifndef EMBEDDER_H
 #define EMBEDDER_H
 #include <stdbool.h>
 #include <stdint.h>
-#include <wasm-rt.h>
 
 #include "strm.h"
+#ifdef __cplusplus
+extern "C" {
+#endif
 
-/* The bytes of each guest's memory: four pages. */
-#define MEMORY 262144u
+typedef struct guest guest;
 
-/* What the guest's imports are handed. */
-struct Z_canon_instance_t {
+/* What an engine does. The first two enter a guest, put what it answers at `answer`, and tell whether it came back,
+   as one that traps does not. The third, which may be NULL, hears of each event that a guest gets, and before it. */
+typedef struct {
+    bool (*run)(guest *guest, uint32_t in, uint32_t out, uint32_t size, uint32_t *answer);
+    bool (*callback)(guest *guest, uint32_t event, uint32_t handle, uint32_t code, uint32_t *answer);
+    void (*settle)(guest *guest, uint32_t handle, uint32_t code);
+} engine;
+
+typedef enum { GUEST_RUNS, GUEST_ENDED, GUEST_TRAPPED } guest_state;
+
+struct guest {
+    const engine *engine;
     strm_store *store;
     uint32_t number;
-    /* Why the guest trapped, if a refusal did it. */
-    strm_status refused;
-};
-
-struct Z_env_instance_t {
-    wasm_rt_memory_t memory;
-};
-
-/* How a module is made and run. */
-typedef struct {
-    void *(*make)(struct Z_canon_instance_t *, struct Z_env_instance_t *);
-    void (*unmake)(void *);
-    uint32_t (*run)(void *, uint32_t in, uint32_t out, uint32_t size);
-    uint32_t (*callback)(void *, uint32_t event, uint32_t handle, uint32_t code);
-} program;
-
-typedef struct {
-    struct Z_canon_instance_t canon;
-    struct Z_env_instance_t env;
-    const program *program;
-    void *instance;
     /* What it said last: how it goes on. */
     uint32_t answer;
-    bool trapped;
-} guest;
-
-/* Adds a guest to a store; NULL where there is no memory for it. */
-guest *guest_new(strm_store *store, const program *program);
-void guest_free(guest *guest);
+    guest_state state;
+    /* Why it trapped, if a refusal did it. */
+    strm_status refused;
+    /* How many handles it could not give up: of write ends of futures that owe their value. */
+    uint32_t owed;
+};
 
 /* Calls `run`, with an end to read and one to write, 0 for none. */
 void guest_run(guest *guest, uint32_t in, uint32_t out, uint32_t size);
@@ -55,6 +45,14 @@ void guest_run(guest *guest, uint32_t in, uint32_t out, uint32_t size);
 /* Gives the guest a turn, if it has one: it asked for it, or its set has an event. */
 bool guest_turn(guest *guest);
 
-/* Whether it is done, or trapped. */
-bool guest_is_over(const guest *guest);
+/* Gives up all that a guest has, which is not entered any more: what it had under way is cancelled, and what it had
+   moved stays moved. It is done as soon as a guest ends or traps; an embedder does it too to stop one. */
+void guest_end(guest *guest, guest_state state);
+
+/* `waitable-set.poll` of a guest: an event's code, and where there is one the end's handle and what it is told. */
+strm_status guest_poll(guest *guest, uint32_t set, uint32_t *event, uint32_t told[2]);
+
+#ifdef __cplusplus
+}
+#endif
 #endif

@@ -1,6 +1,8 @@
 /* Reads pieces, makes their letters upper case, and writes them on. */
 #include "canon.h"
 
+STREAM_OF(u8)
+
 static unsigned char piece[65536];
 static uint32_t in, out, set, have, sent, reading, writing, ended;
 
@@ -30,7 +32,7 @@ static uint32_t go_on(void) {
     for (;;) {
         while (sent < have) {
             if (writing) return WAIT_FOR(set);
-            uint32_t code = stream_write(out, piece + sent, have - sent);
+            uint32_t code = stream_u8_write(out, piece + sent, have - sent);
             if (code == BLOCKED)
                 writing = 1;
             else
@@ -38,15 +40,15 @@ static uint32_t go_on(void) {
         }
         if (ended) break;
         if (reading) return WAIT_FOR(set);
-        uint32_t code = stream_read(in, piece, sizeof piece);
+        uint32_t code = stream_u8_read(in, piece, sizeof piece);
         if (code == BLOCKED)
             reading = 1;
         else
             got(code);
     }
-    if (reading) stream_cancel_read(in);
-    stream_drop_readable(in);
-    stream_drop_writable(out);
+    if (reading) stream_u8_cancel_read(in);
+    stream_u8_drop_readable(in);
+    stream_u8_drop_writable(out);
     return EXIT;
 }
 

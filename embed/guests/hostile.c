@@ -3,6 +3,9 @@
    it is let. */
 #include "canon.h"
 
+STREAM_OF(u8)
+FUTURE_OF(u32)
+
 static uint32_t seed = 1;
 
 static uint32_t draw(void) {
@@ -32,20 +35,20 @@ static void grow(uint32_t pages) {
 EXPORT("attack") void attack(void) {
     uint32_t a = number(), b = number(), c = number();
     switch (draw() % 22) {
-    case 0: stream_new(); break;
-    case 1: stream_read(a, (void *)b, c); break;
-    case 2: stream_write(a, (void *)b, c); break;
-    case 3: stream_cancel_read(a); break;
-    case 4: stream_cancel_write(a); break;
-    case 5: stream_drop_readable(a); break;
-    case 6: stream_drop_writable(a); break;
-    case 7: future_new(); break;
-    case 8: future_read(a, (void *)b); break;
-    case 9: future_write(a, (void *)b); break;
-    case 10: future_cancel_read(a); break;
-    case 11: future_cancel_write(a); break;
-    case 12: future_drop_readable(a); break;
-    case 13: future_drop_writable(a); break;
+    case 0: stream_u8_new(); break;
+    case 1: stream_u8_read(a, (void *)b, c); break;
+    case 2: stream_u8_write(a, (void *)b, c); break;
+    case 3: stream_u8_cancel_read(a); break;
+    case 4: stream_u8_cancel_write(a); break;
+    case 5: stream_u8_drop_readable(a); break;
+    case 6: stream_u8_drop_writable(a); break;
+    case 7: future_u32_new(); break;
+    case 8: future_u32_read(a, (void *)b); break;
+    case 9: future_u32_write(a, (void *)b); break;
+    case 10: future_u32_cancel_read(a); break;
+    case 11: future_u32_cancel_write(a); break;
+    case 12: future_u32_drop_readable(a); break;
+    case 13: future_u32_drop_writable(a); break;
     case 14: waitable_set_new(); break;
     case 15: waitable_join(a, b); break;
     case 16: waitable_set_poll(a, (uint32_t *)b); break;
@@ -61,8 +64,8 @@ EXPORT("wrong") uint32_t get_wrong(void) { return wrong; }
 
 EXPORT("flood") void flood(uint32_t rounds) {
     for (; rounds > 0; rounds--) {
-        uint64_t ends = stream_new();
-        stream_drop_writable((uint32_t)(ends >> 32));
-        stream_drop_readable((uint32_t)ends);
+        uint64_t ends = stream_u8_new();
+        stream_u8_drop_writable((uint32_t)(ends >> 32));
+        stream_u8_drop_readable((uint32_t)ends);
     }
 }

@@ -1,6 +1,8 @@
 /* Reads pieces until the writer is gone, and keeps their number, a hash of all bytes, and the first of them. */
 #include "canon.h"
 
+STREAM_OF(u8)
+
 static unsigned char piece[65536], first[4096];
 static uint32_t in, set, total, hash, ended;
 
@@ -15,11 +17,11 @@ static void got(uint32_t code) {
 
 static uint32_t go_on(void) {
     while (!ended) {
-        uint32_t code = stream_read(in, piece, sizeof piece);
+        uint32_t code = stream_u8_read(in, piece, sizeof piece);
         if (code == BLOCKED) return WAIT_FOR(set);
         got(code);
     }
-    stream_drop_readable(in);
+    stream_u8_drop_readable(in);
     return EXIT;
 }
 

@@ -1,6 +1,8 @@
 /* Writes so many bytes of a text that repeats, in pieces, and then drops its end. */
 #include "canon.h"
 
+STREAM_OF(u8)
+
 static const char text[] = "a count reported is a count moved\n";
 static char piece[65536 + sizeof text];
 static uint32_t out, set, left, at;
@@ -13,11 +15,11 @@ static void moved(uint32_t code) {
 static uint32_t go_on(void) {
     while (left > 0) {
         uint32_t count = left < 65536 ? left : 65536;
-        uint32_t code = stream_write(out, piece + at, count);
+        uint32_t code = stream_u8_write(out, piece + at, count);
         if (code == BLOCKED) return WAIT_FOR(set);
         moved(code);
     }
-    stream_drop_writable(out);
+    stream_u8_drop_writable(out);
     return EXIT;
 }
 

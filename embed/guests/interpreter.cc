@@ -1,0 +1,311 @@
+/* The same guests under an engine that takes no memory of another's, wabt's interpreter:
+
+     interpreter line BYTES SOURCE.wasm FILTER.wasm SINK.wasm HOSTILE.wasm
+     interpreter samples COUNT METER.wasm TALLY.wasm
+
+   The first passes so many bytes on through a line of three, beside a guest that calls all it can at random. */
+#include <wabt/binary-reader.h>
+#include <wabt/interp/binary-reader-interp.h>
+#include <wabt/interp/interp.h>
+
+#include <cstdio>
+#include <cstdlib>
+#include <fstream>
+#include <functional>
+#include <iterator>
+#include <map>
+#include <memory>
+#include <string>
+#include <vector>
+
+#include "buffered.h"
+
+namespace interp = wabt::interp;
+
+namespace {
+
+void must(bool holds, const std::string &what) {
+    if (holds) return;
+    std::fprintf(stderr, "interpreter: %s\n", what.c_str());
+    std::exit(1);
+}
+
+/* THE BUILT-INS: of how many words each is, how many it answers, and its call of the store. */
+
+struct Builtin {
+    size_t params, results;
+    std::function<strm_status(buffered_guest *, const uint32_t *words, uint32_t *out)> call;
+};
+
+strm_status make_ends(guest *g, strm_type type, uint32_t *out) {
+    strm_pair pair{};
+    strm_payload payload = type & ~STRM_FUTURE;
+    strm_status status = (type & STRM_FUTURE ? strm_future_new : strm_stream_new)(g->store, g->number, payload, &pair);
+    out[0] = pair.read;
+    out[1] = pair.write;
+    return status;
+}
+
+/* Those of streams, or of futures, of a payload. */
+std::map<std::string, Builtin> builtins_of(strm_type type) {
+    bool is_future = (type & STRM_FUTURE) != 0;
+    strm_payload payload = type & ~STRM_FUTURE;
+    auto drop_readable = is_future ? strm_future_drop_readable : strm_stream_drop_readable;
+    auto drop_writable = is_future ? strm_future_drop_writable : strm_stream_drop_writable;
+    size_t operands = is_future ? 2 : 3;
+    return {
+        {"new", {0, 2, [=](auto *g, auto *, auto *out) { return make_ends(&g->base, type, out); }}},
+        {"read", {operands, 1, [=](auto *g, auto *w, auto *out) {
+             return buffered_read(g, type, w[0], w[1], is_future ? 1 : w[2], out);
+         }}},
+        {"write", {operands, 1, [=](auto *g, auto *w, auto *out) {
+             return buffered_write(g, type, w[0], w[1], is_future ? 1 : w[2], out);
+         }}},
+        {"cancel-read", {1, 1, [=](auto *g, auto *w, auto *out) { return buffered_cancel_read(g, type, w[0], out); }}},
+        {"cancel-write", {1, 1, [=](auto *g, auto *w, auto *out) { return buffered_cancel_write(g, type, w[0], out); }}},
+        {"drop-readable", {1, 0, [=](auto *g, auto *w, auto *) {
+             return drop_readable(g->base.store, g->base.number, payload, w[0]);
+         }}},
+        {"drop-writable", {1, 0, [=](auto *g, auto *w, auto *) {
+             return drop_writable(g->base.store, g->base.number, payload, w[0]);
+         }}},
+    };
+}
+
+const std::map<std::string, Builtin> other_builtins = {
+    {"waitable-set.new", {0, 1, [](auto *g, auto *, auto *out) {
+         return strm_set_new(g->base.store, g->base.number, out);
+     }}},
+    {"waitable-set.poll", {2, 1, [](auto *g, auto *w, auto *out) { return buffered_poll(g, w[0], w[1], out); }}},
+    {"waitable-set.drop", {1, 0, [](auto *g, auto *w, auto *) {
+         return strm_set_drop(g->base.store, g->base.number, w[0]);
+     }}},
+    {"waitable.join", {2, 0, [](auto *g, auto *w, auto *) {
+         return strm_set_join(g->base.store, g->base.number, w[1], w[0]);
+     }}},
+    {"error-context.new", {2, 1, [](auto *g, auto *w, auto *out) {
+         return buffered_error_context_new(g, w[0], w[1], out);
+     }}},
+    {"error-context.drop", {1, 0, [](auto *g, auto *w, auto *) {
+         return strm_error_context_drop(g->base.store, g->base.number, w[0]);
+     }}},
+};
+
+/* What guests call the payloads of their streams and futures. */
+const std::map<std::string, strm_payload> payloads = {
+    {"bool", STRM_BOOL}, {"s8", STRM_S8}, {"u8", STRM_U8}, {"s16", STRM_S16}, {"u16", STRM_U16}, {"s32", STRM_S32},
+    {"u32", STRM_U32}, {"s64", STRM_S64}, {"u64", STRM_U64}, {"char", STRM_CHAR},
+    {"sample", STRM_TUPLE | STRM_FIELD(0, STRM_U8) | STRM_FIELD(1, STRM_U32)},
+};
+
+/* The built-in of a name, as stream<u8>.read. */
+Builtin builtin(const std::string &name) {
+    size_t open = name.find('<'), close = name.find(">.");
+    if (close == std::string::npos) {
+        must(other_builtins.count(name) != 0, "no built-in " + name);
+        return other_builtins.at(name);
+    }
+    std::string kind = name.substr(0, open), item = name.substr(open + 1, close - open - 1), what = name.substr(close + 2);
+    must((kind == "stream" || kind == "future") && payloads.count(item) != 0, "no type of " + name);
+    auto builtins = builtins_of(payloads.at(item) | (kind == "future" ? STRM_FUTURE : 0));
+    must(builtins.count(what) != 0, "no built-in " + name);
+    return builtins.at(what);
+}
+
+/* GUESTS */
+
+/* A guest, and the module that it is of. */
+struct Instance : buffered_guest {
+    interp::Store *engine;
+    interp::Instance::Ptr instance;
+    interp::Memory::Ptr memory;
+    std::map<std::string, interp::Func::Ptr> functions;
+
+    /* Calls a function that it exports: whether it came back. */
+    bool call(const std::string &name, std::initializer_list<uint32_t> words, uint32_t *answer) {
+        interp::Values params, results;
+        interp::Trap::Ptr trap;
+        must(functions.count(name) != 0, "no function " + name);
+        for (uint32_t word : words) params.push_back(interp::Value::Make(word));
+        if (Failed(functions.at(name)->Call(*engine, params, results, &trap))) return false;
+        if (!results.empty()) *answer = results[0].Get<uint32_t>();
+        return true;
+    }
+};
+
+/* It begins with its guest. */
+Instance *instance_of(guest *guest) {
+    return static_cast<Instance *>(reinterpret_cast<buffered_guest *>(guest));
+}
+
+bool run(guest *guest, uint32_t in, uint32_t out, uint32_t size, uint32_t *answer) {
+    return instance_of(guest)->call("run", {in, out, size}, answer);
+}
+
+bool callback(guest *guest, uint32_t event, uint32_t handle, uint32_t code, uint32_t *answer) {
+    return instance_of(guest)->call("callback", {event, handle, code}, answer);
+}
+
+uint8_t *memory_of(guest *guest, size_t *len) {
+    interp::Memory::Ptr &memory = instance_of(guest)->memory;
+    *len = memory ? memory->ByteSize() : 0;
+    return memory ? memory->UnsafeData() : nullptr;
+}
+
+const engine interpreter = {run, callback, buffered_settle};
+
+/* What the engine calls for an import. What is refused traps the guest, and nothing else. */
+interp::HostFunc::Ptr import(Instance *guest, const std::string &name) {
+    Builtin of = builtin(name);
+    interp::ValueTypes params(of.params, wabt::Type::I32), results;
+    if (of.results > 0) results.push_back(of.results == 1 ? wabt::Type::I32 : wabt::Type::I64);
+    auto call = [guest, of](interp::Thread &thread, const interp::Values &given, interp::Values &answer, interp::Trap::Ptr *trap) {
+        uint32_t words[3] = {}, out[2] = {};
+        for (size_t k = 0; k < of.params; k++) words[k] = given[k].Get<uint32_t>();
+        strm_status status = of.call(guest, words, out);
+        if (status != STRM_DONE) {
+            guest->base.refused = status;
+            *trap = interp::Trap::New(thread.store(), strm_status_name(status));
+            return wabt::Result::Error;
+        }
+        if (of.results == 1) answer[0] = interp::Value::Make(out[0]);
+        if (of.results == 2) answer[0] = interp::Value::Make(out[0] | uint64_t{out[1]} << 32);
+        return wabt::Result::Ok;
+    };
+    return interp::HostFunc::New(*guest->engine, interp::FuncType(params, results), call);
+}
+
+interp::Module::Ptr read_module(interp::Store &engine, const std::string &path) {
+    std::ifstream file(path, std::ios::binary);
+    std::vector<char> bytes{std::istreambuf_iterator<char>(file), {}};
+    interp::ModuleDesc module;
+    wabt::Errors errors;
+    wabt::ReadBinaryOptions options;
+    bool is_read = Succeeded(interp::ReadBinaryInterp(path, bytes.data(), bytes.size(), options, &errors, &module));
+    must(is_read, "no module " + path);
+    return interp::Module::New(engine, module);
+}
+
+void keep_exports(Instance *guest, const interp::Module::Ptr &module) {
+    for (const interp::ExportDesc &exported : module->desc().exports) {
+        interp::Ref ref = guest->instance->exports()[&exported - module->desc().exports.data()];
+        if (exported.type.type->kind == interp::ExternKind::Func)
+            guest->functions[exported.type.name] = guest->engine->UnsafeGet<interp::Func>(ref);
+        else if (exported.type.name == "memory")
+            guest->memory = guest->engine->UnsafeGet<interp::Memory>(ref);
+    }
+}
+
+std::unique_ptr<Instance> make(interp::Store &engine, strm_store *store, const std::string &path) {
+    auto made = std::make_unique<Instance>();
+    made->engine = &engine;
+    must(buffered_new(made.get(), store, &interpreter, memory_of) == STRM_DONE, "no guest");
+    interp::Module::Ptr module = read_module(engine, path);
+    interp::RefVec imports;
+    std::vector<interp::HostFunc::Ptr> kept;
+    for (const interp::ImportDesc &wanted : module->desc().imports) {
+        must(wanted.type.module == "canon", "another import than of canon");
+        kept.push_back(import(made.get(), wanted.type.name));
+        imports.push_back(kept.back()->self());
+    }
+    interp::Trap::Ptr trap;
+    made->instance = interp::Instance::Instantiate(engine, module.ref(), imports, &trap);
+    must(static_cast<bool>(made->instance), "no instance of " + path);
+    keep_exports(made.get(), module);
+    return made;
+}
+
+/* WHAT THEY DO */
+
+template <typename Answer>
+Answer ask(Instance *guest, const std::string &what) {
+    interp::Values results;
+    interp::Trap::Ptr trap;
+    must(guest->functions.count(what) != 0, "no function " + what);
+    must(Succeeded(guest->functions.at(what)->Call(*guest->engine, {}, results, &trap)), what + " trapped");
+    return results[0].Get<Answer>();
+}
+
+/* A store, an engine, and the guests of both. */
+struct World {
+    strm_store store{};
+    interp::Store engine;
+    std::vector<std::unique_ptr<Instance>> guests;
+
+    explicit World(const std::vector<std::string> &paths) {
+        must(strm_store_new(&store, 1, 100000, 100000) == STRM_DONE, "no store");
+        for (const std::string &path : paths) guests.push_back(make(engine, &store, path));
+    }
+    ~World() { strm_store_free(&store); }
+    World(const World &) = delete;
+
+    guest *of(size_t k) { return &guests[k]->base; }
+
+    strm_pair between(size_t writer, size_t reader, strm_type type) {
+        strm_pair ends;
+        must(strm_new_between(&store, of(writer)->number, of(reader)->number, type, &ends) == STRM_DONE, "no stream");
+        return ends;
+    }
+
+    /* A turn for each of the first so many guests; whether one had it. */
+    bool turn(size_t count) {
+        bool had = false;
+        for (size_t k = 0; k < count; k++) had |= guest_turn(of(k));
+        return had;
+    }
+
+    void must_have_ended(size_t count) {
+        for (size_t k = 0; k < count; k++)
+            must(of(k)->state == GUEST_ENDED && of(k)->owed == 0, "a guest trapped, or waits for ever");
+    }
+};
+
+/* What the sink has is what the source wrote, in capitals. */
+void hold(Instance *sink, uint32_t size) {
+    const std::string text = "A COUNT REPORTED IS A COUNT MOVED\n";
+    uint32_t hash = 0;
+    for (uint32_t k = 0; k < size; k++) hash = hash * 31 + static_cast<uint8_t>(text[k % text.size()]);
+    must(ask<uint32_t>(sink, "total") == size && ask<uint32_t>(sink, "hash") == hash, "other bytes");
+    std::printf("interpreter: %u bytes, hash %08x\n", size, hash);
+}
+
+/* Calls the hostile guest, which is entered again after a trap, as a runtime would not do. */
+void attack(Instance *enemy, uint32_t calls) {
+    uint32_t answer = 0;
+    for (uint32_t k = 0; k < calls; k++) enemy->call("attack", {}, &answer);
+}
+
+void run_line(const std::vector<std::string> &paths, uint32_t size) {
+    World world(paths);
+    strm_pair first = world.between(0, 1, STRM_U8), second = world.between(1, 2, STRM_U8);
+    guest_run(world.of(0), 0, first.write, size);
+    guest_run(world.of(1), first.read, second.write, size);
+    guest_run(world.of(2), second.read, 0, size);
+    while (world.turn(3)) attack(world.guests[3].get(), 100);
+    guest_end(world.of(3), GUEST_ENDED);
+    world.must_have_ended(4);
+    hold(world.guests[2].get(), size);
+}
+
+void run_samples(const std::vector<std::string> &paths, uint32_t count) {
+    World world(paths);
+    strm_pair samples = world.between(0, 1, payloads.at("sample"));
+    strm_pair answer = world.between(1, 0, STRM_U64 | STRM_FUTURE);
+    guest_run(world.of(0), answer.read, samples.write, count);
+    guest_run(world.of(1), samples.read, answer.write, 0);
+    while (world.turn(2)) continue;
+    world.must_have_ended(2);
+    std::printf("%u samples come to %llu\n", count,
+                static_cast<unsigned long long>(ask<uint64_t>(world.guests[0].get(), "answer")));
+}
+
+}  // namespace
+
+int main(int count, char **words) {
+    std::vector<std::string> all(words + 1, words + count);
+    bool is_line = all.size() == 6 && all[0] == "line";
+    must(is_line || (all.size() == 4 && all[0] == "samples"), "want line BYTES and four modules, or samples COUNT and two");
+    uint32_t size = static_cast<uint32_t>(std::strtoul(words[2], nullptr, 10));
+    (is_line ? run_line : run_samples)({all.begin() + 2, all.end()}, size);
+    return 0;
+}
