@@ -12,9 +12,12 @@ FUTURE_OF(u64)
 
 static sample samples[1000];
 static uint64_t answer;
-static uint32_t in, out, set, left, answered;
+static uint32_t in, out, set, left, at, answered;
 
-static void moved(uint32_t code) { left = RESULT(code) == DROPPED ? 0 : left - COUNT(code); }
+static void moved(uint32_t code) {
+    left = RESULT(code) == DROPPED ? 0 : left - COUNT(code);
+    at = (at + COUNT(code)) % 1000;
+}
 
 static uint32_t finish(void) {
     if (!answered && future_u64_read(in, &answer) == BLOCKED) return WAIT_FOR(set);
@@ -24,8 +27,8 @@ static uint32_t finish(void) {
 
 static uint32_t go_on(void) {
     while (left > 0) {
-        uint32_t count = left < 1000 ? left : 1000;
-        uint32_t code = stream_sample_write(out, samples, count);
+        uint32_t count = left < 1000 - at ? left : 1000 - at;
+        uint32_t code = stream_sample_write(out, samples + at, count);
         if (code == BLOCKED) return WAIT_FOR(set);
         moved(code);
     }
