@@ -92,15 +92,22 @@ static strm_status answered(
     return status;
 }
 
+static strm_status read_into(buffered_guest *guest, strm_type type, uint32_t handle, uint32_t at, uint32_t count, uint32_t *code) {
+    strm_store *store = guest->base.store;
+    uint32_t number = guest->base.number;
+    return type & STRM_FUTURE ? strm_future_read(store, number, type & ~STRM_FUTURE, handle, at, code)
+                              : strm_stream_read(store, number, type, handle, at, count, code);
+}
+
 strm_status buffered_read(
     buffered_guest *guest, strm_type type, uint32_t handle, uint32_t address, uint32_t count, uint32_t *code) {
-    strm_store *store = guest->base.store;
     buffered_operation *operation = operation_of(guest, 0);
-    uint32_t number = guest->base.number, at = place_of(guest, operation);
+    uint32_t at = place_of(guest, operation);
     strm_status status = prepare(guest, type, address, &count);
     if (status != STRM_DONE) return status;
-    status = type & STRM_FUTURE ? strm_future_read(store, number, type & ~STRM_FUTURE, handle, at, code)
-                                : strm_stream_read(store, number, type, handle, at, count, code);
+    status = read_into(guest, type, handle, at, count, code);
+    if (status == STRM_BAD_ITEM && guest_stop_writer(&guest->base, type, handle, at, count))
+        status = read_into(guest, type, handle, at, count, code);
     return answered(guest, operation, (buffered_operation){handle, address, type, true}, status, *code);
 }
 

@@ -2,8 +2,10 @@
 
      interpreter line BYTES SOURCE.wasm FILTER.wasm SINK.wasm HOSTILE.wasm
      interpreter samples COUNT METER.wasm TALLY.wasm
+     interpreter letters LETTERS.wasm
 
-   The first passes so many bytes on through a line of three, beside a guest that calls all it can at random. */
+   The first passes so many bytes on through a line of three, beside a guest that calls all it can at random; in the
+   last a guest writes a letter that is none. */
 #include <wabt/binary-reader.h>
 #include <wabt/interp/binary-reader-interp.h>
 #include <wabt/interp/interp.h>
@@ -299,12 +301,29 @@ void run_samples(const std::vector<std::string> &paths, uint32_t count) {
                 static_cast<unsigned long long>(ask<uint64_t>(world.guests[0].get(), "answer")));
 }
 
+/* Of the write with the bad letter nothing moves; its writer is stopped, and the reader ends. */
+void run_letters(const std::string &path) {
+    World world({path, path});
+    strm_pair ends = world.between(0, 1, STRM_CHAR);
+    guest_run(world.of(0), 0, ends.write, 0);
+    guest_run(world.of(1), ends.read, 0, 0);
+    while (world.turn(2)) continue;
+    must(world.of(0)->state == GUEST_TRAPPED && world.of(1)->state == GUEST_ENDED, "the writer goes on, or the reader");
+    must(ask<uint32_t>(world.guests[1].get(), "total") == 0, "a bad letter moved");
+    std::printf("a bad letter stopped its writer\n");
+}
+
 }  // namespace
 
 int main(int count, char **words) {
     std::vector<std::string> all(words + 1, words + count);
-    bool is_line = all.size() == 6 && all[0] == "line";
-    must(is_line || (all.size() == 4 && all[0] == "samples"), "want line BYTES and four modules, or samples COUNT and two");
+    bool is_line = all.size() == 6 && all[0] == "line", is_samples = all.size() == 4 && all[0] == "samples";
+    must(is_line || is_samples || (all.size() == 2 && all[0] == "letters"),
+         "want line BYTES and four modules, samples COUNT and two, or letters and one");
+    if (!is_line && !is_samples) {
+        run_letters(all[1]);
+        return 0;
+    }
     uint32_t size = static_cast<uint32_t>(std::strtoul(words[2], nullptr, 10));
     (is_line ? run_line : run_samples)({all.begin() + 2, all.end()}, size);
     return 0;
