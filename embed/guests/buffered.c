@@ -85,10 +85,10 @@ void buffered_settle(guest *guest, uint32_t handle, uint32_t code) {
 
 /* It was answered: it is over, or waits. */
 static strm_status answered(
-    buffered_guest *guest, buffered_operation *operation, buffered_operation begun, strm_status status, uint32_t code) {
+    buffered_guest *guest, buffered_operation *operation, buffered_operation begun, strm_status status, const uint32_t *code) {
     if (status != STRM_DONE) return status;
     *operation = begun;
-    if (code != STRM_BLOCKED) settle(guest, operation, code);
+    if (*code != STRM_BLOCKED) settle(guest, operation, *code);
     return status;
 }
 
@@ -108,7 +108,7 @@ strm_status buffered_read(
     status = read_into(guest, type, handle, at, count, code);
     if (status == STRM_BAD_ITEM && guest_stop_writer(&guest->base, type, handle, at, count))
         status = read_into(guest, type, handle, at, count, code);
-    return answered(guest, operation, (buffered_operation){handle, address, type, true}, status, *code);
+    return answered(guest, operation, (buffered_operation){handle, address, type, true}, status, code);
 }
 
 strm_status buffered_write(
@@ -123,7 +123,7 @@ strm_status buffered_write(
     if (status != STRM_DONE) return status;
     status = type & STRM_FUTURE ? strm_future_write(store, number, type & ~STRM_FUTURE, handle, at, code)
                                 : strm_stream_write(store, number, type, handle, at, count, code);
-    return answered(guest, operation, (buffered_operation){handle, address, type, false}, status, *code);
+    return answered(guest, operation, (buffered_operation){handle, address, type, false}, status, code);
 }
 
 strm_status buffered_cancel_read(buffered_guest *guest, strm_type type, uint32_t handle, uint32_t *code) {
