@@ -26,6 +26,7 @@ typedef struct {
 
 typedef enum { GUEST_RUNS, GUEST_ENDED, GUEST_TRAPPED } guest_state;
 
+/* A guest begins with its engine, store and number, and 0 in all else. */
 struct guest {
     const engine *engine;
     strm_store *store;

@@ -107,7 +107,8 @@ Builtin builtin(const std::string &name) {
         must(other_builtins.count(name) != 0, "no built-in " + name);
         return other_builtins.at(name);
     }
-    std::string kind = name.substr(0, open), item = name.substr(open + 1, close - open - 1), what = name.substr(close + 2);
+    std::string kind = name.substr(0, open), item = name.substr(open + 1, close - open - 1);
+    std::string what = name.substr(close + 2);
     must((kind == "stream" || kind == "future") && payloads.count(item) != 0, "no type of " + name);
     auto builtins = builtins_of(payloads.at(item) | (kind == "future" ? STRM_FUTURE : 0));
     must(builtins.count(what) != 0, "no built-in " + name);
@@ -161,7 +162,8 @@ interp::HostFunc::Ptr import(Instance *guest, const std::string &name) {
     Builtin of = builtin(name);
     interp::ValueTypes params(of.params, wabt::Type::I32), results;
     if (of.results > 0) results.push_back(of.results == 1 ? wabt::Type::I32 : wabt::Type::I64);
-    auto call = [guest, of](interp::Thread &thread, const interp::Values &given, interp::Values &answer, interp::Trap::Ptr *trap) {
+    auto call = [guest, of](interp::Thread &thread, const interp::Values &given, interp::Values &answer,
+                            interp::Trap::Ptr *trap) {
         uint32_t words[3] = {}, out[2] = {};
         for (size_t k = 0; k < of.params; k++) words[k] = given[k].Get<uint32_t>();
         strm_status status = of.call(guest, words, out);

@@ -1,4 +1,5 @@
-/* As a writer it writes three letters, of which the last is none; as a reader it reads letters until the writer is gone. */
+/* As a writer it writes three letters, of which the last is none; as a reader it reads letters until the writer is
+   gone. */
 #include "canon.h"
 
 STREAM_OF(char)

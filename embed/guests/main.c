@@ -175,11 +175,13 @@ static void run_bad_letter(uint32_t size) {
     begin(&line, modules, size);
     wasm2c_guest *writer = wasm2c_new(&line.store, &letters), *reader = wasm2c_new(&line.store, &letters);
     must(writer != NULL && reader != NULL, "no guest");
-    must(strm_new_between(&line.store, writer->base.number, reader->base.number, STRM_CHAR, &ends) == STRM_DONE, "no stream");
-    guest_run(&writer->base, 0, ends.write, 0);
-    guest_run(&reader->base, ends.read, 0, 0);
-    must(reader->base.state == GUEST_ENDED && WASM2C_EXPORT(letters, total)(reader->instance) == 0, "a bad letter moved");
-    must(guest_turn(&writer->base) && writer->base.state == GUEST_TRAPPED, "the writer goes on");
+    guest *from = &writer->base, *to = &reader->base;
+    must(strm_new_between(&line.store, from->number, to->number, STRM_CHAR, &ends) == STRM_DONE, "no stream");
+    guest_run(from, 0, ends.write, 0);
+    guest_run(to, ends.read, 0, 0);
+    must(to->state == GUEST_ENDED, "the reader waits");
+    must(WASM2C_EXPORT(letters, total)(reader->instance) == 0, "a bad letter moved");
+    must(guest_turn(from) && from->state == GUEST_TRAPPED, "the writer goes on");
     wasm2c_free(writer);
     wasm2c_free(reader);
     must(turns(&line, 0xffffffff), "no end");
@@ -211,9 +213,8 @@ static void run_flood(uint32_t rounds) {
 static wasm_rt_memory_t *memory_of(line *line, const guest *guest, wasm_rt_memory_t *memory) {
     uint8_t *at = NULL;
     size_t len = 0;
-    must(strm_memory_at(&line->store, guest->number, &at, &len) == STRM_DONE && memory->data == at && memory->size == len &&
-             memory->pages * 65536 == len,
-         "a memory moved or grew");
+    must(strm_memory_at(&line->store, guest->number, &at, &len) == STRM_DONE, "no memory");
+    must(memory->data == at && memory->size == len && memory->pages * 65536 == len, "a memory moved or grew");
     return memory;
 }
 
