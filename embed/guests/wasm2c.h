@@ -77,7 +77,8 @@ struct WASM2C_IMPORTS {
    memory for it, or it traps there. */
 wasm2c_guest *wasm2c_new(strm_store *store, const wasm2c_module *module);
 
-/* Gives up the guest's module. The store keeps its number and memory. */
+/* Gives up the module of a guest that ended or trapped, or that guest_end stopped. The store keeps its number and
+   memory. */
 void wasm2c_free(wasm2c_guest *guest);
 
 /* Calls a function of a guest's module, which is handed the instance: whether it came back. */
