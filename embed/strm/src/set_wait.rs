@@ -56,11 +56,14 @@ pub fn set_wait<S: Share>(store: &S, guest: Guest, set: WaitableSet) -> SetWait<
     }
 }
 
-impl<S: Share + Unpin> Future for SetWait<S> {
+// Nothing in it is pinned.
+impl<S: Share> Unpin for SetWait<S> {}
+
+impl<S: Share> Future for SetWait<S> {
     type Output = Result<Member, Error>;
 
-    fn poll(mut self: Pin<&mut Self>, cx: &mut Context<'_>) -> Poll<Result<Member, Error>> {
-        let this = &mut *self;
+    fn poll(self: Pin<&mut Self>, cx: &mut Context<'_>) -> Poll<Result<Member, Error>> {
+        let this = self.get_mut();
         let (guest, set, key) = (this.guest, this.set, &mut this.key);
         let told = this
             .store

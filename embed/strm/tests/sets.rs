@@ -2,8 +2,10 @@
 
 mod tasks;
 
-use strm::{Code, End, Error, Guest, Handle, Refusal, Share, StreamReader, StreamWriter, WaitableSet};
-use tasks::{Shared, Tasks, hosts};
+use strm::{
+    Code, End, Error, Guest, Handle, Payload, Refusal, Share, StreamReader, StreamWriter, Type, WaitableSet,
+};
+use tasks::{Draws, Shared, Tasks, hosts};
 
 type Bytes = (StreamWriter<u8>, StreamReader<u8>);
 
@@ -168,4 +170,56 @@ fn one_that_is_dropped_takes_nothing_and_keeps_no_waker() {
         .with(|store| store.set_poll(world.reader, world.set))
         .unwrap();
     assert_eq!(told.map(|told| told.code), Some(Code::Dropped(0)));
+}
+
+// A task that takes whatever a guest's set tells, for ever.
+async fn takes_all(store: Shared, guest: Guest, set: WaitableSet) -> Result<(), Error> {
+    loop {
+        let _ = strm::set_wait(&store, guest, set).await?;
+    }
+}
+
+// One call that is drawn, on an end that is drawn; what is refused is.
+fn call(store: &mut strm::Store, draws: &mut Draws, guests: &[Guest], sets: &[WaitableSet]) {
+    let at = draws.below(guests.len());
+    let (guest, handle) = (guests[at], Handle(1 + draws.below(12) as u32));
+    let to = guests[draws.below(guests.len())];
+    let bytes = Type::Stream(Payload::U8);
+    let _ = match draws.below(14) {
+        0 | 1 => store.new_between(guest, to, bytes).map(drop),
+        2 => store.new_between(guest, to, Type::Future(Payload::U8)).map(drop),
+        3 | 4 => store.set_join(guest, sets[at], handle),
+        5 => store.stream_write(guest, Payload::U8, handle, 0, 2).map(drop),
+        6 => store.stream_read(guest, Payload::U8, handle, 8, 3).map(drop),
+        7 => store.future_write(guest, Payload::U8, handle, 0).map(drop),
+        8 => store.future_read(guest, Payload::U8, handle, 8).map(drop),
+        9 => store.stream_drop_writable(guest, Payload::U8, handle),
+        10 => store.stream_drop_readable(guest, Payload::U8, handle),
+        11 => store.stream_cancel_read(guest, Payload::U8, handle).map(drop),
+        12 => store
+            .lift(guest, bytes, handle)
+            .and_then(|stream| store.close(stream)),
+        _ => store.stream_transfer(guest, Payload::U8, handle, to).map(drop),
+    };
+}
+
+#[test]
+fn no_wake_is_missed_in_any_run() {
+    for seed in 1..200 {
+        let (store, guests) = hosts::<3>();
+        let sets = guests.map(|guest| store.with(|store| store.set_new(guest)).unwrap());
+        let mut draws = Draws(seed);
+        let mut tasks = Tasks::default();
+        for (guest, set) in guests.iter().zip(sets) {
+            tasks.spawn(takes_all(store.clone(), *guest, set));
+        }
+        for _ in 0..300 {
+            store.with(|store| call(store, &mut draws, &guests, &sets));
+            assert_eq!(tasks.run(), [0, 1, 2]);
+            for (guest, set) in guests.iter().zip(sets) {
+                let left = store.with(|store| store.set_poll(*guest, set));
+                assert_eq!(left, Ok(None), "seed {seed}: a wake was missed");
+            }
+        }
+    }
 }
