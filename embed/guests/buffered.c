@@ -72,8 +72,9 @@ static void settle(buffered_guest *guest, buffered_operation *operation, uint32_
     layout items = layout_of(operation->type & ~STRM_FUTURE);
     uint32_t count = operation->type & STRM_FUTURE ? STRM_RESULT(code) == STRM_COMPLETED : STRM_COUNT(code);
     uint8_t *at = region(guest, operation->address, (uint64_t)items.size * count);
+    uint32_t len = items.size * count, from = place_of(guest, operation);
     if (operation->reads && at != NULL)
-        (void)!strm_memory_read(guest->base.store, guest->base.number, place_of(guest, operation), at, items.size * count);
+        (void)!strm_memory_read(guest->base.store, guest->base.number, from, at, len);
     operation->handle = 0;
 }
 
@@ -84,23 +85,31 @@ void buffered_settle(guest *guest, uint32_t handle, uint32_t code) {
 }
 
 /* It was answered: it is over, or waits. */
-static strm_status answered(
-    buffered_guest *guest, buffered_operation *operation, buffered_operation begun, strm_status status, const uint32_t *code) {
+static strm_status answered(buffered_guest *guest, buffered_operation *operation, buffered_operation begun,
+                            strm_status status, const uint32_t *code) {
     if (status != STRM_DONE) return status;
     *operation = begun;
     if (*code != STRM_BLOCKED) settle(guest, operation, *code);
     return status;
 }
 
+static strm_status read_into(
+    buffered_guest *guest, strm_type type, uint32_t handle, uint32_t at, uint32_t count, uint32_t *code) {
+    strm_store *store = guest->base.store;
+    uint32_t number = guest->base.number;
+    return type & STRM_FUTURE ? strm_future_read(store, number, type & ~STRM_FUTURE, handle, at, code)
+                              : strm_stream_read(store, number, type, handle, at, count, code);
+}
+
 strm_status buffered_read(
     buffered_guest *guest, strm_type type, uint32_t handle, uint32_t address, uint32_t count, uint32_t *code) {
-    strm_store *store = guest->base.store;
     buffered_operation *operation = operation_of(guest, 0);
-    uint32_t number = guest->base.number, at = place_of(guest, operation);
+    uint32_t at = place_of(guest, operation);
     strm_status status = prepare(guest, type, address, &count);
     if (status != STRM_DONE) return status;
-    status = type & STRM_FUTURE ? strm_future_read(store, number, type & ~STRM_FUTURE, handle, at, code)
-                                : strm_stream_read(store, number, type, handle, at, count, code);
+    status = read_into(guest, type, handle, at, count, code);
+    if (status == STRM_BAD_ITEM && guest_stop_writer(&guest->base, type, handle, at, count))
+        status = read_into(guest, type, handle, at, count, code);
     return answered(guest, operation, (buffered_operation){handle, address, type, true}, status, code);
 }
 

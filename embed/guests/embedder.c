@@ -5,53 +5,66 @@ enum { EXIT, YIELD, WAIT };
 
 /* WHAT A GUEST GIVES UP. Which handles it has is asked of the store: no table of them is kept here. */
 
-static strm_status cancel(guest *guest, const strm_handle *end) {
+static strm_status cancel(strm_store *store, uint32_t guest, const strm_handle *end) {
     strm_payload payload = end->type & ~STRM_FUTURE;
     bool reads = end->side == STRM_SIDE_READING;
     uint32_t code;
     return end->type & STRM_FUTURE
-               ? (reads ? strm_future_cancel_read : strm_future_cancel_write)(guest->store, guest->number, payload, end->handle, &code)
-               : (reads ? strm_stream_cancel_read : strm_stream_cancel_write)(guest->store, guest->number, payload, end->handle, &code);
+               ? (reads ? strm_future_cancel_read : strm_future_cancel_write)(store, guest, payload, end->handle, &code)
+               : (reads ? strm_stream_cancel_read : strm_stream_cancel_write)(store, guest, payload, end->handle, &code);
 }
 
-static strm_status drop(guest *guest, const strm_handle *end) {
+static strm_status drop(strm_store *store, uint32_t guest, const strm_handle *end) {
     strm_payload payload = end->type & ~STRM_FUTURE;
     bool reads = end->side == STRM_SIDE_READING;
     return end->type & STRM_FUTURE
-               ? (reads ? strm_future_drop_readable : strm_future_drop_writable)(guest->store, guest->number, payload, end->handle)
-               : (reads ? strm_stream_drop_readable : strm_stream_drop_writable)(guest->store, guest->number, payload, end->handle);
+               ? (reads ? strm_future_drop_readable : strm_future_drop_writable)(store, guest, payload, end->handle)
+               : (reads ? strm_stream_drop_readable : strm_stream_drop_writable)(store, guest, payload, end->handle);
 }
 
 /* A future's write end can be dropped without a value once it was told that nobody reads it. */
-static strm_status give_up_end(guest *guest, const strm_handle *end) {
+static strm_status give_up_end(strm_store *store, uint32_t guest, const strm_handle *end) {
     uint32_t code;
-    strm_status status = cancel(guest, end);
+    strm_status status = cancel(store, guest, end);
     if (status != STRM_DONE && status != STRM_NO_PENDING) return status;
-    status = drop(guest, end);
+    status = drop(store, guest, end);
     if (status != STRM_FUTURE_WITHOUT_VALUE) return status;
-    status = strm_take_event(guest->store, guest->number, end->handle, &code);
-    return status == STRM_DONE ? drop(guest, end) : status;
+    status = strm_take_event(store, guest, end->handle, &code);
+    return status == STRM_DONE ? drop(store, guest, end) : status;
 }
 
 /* An end that stays, since it owes a value, leaves its set. */
-static strm_status give_up(guest *guest, const strm_handle *it) {
-    if (it->kind == STRM_KIND_WAITABLE_SET) return strm_set_drop(guest->store, guest->number, it->handle);
-    if (it->kind == STRM_KIND_ERROR_CONTEXT) return strm_error_context_drop(guest->store, guest->number, it->handle);
-    strm_status status = give_up_end(guest, it);
-    return status == STRM_DONE ? status : strm_set_join(guest->store, guest->number, 0, it->handle);
+static strm_status give_up(strm_store *store, uint32_t guest, const strm_handle *it) {
+    if (it->kind == STRM_KIND_WAITABLE_SET) return strm_set_drop(store, guest, it->handle);
+    if (it->kind == STRM_KIND_ERROR_CONTEXT) return strm_error_context_drop(store, guest, it->handle);
+    strm_status status = give_up_end(store, guest, it);
+    return status == STRM_DONE ? status : strm_set_join(store, guest, 0, it->handle);
 }
 
 /* Ends first, since a set with members stays; and twice, since a future's read end may be the guest's too. */
-void guest_end(guest *guest, guest_state state) {
+static void give_up_all(strm_store *store, uint32_t guest) {
     static const bool ends[] = {true, true, false};
-    guest->state = state;
     for (int pass = 0; pass < 3; pass++) {
         strm_handle next = {.handle = 0};
-        while (strm_next_handle(guest->store, guest->number, next.handle, &next) == STRM_DONE && next.handle != 0) {
-            if ((next.kind == STRM_KIND_END) == ends[pass]) (void)!give_up(guest, &next);
+        while (strm_next_handle(store, guest, next.handle, &next) == STRM_DONE && next.handle != 0) {
+            if ((next.kind == STRM_KIND_END) == ends[pass]) (void)!give_up(store, guest, &next);
         }
     }
+}
+
+void guest_end(guest *guest, guest_state state) {
+    guest->state = state;
+    give_up_all(guest->store, guest->number);
     if (strm_handle_count(guest->store, guest->number, &guest->owed) != STRM_DONE) guest->owed = 0;
+}
+
+bool guest_stop_writer(guest *reader, strm_type type, uint32_t handle, uint32_t address, uint32_t count) {
+    strm_bad_item item;
+    strm_store *store = reader->store;
+    if (strm_find_bad_item(store, STRM_SIDE_READING, reader->number, type, handle, address, count, &item) != STRM_DONE)
+        return false;
+    give_up_all(store, item.guest);
+    return true;
 }
 
 /* EVENTS AND TURNS */

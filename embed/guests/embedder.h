@@ -26,6 +26,7 @@ typedef struct {
 
 typedef enum { GUEST_RUNS, GUEST_ENDED, GUEST_TRAPPED } guest_state;
 
+/* A guest begins with its engine, store and number, and 0 in all else. */
 struct guest {
     const engine *engine;
     strm_store *store;
@@ -48,6 +49,11 @@ bool guest_turn(guest *guest);
 /* Gives up all that a guest has, which is not entered any more: what it had under way is cancelled, and what it had
    moved stays moved. It is done as soon as a guest ends or traps; an embedder does it too to stop one. */
 void guest_end(guest *guest, guest_state state);
+
+/* Of a read that was answered STRM_BAD_ITEM, with its arguments: the guest that writes the item gives up all it has,
+   and finds that out at its next turn, which is its last. Whether there is such a guest, so that the read can be made
+   again. */
+bool guest_stop_writer(guest *reader, strm_type type, uint32_t handle, uint32_t address, uint32_t count);
 
 /* `waitable-set.poll` of a guest: an event's code, and where there is one the end's handle and what it is told. */
 strm_status guest_poll(guest *guest, uint32_t set, uint32_t *event, uint32_t told[2]);

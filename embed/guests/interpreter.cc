@@ -2,8 +2,10 @@
 
      interpreter line BYTES SOURCE.wasm FILTER.wasm SINK.wasm HOSTILE.wasm
      interpreter samples COUNT METER.wasm TALLY.wasm
+     interpreter letters LETTERS.wasm
 
-   The first passes so many bytes on through a line of three, beside a guest that calls all it can at random. */
+   The first passes so many bytes on through a line of three, beside a guest that calls all it can at random; in the
+   last a guest writes a letter that is none. */
 #include <wabt/binary-reader.h>
 #include <wabt/interp/binary-reader-interp.h>
 #include <wabt/interp/interp.h>
@@ -105,7 +107,8 @@ Builtin builtin(const std::string &name) {
         must(other_builtins.count(name) != 0, "no built-in " + name);
         return other_builtins.at(name);
     }
-    std::string kind = name.substr(0, open), item = name.substr(open + 1, close - open - 1), what = name.substr(close + 2);
+    std::string kind = name.substr(0, open), item = name.substr(open + 1, close - open - 1);
+    std::string what = name.substr(close + 2);
     must((kind == "stream" || kind == "future") && payloads.count(item) != 0, "no type of " + name);
     auto builtins = builtins_of(payloads.at(item) | (kind == "future" ? STRM_FUTURE : 0));
     must(builtins.count(what) != 0, "no built-in " + name);
@@ -159,7 +162,8 @@ interp::HostFunc::Ptr import(Instance *guest, const std::string &name) {
     Builtin of = builtin(name);
     interp::ValueTypes params(of.params, wabt::Type::I32), results;
     if (of.results > 0) results.push_back(of.results == 1 ? wabt::Type::I32 : wabt::Type::I64);
-    auto call = [guest, of](interp::Thread &thread, const interp::Values &given, interp::Values &answer, interp::Trap::Ptr *trap) {
+    auto call = [guest, of](interp::Thread &thread, const interp::Values &given, interp::Values &answer,
+                            interp::Trap::Ptr *trap) {
         uint32_t words[3] = {}, out[2] = {};
         for (size_t k = 0; k < of.params; k++) words[k] = given[k].Get<uint32_t>();
         strm_status status = of.call(guest, words, out);
@@ -299,12 +303,29 @@ void run_samples(const std::vector<std::string> &paths, uint32_t count) {
                 static_cast<unsigned long long>(ask<uint64_t>(world.guests[0].get(), "answer")));
 }
 
+/* Of the write with the bad letter nothing moves; its writer is stopped, and the reader ends. */
+void run_letters(const std::string &path) {
+    World world({path, path});
+    strm_pair ends = world.between(0, 1, STRM_CHAR);
+    guest_run(world.of(0), 0, ends.write, 0);
+    guest_run(world.of(1), ends.read, 0, 0);
+    while (world.turn(2)) continue;
+    must(world.of(0)->state == GUEST_TRAPPED && world.of(1)->state == GUEST_ENDED, "the writer goes on, or the reader");
+    must(ask<uint32_t>(world.guests[1].get(), "total") == 0, "a bad letter moved");
+    std::printf("a bad letter stopped its writer\n");
+}
+
 }  // namespace
 
 int main(int count, char **words) {
     std::vector<std::string> all(words + 1, words + count);
-    bool is_line = all.size() == 6 && all[0] == "line";
-    must(is_line || (all.size() == 4 && all[0] == "samples"), "want line BYTES and four modules, or samples COUNT and two");
+    bool is_line = all.size() == 6 && all[0] == "line", is_samples = all.size() == 4 && all[0] == "samples";
+    must(is_line || is_samples || (all.size() == 2 && all[0] == "letters"),
+         "want line BYTES and four modules, samples COUNT and two, or letters and one");
+    if (!is_line && !is_samples) {
+        run_letters(all[1]);
+        return 0;
+    }
     uint32_t size = static_cast<uint32_t>(std::strtoul(words[2], nullptr, 10));
     (is_line ? run_line : run_samples)({all.begin() + 2, all.end()}, size);
     return 0;

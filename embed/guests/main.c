@@ -1,6 +1,6 @@
 /* Lines of three guests, a source, a filter and a sink: they pass on some text, as many bytes as asked for, the same
-   on two threads that take turns, and the same beside a guest that calls all it can with random arguments; and lines
-   of which a guest traps or ends without a word. */
+   on two threads that take turns, and the same beside a guest that calls all it can with random arguments; lines of
+   which a guest traps or ends without a word; and one beside a guest that writes a bad item. */
 #include <pthread.h>
 #include <stdio.h>
 #include <stdlib.h>
@@ -12,16 +12,19 @@
 #include "broken.wasm.h"
 #include "filter.wasm.h"
 #include "hostile.wasm.h"
+#include "letters.wasm.h"
 #include "sink.wasm.h"
 #include "source.wasm.h"
 
 CANON_STREAM(u8, STRM_U8)
+CANON_STREAM(char, STRM_CHAR)
 CANON_FUTURE(u32, STRM_U32)
 
 WASM2C_MODULE(source)
 WASM2C_MODULE(filter)
 WASM2C_MODULE(sink)
 WASM2C_MODULE(broken)
+WASM2C_MODULE(letters)
 WASM2C_OTHER_MODULE(hostile, NULL, NULL)
 
 enum { SOURCE, FILTER, SINK, GUESTS };
@@ -164,6 +167,27 @@ static void run_broken(const char *name, int at, guest_state state, uint32_t siz
     end(&line);
 }
 
+/* A guest that writes a letter that is none: nothing of its write moves, it is stopped, the reader is told that it is
+   gone, and a line in the same store goes on. */
+static void run_bad_letter(uint32_t size) {
+    line line;
+    strm_pair ends;
+    begin(&line, modules, size);
+    wasm2c_guest *writer = wasm2c_new(&line.store, &letters), *reader = wasm2c_new(&line.store, &letters);
+    must(writer != NULL && reader != NULL, "no guest");
+    guest *from = &writer->base, *to = &reader->base;
+    must(strm_new_between(&line.store, from->number, to->number, STRM_CHAR, &ends) == STRM_DONE, "no stream");
+    guest_run(from, 0, ends.write, 0);
+    guest_run(to, ends.read, 0, 0);
+    must(to->state == GUEST_ENDED, "the reader waits");
+    must(WASM2C_EXPORT(letters, total)(reader->instance) == 0, "a bad letter moved");
+    must(guest_turn(from) && from->state == GUEST_TRAPPED, "the writer goes on");
+    wasm2c_free(writer);
+    wasm2c_free(reader);
+    must(turns(&line, 0xffffffff), "no end");
+    finish(&line, "bad letter", size);
+}
+
 /* One call of the hostile guest. It is entered again after a trap, which a runtime would not do. */
 static void attack(void *instance, void *with) {
     (void)with;
@@ -189,9 +213,8 @@ static void run_flood(uint32_t rounds) {
 static wasm_rt_memory_t *memory_of(line *line, const guest *guest, wasm_rt_memory_t *memory) {
     uint8_t *at = NULL;
     size_t len = 0;
-    must(strm_memory_at(&line->store, guest->number, &at, &len) == STRM_DONE && memory->data == at && memory->size == len &&
-             memory->pages * 65536 == len,
-         "a memory moved or grew");
+    must(strm_memory_at(&line->store, guest->number, &at, &len) == STRM_DONE, "no memory");
+    must(memory->data == at && memory->size == len && memory->pages * 65536 == len, "a memory moved or grew");
     return memory;
 }
 
@@ -262,6 +285,7 @@ int main(int count, char **words) {
     run_broken("trapped sink", SINK, GUEST_TRAPPED, 100000);
     run_broken("ended source", SOURCE, GUEST_ENDED, 0);
     run_broken("ended sink", SINK, GUEST_ENDED, 0);
+    run_bad_letter(100000);
     run_hostile(size, 100000);
     return 0;
 }

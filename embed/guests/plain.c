@@ -183,6 +183,7 @@ ABSENT(strm_future_read, strm_store *s, uint32_t g, strm_payload p, uint32_t h, 
 ABSENT(strm_future_write, strm_store *s, uint32_t g, strm_payload p, uint32_t h, uint32_t a, uint32_t *o)
 ABSENT(strm_future_drop_readable, strm_store *s, uint32_t g, strm_payload p, uint32_t h)
 ABSENT(strm_future_drop_writable, strm_store *s, uint32_t g, strm_payload p, uint32_t h)
+ABSENT(strm_find_bad_item, const strm_store *s, uint32_t w, uint32_t g, strm_type t, uint32_t h, uint32_t a, uint32_t c, strm_bad_item *o)
 ABSENT(strm_take_event, strm_store *s, uint32_t g, uint32_t h, uint32_t *o)
 ABSENT(strm_next_handle, const strm_store *s, uint32_t g, uint32_t h, strm_handle *o)
 ABSENT(strm_handle_count, const strm_store *s, uint32_t g, uint32_t *o)

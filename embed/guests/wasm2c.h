@@ -77,7 +77,8 @@ struct WASM2C_IMPORTS {
    memory for it, or it traps there. */
 wasm2c_guest *wasm2c_new(strm_store *store, const wasm2c_module *module);
 
-/* Gives up the guest's module. The store keeps its number and memory. */
+/* Gives up the module of a guest that ended or trapped, or that guest_end stopped. The store keeps its number and
+   memory. */
 void wasm2c_free(wasm2c_guest *guest);
 
 /* Calls a function of a guest's module, which is handed the instance: whether it came back. */
@@ -106,7 +107,7 @@ bool wasm2c_enter(wasm2c_guest *guest, void (*call)(void *instance, void *with),
 #define CANON_STREAM(T, payload)                                                                                   \
     CANON_ENDS(stream, T, payload)                                                                                 \
     uint32_t CANON_END(stream, T, read)(wasm2c_guest * g, uint32_t handle, uint32_t at, uint32_t count) {          \
-        WASM2C_CODE(strm_stream_read, payload, handle, at, count);                                                 \
+        WASM2C_READ(strm_stream_read, payload, payload, count, handle, at, count);                                 \
     }                                                                                                              \
     uint32_t CANON_END(stream, T, write)(wasm2c_guest * g, uint32_t handle, uint32_t at, uint32_t count) {         \
         WASM2C_CODE(strm_stream_write, payload, handle, at, count);                                                \
@@ -114,7 +115,7 @@ bool wasm2c_enter(wasm2c_guest *guest, void (*call)(void *instance, void *with),
 #define CANON_FUTURE(T, payload)                                                                                   \
     CANON_ENDS(future, T, payload)                                                                                 \
     uint32_t CANON_END(future, T, read)(wasm2c_guest * g, uint32_t handle, uint32_t at) {                          \
-        WASM2C_CODE(strm_future_read, payload, handle, at);                                                        \
+        WASM2C_READ(strm_future_read, (payload) | STRM_FUTURE, payload, 1, handle, at);                            \
     }                                                                                                              \
     uint32_t CANON_END(future, T, write)(wasm2c_guest * g, uint32_t handle, uint32_t at) {                         \
         WASM2C_CODE(strm_future_write, payload, handle, at);                                                       \
@@ -140,6 +141,14 @@ bool wasm2c_enter(wasm2c_guest *guest, void (*call)(void *instance, void *with),
 #define WASM2C_CODE(call, ...)                                                                                     \
     uint32_t code = 0;                                                                                             \
     wasm2c_must(g, call(g->base.store, g->base.number, __VA_ARGS__, &code));                                     \
+    return code
+
+#define WASM2C_READ(call, type, payload, count, ...)                                                               \
+    uint32_t code = 0;                                                                                             \
+    strm_status status = call(g->base.store, g->base.number, payload, __VA_ARGS__, &code);                         \
+    if (status == STRM_BAD_ITEM && guest_stop_writer(&g->base, type, handle, at, count))                           \
+        status = call(g->base.store, g->base.number, payload, __VA_ARGS__, &code);                                 \
+    wasm2c_must(g, status);                                                                                        \
     return code
 
 /* The other built-ins, which wasm2c.c has; a program that includes a module's header holds them to what it calls. */

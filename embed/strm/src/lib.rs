@@ -68,12 +68,15 @@ mod ends;
 mod errors;
 mod examples;
 mod item;
+mod loose;
 mod numbers;
 mod owned;
 mod payload;
 mod rooms;
+mod set_wait;
 mod share;
 mod store;
+mod version;
 mod waits;
 
 pub use codes::{Code, UnknownCode};
@@ -83,12 +86,15 @@ pub use ends::{
 };
 pub use errors::{BadItem, Error};
 pub use item::{Field, Item};
+pub use loose::{Loose, LooseError, LooseFuture, LooseStream, ReadKind};
 pub use numbers::{ErrorContext, ErrorContextId, Guest, Handle, Member, Pair, StreamId, WaitableSet};
 pub use owned::{Owned, Receiver, Sender, ValueReceiver, ValueSender, future, stream};
 pub use payload::{Payload, Scalar, Type};
+pub use set_wait::{SetWait, set_wait};
 pub use share::Share;
 pub use store::{EndInfo, GuestLimits, HandleInfo, Limits, OtherEnd, Side, Store};
 pub use strm_sys::Refusal;
+pub use version::{Version, version};
 
 #[doc(hidden)]
 pub use examples::{example, example_poll, example_run, example_shared};

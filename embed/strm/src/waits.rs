@@ -33,6 +33,9 @@ pub(crate) struct LastValue {
 #[derive(Default)]
 pub(crate) struct Waits {
     waiters: BTreeMap<Place, Waiter>,
+    // Those who wait for a set of a guest, each under a key of its own.
+    set_waiters: BTreeMap<Guest, BTreeMap<u64, Waker>>,
+    next_key: u64,
     released: Released,
     is_deferred: bool,
 }
@@ -53,7 +56,7 @@ impl Released {
 impl Waits {
     #[inline]
     pub fn is_empty(&self) -> bool {
-        self.waiters.is_empty()
+        self.waiters.is_empty() && self.set_waiters.is_empty()
     }
 
     pub fn has(&self, place: Place) -> bool {
@@ -102,6 +105,44 @@ impl Waits {
             *waiter = Waiter::TakenAway;
         }
         last
+    }
+
+    /// A task waits for a set of a guest, under a key that it gets where it has none.
+    pub fn keep_set(&mut self, guest: Guest, key: &mut Option<u64>, waker: &Waker) {
+        let key = *key.get_or_insert_with(|| {
+            self.next_key += 1;
+            self.next_key
+        });
+        let waiters = self.set_waiters.entry(guest).or_default();
+        self.released.dropped.extend(waiters.insert(key, waker.clone()));
+    }
+
+    pub fn forget_set(&mut self, guest: Guest, key: u64) {
+        if let Some(waiters) = self.set_waiters.get_mut(&guest) {
+            self.released.dropped.extend(waiters.remove(&key));
+            if waiters.is_empty() {
+                self.set_waiters.remove(&guest);
+            }
+        }
+    }
+
+    pub fn has_sets(&self, guest: Guest) -> bool {
+        self.set_waiters.contains_key(&guest)
+    }
+
+    /// A set of the guest may have something to tell: the tasks that wait for its sets are woken, to ask them.
+    pub fn ready_sets(&mut self, guest: Guest) {
+        let waiters = self.set_waiters.remove(&guest);
+        self.released
+            .woken
+            .extend(waiters.into_iter().flat_map(BTreeMap::into_values));
+    }
+
+    /// The same of all guests.
+    pub fn ready_all_sets(&mut self) {
+        for guest in mem::take(&mut self.set_waiters).into_values() {
+            self.released.woken.extend(guest.into_values());
+        }
     }
 
     /// From now on wakers are left to who asks for them with [`Waits::released`], or used by each call again.

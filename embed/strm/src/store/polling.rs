@@ -3,7 +3,7 @@
 use crate::rooms::Room;
 use crate::store::Named;
 use crate::waits::{LastValue, Place, Waiter};
-use crate::{Code, Error, Refusal, Store};
+use crate::{Code, Error, Guest, Member, Refusal, Store, WaitableSet};
 use core::task::Waker;
 
 impl Store {
@@ -49,6 +49,26 @@ impl Store {
             None => waker.clone(),
         };
         self.waits.insert(place, Waiter::Task(Some(waker)));
+    }
+
+    // Polls a set: where no member has an event, the waker is kept under a key.
+    pub(crate) fn poll_set(
+        &mut self,
+        guest: Guest,
+        set: WaitableSet,
+        key: &mut Option<u64>,
+        waker: &Waker,
+    ) -> Result<Option<Member>, Error> {
+        let told = self.set_poll(guest, set)?;
+        if told.is_none() {
+            self.waits.keep_set(guest, key, waker);
+        }
+        Ok(told)
+    }
+
+    // Nobody waits for a set under this key any more.
+    pub(crate) fn unwait_set(&mut self, guest: Guest, key: u64) {
+        self.waits.forget_set(guest, key);
     }
 
     // Nobody waits at this end any more.
@@ -98,12 +118,7 @@ impl Store {
     }
 
     // Moves an end to another guest, with what lies in its room.
-    pub(crate) fn move_end(
-        &mut self,
-        end: Named,
-        room: Room,
-        to: crate::Guest,
-    ) -> Result<(Named, Room), Error> {
+    pub(crate) fn move_end(&mut self, end: Named, room: Room, to: Guest) -> Result<(Named, Room), Error> {
         let there = self.take_room(to, room.len)?;
         let moved = self.transfer(end, to).and_then(|handle| {
             let from = room.address as usize;

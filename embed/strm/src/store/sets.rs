@@ -43,7 +43,8 @@ impl Store {
     #[inline]
     pub fn set_join(&mut self, guest: Guest, set: WaitableSet, handle: Handle) -> Result<(), Error> {
         // SAFETY: above.
-        done(unsafe { sys::strm_set_join(self.at(), guest.0, set.0, handle.0) })
+        let answer = done(unsafe { sys::strm_set_join(self.at(), guest.0, set.0, handle.0) });
+        self.set_changed(guest, answer)
     }
 
     /// Tells the member of the least handle that has something to be told. `canon waitable-set.poll`.
@@ -92,6 +93,7 @@ impl Store {
     #[inline]
     pub fn set_drop(&mut self, guest: Guest, set: WaitableSet) -> Result<(), Error> {
         // SAFETY: above.
-        done(unsafe { sys::strm_set_drop(self.at(), guest.0, set.0) })
+        let answer = done(unsafe { sys::strm_set_drop(self.at(), guest.0, set.0) });
+        self.set_changed(guest, answer)
     }
 }

@@ -1,8 +1,9 @@
 //! Who is woken by a call.
 //!
 //! An end gets something to be told by a call on the other end alone. So after each such call the store is asked who
-//! has the other end, and whether that is to be told something now: then the task that waits there is woken. Where
-//! no task waits for any end, nothing is asked, nor where the call was refused, since that changes nothing.
+//! has the other end, and whether that is to be told something now: then the task that waits there is woken, and those
+//! that wait for a set of its guest. Where no task waits, nothing is asked, nor where the call was refused, since that
+//! changes nothing.
 
 use crate::waits::{LastValue, Place, Released};
 use crate::{EndInfo, Error, Guest, Handle, HandleInfo, OtherEnd, Side, Store, StreamId};
@@ -59,6 +60,18 @@ impl Store {
         if answer.is_ok() && !self.waits.is_empty() {
             self.take_away((stream, Side::Reading));
             self.ready((stream, Side::Writing));
+            // Which guest has the write end is not asked.
+            self.waits.ready_all_sets();
+            self.waits.flush();
+        }
+        answer
+    }
+
+    // The sets of a guest have other members now, or are fewer.
+    #[inline]
+    pub(crate) fn set_changed(&mut self, guest: Guest, answer: Result<(), Error>) -> Result<(), Error> {
+        if answer.is_ok() && !self.waits.is_empty() {
+            self.waits.ready_sets(guest);
             self.waits.flush();
         }
         answer
@@ -104,13 +117,18 @@ impl Store {
 
     fn tell_other(&mut self, end: EndInfo) {
         let place = (end.stream, end.side.other());
-        if let (OtherEnd::Guest { guest, handle }, true) = (end.other, self.waits.has(place)) {
-            if self
-                .end_info(guest, handle)
-                .is_some_and(|other| other.event.is_some())
-            {
-                self.ready(place);
-            }
+        let OtherEnd::Guest { guest, handle } = end.other else {
+            return;
+        };
+        if !self.waits.has(place) && !self.waits.has_sets(guest) {
+            return;
+        }
+        if self
+            .end_info(guest, handle)
+            .is_some_and(|other| other.event.is_some())
+        {
+            self.ready(place);
+            self.waits.ready_sets(guest);
         }
     }
 
