@@ -12,6 +12,7 @@ use std::env::Args;
 use std::io::{self, Read, Write};
 use std::process::ExitCode;
 use strm_buffers::hosts::Hosts;
+use strm_drawing::serving::draw_script;
 use strm_input_output::ports::{Sink, Source};
 use strm_input_output::words::{process_args, words_behind};
 use strm_program_hosts::among::{AmongHosts, served_among_hosts};
@@ -37,6 +38,10 @@ impl<S: Source, K: Sink> AmongHosts for Work<S, K> {
         IsServed (map string_bytes old.words.items) (S.left old.source) (S.faults old.source) status };
 
     fn serve_among(&mut self, hosts: &mut Hosts) -> ExitCode {
+        if is_draw(&self.words) {
+            let status = draw_script(self.alloc, &mut self.source, &mut self.sink, hosts);
+            return ExitCode::from(status);
+        }
         let status = serve(
             self.alloc,
             &self.words,
@@ -46,6 +51,12 @@ impl<S: Source, K: Sink> AmongHosts for Work<S, K> {
         );
         ExitCode::from(status)
     }
+}
+
+// Whether the words tell the program to draw.
+fn is_draw(words: &Vec<String>) -> bool {
+    let words = words.as_slice();
+    words.len() == 1 && words[0].as_bytes() == b"draw".as_slice()
 }
 
 // Serves the words behind the program's name, all of them, among the program's host ends.

@@ -1,0 +1,4 @@
+pub mod Marks
+pub mod Holders
+pub mod Moves
+pub mod Folding
