@@ -1,11 +1,11 @@
-//! The program: runs the lines of its input, and writes their replies; or runs steps that are drawn, and
-//! writes a summary.
+//! The program: runs the lines of its input, and writes their replies, or the picture of the run; or runs steps
+//! that are drawn from a seed, and writes a summary.
 #![tactic(auto)]
 
-ghost use Rattle.std.specs.Prelude.{IfOk, drop, map, string_bytes};
+ghost use Rattle.std.specs.Prelude.{◌↔◌, IsTrue, IfOk, drop, map, string_bytes};
 ghost use Rattle.std.specs.Process.{exit_status};
 ghost use Rattle.std.specs.Vec.Iter.{into_iter_items};
-ghost use Rattle.strm.specs.Served.{IsServed};
+ghost use Rattle.strm.specs.Served.{TellsToDraw, IsServed};
 
 use std::alloc::{AllocError, Global};
 use std::env::Args;
@@ -54,7 +54,9 @@ impl<S: Source, K: Sink> AmongHosts for Work<S, K> {
 }
 
 // Whether the words tell the program to draw.
-fn is_draw(words: &Vec<String>) -> bool {
+fn is_draw(words: &Vec<String>) -> bool
+    ensures { IsTrue result ↔ TellsToDraw (map string_bytes words.now.items) }
+{
     let words = words.as_slice();
     words.len() == 1 && words[0].as_bytes() == b"draw".as_slice()
 }

@@ -2,3 +2,7 @@ pub mod Marks
 pub mod Holders
 pub mod Moves
 pub mod Folding
+pub mod Running
+pub mod Layout
+pub mod Svg
+pub mod Serving

@@ -17,7 +17,10 @@ pub(crate) struct Point {
 #[derive(Clone, Copy)]
 pub(crate) enum Element {
     /// The head of a lane.
-    Head { at: Point, lane: Lane },
+    Head {
+        at: Point,
+        lane: Lane,
+    },
     /// The ground of rows that come again, and how often they do.
     Fold {
         corner: Point,
@@ -26,13 +29,29 @@ pub(crate) enum Element {
         times: u32,
     },
     /// The number of a step.
-    Step { at: Point, number: u64 },
+    Step {
+        at: Point,
+        number: u64,
+    },
     /// A tie from a mark to another lane, or across all.
-    Tie { from: Point, to: Point },
+    Tie {
+        from: Point,
+        to: Point,
+    },
     /// A mark, with its words.
-    Mark { at: Point, mark: Mark },
+    Mark {
+        at: Point,
+        mark: Mark,
+    },
     /// An arrow from lane to lane, with its count.
-    Move { from: Point, to: Point, arrow: Arrow },
+    Move {
+        from: Point,
+        to: Point,
+        arrow: Arrow,
+    },
     /// Why a run stopped.
-    Stop { at: Point, stop: Stop },
+    Stop {
+        at: Point,
+        stop: Stop,
+    },
 }

@@ -1,9 +1,6 @@
 //! The words of a picture: of a lane, of a step, of what was answered, of a stop.
 //!
-//! Meaning: `Labels.antt`. Ours. No word has a character that SVG keeps for itself.
-
-ghost use Rattle.std.specs.Prelude.{◌≡◌, ◌++◌, OnOk};
-ghost use Rattle.strm_drawing.specs.Labels.{lane_text, word_of_deed, object_text, count_text, code_text, said_text, label_text, stop_text};
+//! Ours. No word has a character that SVG keeps for itself.
 
 use crate::arrows::Lane;
 use crate::marks::{Deed, Mark, Object, Said};

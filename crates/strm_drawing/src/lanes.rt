@@ -14,7 +14,9 @@ use strm_codes::counts::OutOfMemory;
 
 // Where the first lane stands, how far it is from each lane to the next, and where that stands which is of no lane.
 const FIRST_LANE: u64 = 200;
+
 const LANE_WIDTH: u64 = 200;
+
 const NO_LANE: u64 = 136;
 
 // How many lanes are drawn, at most: more than there are guests and host ends.

@@ -22,12 +22,16 @@ const LAST_WIDTH: u64 = 340;
 
 // Where the numbers of steps end, and where stands what is of no lane.
 const NUMBER_END: u64 = 116;
+
 const NO_LANE: u64 = 136;
 
 // How high the rows are: of heads, of marks, of arrows, and what is left free below all.
 const HEAD_HEIGHT: u64 = 44;
+
 const MARK_HEIGHT: u64 = 22;
+
 const ARROW_HEIGHT: u64 = 24;
+
 const FOOT_HEIGHT: u64 = 12;
 
 // After so many rows the heads stand again.

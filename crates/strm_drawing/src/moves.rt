@@ -2,11 +2,11 @@
 //!
 //! Meaning: `Moves.antt`. Ours.
 
-ghost use Rattle.std.specs.Prelude.{◌≡◌, ◌≤◌, ◌+◌, ◌++◌, map, length, IfOk, OnOk};
-ghost use Rattle.std.specs.List.{flat_map, range_with_len};
+ghost use Rattle.std.specs.Prelude.{◌≡◌, ◌≤◌, ◌+◌, map, IfOk};
+ghost use Rattle.std.specs.List.{range_with_len};
 ghost use Rattle.strm_machine.specs.Moments.{received};
 ghost use Rattle.strm_machine.specs.State.{State};
-ghost use Rattle.strm_drawing.specs.Moves.{handle_in, end_named_in, end_of_handle, span_of, move_on, moves_in};
+ghost use Rattle.strm_drawing.specs.Moves.{handle_in, end_named_in, end_of_handle, span_of, move_on};
 
 use crate::arrows::Arrow;
 use crate::holders::AllHolders;
@@ -76,7 +76,8 @@ pub(crate) fn end_named_in(store: &Store, step: &Step) -> Option<EndInfo>
 /// The streams on which a step may move items: the one whose end a read or write names, or in a drive round
 /// all.
 pub(crate) fn span_of(store: &Store, named: &Option<EndInfo>, step: &Step) -> Span
-    ensures { result ≡ span_of store.now named.now step.now }
+    ensures exact { result ≡ span_of store.now named.now step.now }
+    ensures within { result.first + result.count ≤ 4294967296 }
 {
     match (step, named) {
         (Step::Write { .. } | Step::Read { .. }, Some(end)) => Span {
@@ -107,7 +108,7 @@ pub(crate) fn received_before(
     store: &Store,
     span: Span,
 ) -> Result<Counts, OutOfMemory>
-    requires { span.first + span.count ≤ 4294967295 }
+    requires { span.first + span.count ≤ 4294967296 }
     ensures { IfOk result (λ counts.
         counts ≡ map (λ s. received s store.now) (range_with_len span.first span.count)) }
 {

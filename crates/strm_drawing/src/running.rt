@@ -2,18 +2,21 @@
 //!
 //! Meaning: `Moves.antt`, and `Running.antt` for what a run comes to. Ours.
 
-ghost use Rattle.std.specs.Prelude.{◌≡◌, ◌≢◌, ◌≤◌, ◌∷◌, ◌++◌, [], map, length, Ok, Err, IfOk, IfErr, OnOk};
-ghost use Rattle.std.specs.List.{filter_map, range_with_len};
+ghost use Rattle.std.specs.Prelude.{◌≡◌, ◌≢◌, ◌≤◌, ◌+◌, ◌++◌, ◌∷◌, [], false, map, length, Some, Err, IfOk, IfErr, OnOk};
+ghost use Rattle.std.specs.List.{range_with_len};
 ghost use Rattle.strm_codes.specs.declared.refusals.Refusal.{Refusal};
 ghost use Rattle.strm_host_machine.specs.Does.{Fits};
 ghost use Rattle.strm_laws.specs.Starts.{run_start};
 ghost use Rattle.strm_machine.specs.Moments.{received};
 ghost use Rattle.strm_machine.specs.State.{State};
-ghost use Rattle.strm_session.specs.Runs.{HaveRoom, stop_of};
+ghost use Rattle.strm_machine.specs.declared.stops.Stop.{Stop};
+ghost use Rattle.strm_session.specs.Runs.{stop_of};
 ghost use Rattle.strm_transmit.specs.Hosted.{call_answered};
+ghost use Rattle.strm_drawing.specs.declared.arrows.Row.{Row};
 ghost use Rattle.strm_drawing.specs.Folding.{rows_kept, IsFolding};
 ghost use Rattle.strm_drawing.specs.Holders.{holders_after};
 ghost use Rattle.strm_drawing.specs.Moves.{end_named_in, span_of, moves_on, rows_of_step};
+ghost use Rattle.strm_drawing.specs.Running.{IsStepDrawn, IsStopDrawn, IsRunDrawn, IsPicture, IsEnding, WasSeen};
 
 use crate::arrows::Row;
 use crate::folding::FoldedRows;
@@ -27,6 +30,7 @@ use strm_lines::lists::Counts;
 use strm_lines::one_by_one::GivesSteps;
 use strm_machine::replies::Reply;
 use strm_machine::steps::Step;
+use strm_machine::stops::Stop;
 use strm_session::runs::{PROGRAM_LIMITS, RunCause};
 use strm_session::serving::{DONE, status_of};
 use strm_transmit::errors::StoreError;
@@ -61,7 +65,16 @@ fn push_arrows(
     holders: &AllHolders,
     span: Span,
     before: &Counts,
-) -> Result<(), OutOfMemory> {
+) -> Result<(), OutOfMemory>
+    requires within { span.first + span.count ≤ 4294967296 }
+    requires folding { IsFolding rows.old }
+    requires all { length before.now ≡ span.count }
+    ensures arrows { (state : State) →
+        before.now ≡ map (λ s. received s state) (range_with_len span.first span.count) →
+        OnOk result (rows_kept rows.new ≡ rows_kept rows.old
+        ++ map Row.Arrow (moves_on holders.now state store.now span)) }
+    ensures folding { OnOk result (IsFolding rows.new) }
+{
     for k in 0..span.count {
         let stream = span.first + k;
         if let Some(arrow) = arrow_on(store, holders, stream, before.as_slice()[k as usize]) {
@@ -78,7 +91,18 @@ fn keep_step(
     seen: &Seen,
     step: &Step,
     reply: &Reply,
-) -> Result<(), OutOfMemory> {
+) -> Result<(), OutOfMemory>
+    requires folding { IsFolding sketch.old.rows }
+    requires within { seen.now.span.first + seen.now.span.count ≤ 4294967296 }
+    requires all { length seen.now.before ≡ seen.now.span.count }
+    ensures rows { (state : State) → WasSeen state step.now seen.now →
+        OnOk result (rows_kept sketch.new.rows ≡ rows_kept sketch.old.rows
+        ++ rows_of_step sketch.old.holders state step.now reply.now store.now) }
+    ensures holders { (state : State) → WasSeen state step.now seen.now →
+        OnOk result (sketch.new.holders
+        ≡ holders_after sketch.old.holders (end_named_in state step.now) step.now reply.now) }
+    ensures folding { OnOk result (IsFolding sketch.new.rows) }
+{
     sketch
         .rows
         .push(Row::Mark(mark_of(step, &seen.named, reply)))?;
@@ -93,7 +117,11 @@ fn keep_step(
 }
 
 // Looks at a store before a step.
-fn look(alloc: Global, store: &Store, step: &Step) -> Result<Seen, OutOfMemory> {
+fn look(alloc: Global, store: &Store, step: &Step) -> Result<Seen, OutOfMemory>
+    ensures seen { IfOk result (WasSeen store.now step.now) }
+    ensures within { IfOk result (λ s. s.span.first + s.span.count ≤ 4294967296) }
+    ensures all { IfOk result (λ s. length s.before ≡ s.span.count) }
+{
     let named = end_named_in(store, step);
     let span = span_of(store, &named, step);
     let before = received_before(alloc, store, span)?;
@@ -111,7 +139,22 @@ fn draw_step<H: HostEnds>(
     hosts: &mut H,
     sketch: &mut Sketch,
     step: &Step,
-) -> Result<(), RunCause> {
+) -> Result<(), RunCause>
+    requires running { store.old.trapped ≡ false }
+    requires fits { Fits store.old (H.tells hosts.old) }
+    requires folding { IsFolding sketch.old.rows }
+    ensures drawn { OnOk result (IsStepDrawn step.now store.old store.new
+        (H.tells hosts.old) (H.tells hosts.new) (rows_kept sketch.old.rows)
+        (rows_kept sketch.new.rows) sketch.old.holders sketch.new.holders) }
+    ensures stopped { IfErr result (λ cause. IsStopDrawn step.now store.old store.new
+        (H.tells hosts.old) (H.tells hosts.new) cause (rows_kept sketch.old.rows)
+        (rows_kept sketch.new.rows)) }
+    ensures running { OnOk result (store.new.trapped ≡ false) }
+    ensures fits { OnOk result (Fits store.new (H.tells hosts.new)) }
+    ensures folding { OnOk result (IsFolding sketch.new.rows) }
+    ensures still { IfErr result (λ cause. (stop : Stop) → stop_of cause ≡ Some stop →
+        IsFolding sketch.new.rows) }
+{
     let Ok(seen) = look(alloc, store, step) else {
         return Err(RunCause::OutOfMemory);
     };
@@ -131,7 +174,18 @@ fn draw_steps<L: GivesSteps, H: HostEnds>(
     hosts: &mut H,
     sketch: &mut Sketch,
     steps: &mut L,
-) -> Result<(), RunCause> {
+) -> Result<(), RunCause>
+    requires begins { store.old ≡ run_start }
+    requires fits { Fits store.old (H.tells hosts.old) }
+    requires folding { IsFolding sketch.old.rows }
+    requires none { rows_kept sketch.old.rows ≡ [] }
+    requires unmade { sketch.old.holders ≡ [] }
+    ensures drawn { IsRunDrawn (H.tells hosts.old) (H.tells hosts.new) (L.left steps.old)
+        (rows_kept sketch.new.rows) result }
+    ensures folding { OnOk result (IsFolding sketch.new.rows) }
+    ensures still { IfErr result (λ cause. (stop : Stop) → stop_of cause ≡ Some stop →
+        IsFolding sketch.new.rows) }
+{
     for _ in 0..steps.len() {
         let step = steps.next();
         draw_step(alloc, store, hosts, sketch, &step)?;
@@ -145,26 +199,49 @@ pub fn draw_run<L: GivesSteps, H: HostEnds>(
     alloc: Global,
     steps: &mut L,
     hosts: &mut H,
-) -> Result<Picture, OutOfMemory> {
+) -> Result<Picture, OutOfMemory>
+    ensures { IfOk result
+        (IsPicture (H.tells hosts.old) (H.tells hosts.new) (L.left steps.old)) }
+{
     let mut store = Store::new(alloc, 0, PROGRAM_LIMITS);
     let mut sketch = Sketch {
         rows: FoldedRows::new(alloc, steps.len() > MOST_UNFOLDED),
         holders: AllHolders::new(alloc),
     };
     let ended = draw_steps(alloc, &mut store, hosts, &mut sketch, steps);
-    let (status, stop) = match ended {
-        Ok(()) => (DONE, None),
-        Err(cause) => {
-            let (status, stop) = status_of(cause)?;
-            (status, Some(stop))
-        }
-    };
+    let Ending { status, stop } = ending_of(ended)?;
     let blocks = sketch.rows.blocks()?;
     Ok(Picture {
         blocks,
         stop,
         status,
     })
+}
+
+// How a run ended: its status, and why it stopped, if it did.
+#[derive(Clone, Copy)]
+struct Ending {
+    status: u8,
+    stop: Option<Stop>,
+}
+
+// The end of a run that came out so.
+fn ending_of(ended: Result<(), RunCause>) -> Result<Ending, OutOfMemory>
+    ensures { IfOk result (IsEnding ended) }
+{
+    match ended {
+        Ok(()) => Ok(Ending {
+            status: DONE,
+            stop: None,
+        }),
+        Err(cause) => {
+            let (status, stop) = status_of(cause)?;
+            Ok(Ending {
+                status,
+                stop: Some(stop),
+            })
+        }
+    }
 }
 
 // Why a run stops where the store did not do a step.

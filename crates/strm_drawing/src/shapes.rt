@@ -3,6 +3,7 @@
 //! Ours. Lengths are in pixels.
 
 ghost use Rattle.std.specs.Prelude.{◌≡◌, ◌++◌, OnOk};
+ghost use Rattle.strm_drawing.specs.Svg.{attribute_text, element_begin, open_text, close_text, line_text, path_text};
 
 use crate::elements::Point;
 use strm_codes::counts::OutOfMemory;
@@ -21,7 +22,13 @@ pub(crate) enum Sign {
 }
 
 /// Adds an attribute.
-pub(crate) fn push_attribute(out: &mut TextBytes, name: &[u8], value: u64) -> Result<(), OutOfMemory> {
+pub(crate) fn push_attribute(
+    out: &mut TextBytes,
+    name: &[u8],
+    value: u64,
+) -> Result<(), OutOfMemory>
+    ensures { OnOk result (out.new ≡ out.old ++ attribute_text name.now value) }
+{
     out.push_slice(b" ")?;
     out.push_slice(name)?;
     out.push_slice(b"=\"")?;
@@ -30,7 +37,9 @@ pub(crate) fn push_attribute(out: &mut TextBytes, name: &[u8], value: u64) -> Re
 }
 
 // Begins an element of a class.
-fn begin_element(out: &mut TextBytes, name: &[u8], class: &[u8]) -> Result<(), OutOfMemory> {
+fn begin_element(out: &mut TextBytes, name: &[u8], class: &[u8]) -> Result<(), OutOfMemory>
+    ensures { OnOk result (out.new ≡ out.old ++ element_begin name.now class.now) }
+{
     out.push_slice(b"<")?;
     out.push_slice(name)?;
     out.push_slice(b" class=\"")?;
@@ -44,7 +53,9 @@ pub(crate) fn push_line(
     class: &[u8],
     from: Point,
     to: Point,
-) -> Result<(), OutOfMemory> {
+) -> Result<(), OutOfMemory>
+    ensures { OnOk result (out.new ≡ out.old ++ line_text class.now from to) }
+{
     begin_element(out, b"line", class)?;
     push_attribute(out, b"x1", from.x)?;
     push_attribute(out, b"y1", from.y)?;
@@ -70,11 +81,9 @@ pub(crate) fn push_rect(
 }
 
 /// Begins a text, which `end_text` ends.
-pub(crate) fn begin_text(
-    out: &mut TextBytes,
-    class: &[u8],
-    at: Point,
-) -> Result<(), OutOfMemory> {
+pub(crate) fn begin_text(out: &mut TextBytes, class: &[u8], at: Point) -> Result<(), OutOfMemory>
+    ensures { OnOk result (out.new ≡ out.old ++ open_text class.now at) }
+{
     begin_element(out, b"text", class)?;
     push_attribute(out, b"x", at.x)?;
     push_attribute(out, b"y", at.y)?;
@@ -82,7 +91,9 @@ pub(crate) fn begin_text(
 }
 
 /// Ends a text.
-pub(crate) fn end_text(out: &mut TextBytes) -> Result<(), OutOfMemory> {
+pub(crate) fn end_text(out: &mut TextBytes) -> Result<(), OutOfMemory>
+    ensures { OnOk result (out.new ≡ out.old ++ close_text) }
+{
     out.push_slice(b"</text>\n")
 }
 
@@ -92,7 +103,9 @@ pub(crate) fn push_path(
     class: &[u8],
     from: Point,
     steps: &[u8],
-) -> Result<(), OutOfMemory> {
+) -> Result<(), OutOfMemory>
+    ensures { OnOk result (out.new ≡ out.old ++ path_text class.now from steps.now) }
+{
     begin_element(out, b"path", class)?;
     out.push_slice(b" d=\"M")?;
     push_number(out, from.x)?;

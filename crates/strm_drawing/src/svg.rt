@@ -3,7 +3,7 @@
 //! Meaning: `Svg.antt`. Ours. Lengths are in pixels.
 
 ghost use Rattle.std.specs.Prelude.{◌≡◌, ◌++◌, IfOk, OnOk};
-ghost use Rattle.strm_drawing.specs.Svg.{arrow_text, line_text, loop_text, count_text, Spells, IsText, IsSvg};
+ghost use Rattle.strm_drawing.specs.Svg.{Adds, count_text, IsArrowText, Spells, IsText, IsSvg};
 
 use crate::arrows::{Arrow, Lane};
 use crate::elements::{Element, Point};
@@ -23,14 +23,17 @@ use strm_machine::stops::Stop;
 
 // The size of a head.
 const HEAD_WIDTH: u64 = 116;
+
 const HEAD_HEIGHT: u64 = 24;
 
 // From a mark to the right to where its words begin, and down to where letters stand.
 const WORDS_RIGHT: u64 = 10;
+
 const WORDS_DOWN: u64 = 4;
 
 // Where it stands how often rows come again, and how far below their ground's edge.
 const TIMES_BEGIN: u64 = 6;
+
 const TIMES_DOWN: u64 = 15;
 
 // From the middle of an arrow's row down to the arrow.
@@ -38,6 +41,7 @@ const ARROW_DOWN: u64 = 5;
 
 // How an arrow goes that leads back to its lane, and from there to the right to its count.
 const LOOP: &[u8] = b"m0-5c44-4 44 14 0 10";
+
 const LOOP_RIGHT: u64 = 42;
 
 // The colours of a picture, by day and by night, the tip of its arrows, and its ground.
@@ -181,7 +185,9 @@ fn push_count(
     class: &[u8],
     at: Point,
     arrow: &Arrow,
-) -> Result<(), OutOfMemory> {
+) -> Result<(), OutOfMemory>
+    ensures { OnOk result (out.new ≡ out.old ++ count_text class.now at arrow.now) }
+{
     begin_text(out, class, at)?;
     push_number(out, arrow.count)?;
     out.push_slice(b" on stream ")?;
@@ -190,12 +196,9 @@ fn push_count(
 }
 
 // Adds an arrow, from the lane of its write end to that of its read end, with its count.
-fn push_arrow(
-    out: &mut TextBytes,
-    from: Point,
-    to: Point,
-    arrow: &Arrow,
-) -> Result<(), OutOfMemory> {
+fn push_arrow(out: &mut TextBytes, from: Point, to: Point, arrow: &Arrow) -> Result<(), OutOfMemory>
+    ensures { OnOk result (Adds out.old out.new (IsArrowText from to arrow.now)) }
+{
     if from.x == to.x {
         push_path(out, b"move", from, LOOP)?;
         return push_count(out, b"aside", beside(from, LOOP_RIGHT, WORDS_DOWN), arrow);
@@ -218,28 +221,47 @@ fn push_end(out: &mut TextBytes, at: Point, stop: Stop) -> Result<(), OutOfMemor
     end_text(out)
 }
 
-// Adds an element.
-fn push_element(out: &mut TextBytes, element: &Element) -> Result<(), OutOfMemory> {
+// The text of an element that is no arrow.
+fn other_text(alloc: Global, element: &Element) -> Result<TextBytes, OutOfMemory> {
+    let mut out = TextBytes::new(alloc);
     match element {
-        Element::Head { at, lane } => push_head(out, *at, *lane),
+        Element::Head { at, lane } => push_head(&mut out, *at, *lane)?,
         Element::Fold {
             corner,
             width,
             height,
             times,
-        } => push_fold(out, *corner, *width, *height, *times),
-        Element::Step { at, number } => push_step(out, *at, *number),
-        Element::Tie { from, to } => push_line(out, b"tie", *from, *to),
-        Element::Mark { at, mark } => push_mark(out, *at, mark),
-        Element::Move { from, to, arrow } => push_arrow(out, *from, *to, arrow),
-        Element::Stop { at, stop } => push_end(out, *at, *stop),
+        } => push_fold(&mut out, *corner, *width, *height, *times)?,
+        Element::Step { at, number } => push_step(&mut out, *at, *number)?,
+        Element::Tie { from, to } => push_line(&mut out, b"tie", *from, *to)?,
+        Element::Mark { at, mark } => push_mark(&mut out, *at, mark)?,
+        Element::Stop { at, stop } => push_end(&mut out, *at, *stop)?,
+        Element::Move { .. } => {}
     }
+    Ok(out)
+}
+
+// Adds an element.
+fn push_element(alloc: Global, out: &mut TextBytes, element: &Element) -> Result<(), OutOfMemory>
+    ensures { OnOk result (Adds out.old out.new (Spells element.now)) }
+{
+    if let Element::Move { from, to, arrow } = element {
+        return push_arrow(out, *from, *to, arrow);
+    }
+    let text = other_text(alloc, element)?;
+    out.push_slice(text.as_slice())
 }
 
 // Adds elements.
-fn push_elements(out: &mut TextBytes, elements: &[Element]) -> Result<(), OutOfMemory> {
+fn push_elements(
+    alloc: Global,
+    out: &mut TextBytes,
+    elements: &[Element],
+) -> Result<(), OutOfMemory>
+    ensures { OnOk result (Adds out.old out.new (IsText elements.now)) }
+{
     for element in elements {
-        push_element(out, element)?;
+        push_element(alloc, out, element)?;
     }
     Ok(())
 }
@@ -267,13 +289,21 @@ fn push_front(out: &mut TextBytes, width: u64, height: u64) -> Result<(), OutOfM
     out.push_slice(STYLE)
 }
 
-/// The text of a picture.
-pub fn svg_text(alloc: Global, picture: &Picture) -> Result<TextBytes, OutOfMemory> {
-    let layout = Layout::of(alloc, picture)?;
+// What stands before the elements of a picture.
+fn front_text(alloc: Global, layout: &Layout) -> Result<TextBytes, OutOfMemory> {
     let mut out = TextBytes::new(alloc);
     push_front(&mut out, layout.width(), layout.down)?;
-    push_lanes(&mut out, &layout)?;
-    push_elements(&mut out, layout.elements.as_slice())?;
+    push_lanes(&mut out, layout)?;
+    Ok(out)
+}
+
+/// The text of a picture.
+pub fn svg_text(alloc: Global, picture: &Picture) -> Result<TextBytes, OutOfMemory>
+    ensures { IfOk result (IsSvg picture.now.blocks.items) }
+{
+    let layout = Layout::of(alloc, picture)?;
+    let mut out = front_text(alloc, &layout)?;
+    push_elements(alloc, &mut out, layout.elements.as_slice())?;
     out.push_slice(b"</svg>\n")?;
     Ok(out)
 }
