@@ -1,3 +1,4 @@
 pub mod RunLemmas
 pub mod FoldLemmas
-pub mod LayoutLemmas
+pub mod TextLemmas
+pub mod MoveLemmas

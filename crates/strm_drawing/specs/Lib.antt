@@ -3,6 +3,6 @@ pub mod Holders
 pub mod Moves
 pub mod Folding
 pub mod Running
-pub mod Layout
+pub mod Places
 pub mod Svg
 pub mod Serving

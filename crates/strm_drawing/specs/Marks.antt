@@ -1,7 +1,10 @@
 -- The mark of a step, by its line's words, the end that its handle names, and the reply. Ours.
 use Rattle.std.specs.Prelude.{ℕ, List, length, Option, Some, None}
+use Rattle.strm_codes.specs.declared.codes.ReturnCode.{ReturnCode}
+use Rattle.strm_codes.specs.declared.codes.ReturnCode.TheVariants as codes
 use Rattle.strm_codes.specs.declared.codes.TransmitIndex.{TransmitIndex}
 use Rattle.strm_codes.specs.declared.codes.TransmitIndex.TheVariants as index
+use Rattle.strm_machine.specs.declared.replies.Member.{Member}
 use Rattle.strm_machine.specs.declared.replies.Reply.{Reply}
 use Rattle.strm_machine.specs.declared.replies.Reply.TheVariants as replies
 use Rattle.strm_machine.specs.declared.steps.Step.{Step}
@@ -11,21 +14,34 @@ use Rattle.strm_drawing.specs.declared.arrows.Lane.{Lane}
 use Rattle.strm_drawing.specs.declared.arrows.Lane.TheVariants.{Guest, Writer, Reader, Nobody}
 use Rattle.strm_drawing.specs.declared.marks.Deed.{Deed}
 use Rattle.strm_drawing.specs.declared.marks.Deed.TheVariants as deeds
+use Rattle.strm_drawing.specs.declared.marks.DrawnCode.{DrawnCode}
+use Rattle.strm_drawing.specs.declared.marks.DrawnCode.TheVariants as drawn
 use Rattle.strm_drawing.specs.declared.marks.Object.{Object}
 use Rattle.strm_drawing.specs.declared.marks.Object.TheVariants as objects
 use Rattle.strm_drawing.specs.declared.marks.Said.{Said}
 use Rattle.strm_drawing.specs.declared.marks.Said.TheVariants as said
 use Rattle.strm_drawing.specs.declared.marks.Mark.{Mark}
 
+-- what is drawn of a code: its word, and its count in items
+abbrev pub drawn_code : ReturnCode → DrawnCode
+drawn_code codes.Blocked = drawn.Blocked
+drawn_code (codes.Completed n) = drawn.Completed n
+drawn_code (codes.Dropped n) = drawn.Dropped n
+drawn_code (codes.Cancelled n) = drawn.Cancelled n
+
+-- and of a member of a set that was told one
+abbrev pub drawn_member : Member → Said
+drawn_member member = said.Member member.handle (drawn_code member.code)
+
 -- what is drawn of a reply; a run has no reply of the last two kinds
 abbrev pub answer_of : Reply → Said
 answer_of replies.Done = said.Done
 answer_of (replies.Number n) = said.Number n
 answer_of (replies.Pair pair) = said.Pair pair
-answer_of (replies.Code code) = said.Code code
-answer_of (replies.Event (Some code)) = said.Code code
+answer_of (replies.Code code) = said.Code (drawn_code code)
+answer_of (replies.Event (Some code)) = said.Code (drawn_code code)
 answer_of (replies.Event None) = said.Nothing
-answer_of (replies.Member (Some member)) = said.Member member
+answer_of (replies.Member (Some member)) = drawn_member member
 answer_of (replies.Member None) = said.Nothing
 answer_of (replies.Bytes bytes) = said.Done
 answer_of (replies.Refused refusal) = said.Refused refusal

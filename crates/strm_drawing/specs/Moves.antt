@@ -1,7 +1,7 @@
 -- The moves of a run: which steps moved how many items on which stream, and who had its ends. A step moves items
 -- on a stream where the machine's count of items received there rises. Ours.
 use Rattle.std.specs.Prelude.{◌≡◌, ℕ, zero, suc, ◌-◌, List, [], ◌∷◌, ◌++◌, length, map, Option, Some, None, Result, Ok, Err}
-use Rattle.std.specs.List.{filter_map, flat_map, range_with_len}
+use Rattle.std.specs.List.{flat_map, range_with_len}
 use Rattle.strm_codes.specs.declared.refusals.Refusal.{Refusal}
 use Rattle.strm_machine.specs.Moments.{received}
 use Rattle.strm_machine.specs.State.{State}
@@ -81,17 +81,18 @@ span_of state named steps.Drive = span 0 (length state.streams)
 span_of state named step = span 0 0
 
 -- so many items were moved on a stream, if any, whose ends these have
-abbrev pub move_of : ℕ → Holders → ℕ → Option Arrow
-move_of s holders zero = None
-move_of s holders (suc n) = Some (record { stream = s; count = suc n; from = holders.writer; to = holders.reader })
+abbrev pub move_of : ℕ → Holders → ℕ → List Arrow
+move_of s holders zero = []
+move_of s holders (suc n) =
+    record { stream = s; count = suc n; from = holders.writer; to = holders.reader } ∷ []
 
 -- what a step moved on a stream that led from the one state to the other
-abbrev pub move_on : List Holders → State → State → ℕ → Option Arrow
+abbrev pub move_on : List Holders → State → State → ℕ → List Arrow
 move_on all before after s = move_of s (holders_at all s) (received s after - received s before)
 
 -- what it moved on these streams, by their numbers
 abbrev pub moves_on : List Holders → State → State → Span → List Arrow
-moves_on all before after on = filter_map (move_on all before after) (range_with_len on.first on.count)
+moves_on all before after on = flat_map (move_on all before after) (range_with_len on.first on.count)
 
 -- what a step moved that led from the one state to the other
 abbrev pub moves_in : List Holders → State → Step → State → List Arrow

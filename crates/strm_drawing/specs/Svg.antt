@@ -1,17 +1,13 @@
--- The text of a picture, as far as it is promised: the elements are spelled one behind the other, and an arrow's text
--- has its count and goes from the lane of its write end to that of its read end. Ours.
-use Rattle.std.specs.Prelude.{◌≡◌, ◌==◌, ℕ, if◌then◌else◌, List, [], ◌∷◌, ◌++◌, All, codes, decimal}
+-- The text of a picture, as far as it is promised: each arrow has a text with its count, from the lane of its write end
+-- to that of its read end, and these texts stand there in the order of the arrows. Ours.
+use Rattle.std.specs.Prelude.{◌≡◌, ◌≢◌, ℕ, List, [], ◌∷◌, ◌++◌, codes, decimal, ◌⊎◌}
+use Rattle.std.specs.List.{flat_map}
 use Rattle.strm_drawing.specs.declared.arrows.Arrow.{Arrow}
 use Rattle.strm_drawing.specs.declared.arrows.Lane.{Lane}
-use Rattle.strm_drawing.specs.declared.elements.Element.{Element}
-use Rattle.strm_drawing.specs.declared.elements.Element.TheVariants as elements
-use Rattle.strm_drawing.specs.declared.elements.Point.{Point}
 use Rattle.strm_drawing.specs.declared.folding.Block.{Block}
-use Rattle.strm_drawing.specs.Layout.{IsPlaced, arrows_drawn, arrows_of_blocks}
-
--- a text has more, which is so
-abbrev pub Adds : List ℕ → List ℕ → (List ℕ → Type 0) → Type 0
-Adds old new P = (more : List ℕ) × (new ≡ old ++ more) × P more
+use Rattle.strm_drawing.specs.declared.shapes.Point.{Point}
+use Rattle.strm_drawing.specs.Moves.{arrows_in}
+use Rattle.strm_drawing.specs.Places.{StandsAt}
 
 -- ELEMENTS OF SVG
 
@@ -66,32 +62,37 @@ IsLoopText from arrow text =
     (steps : List ℕ) × (at : Point)
     × (text ≡ path_text (codes "move") from steps ++ count_text (codes "aside") at arrow)
 
--- the text of an arrow: a line between two places, or a way back to the same
-abbrev pub IsArrowText : Point → Point → Arrow → List ℕ → Type 0
-IsArrowText from to arrow text = if from.x == to.x then IsLoopText from arrow text else IsLineText from to arrow text
+-- the text of an arrow, from the lane of its write end to that of its read end
+pub record IsArrowText (lanes : List Lane) (arrow : Arrow) (text : List ℕ) : Type 0 where
+  pub from : Point
+  pub to : Point
+  pub stands : StandsAt lanes from.x arrow.from
+  pub leads : StandsAt lanes to.x arrow.to
+  pub text_is : (IsLoopText from arrow text × (from.x ≡ to.x)) ⊎ IsLineText from to arrow text
 
 -- THE WHOLE
 
--- an element's text; only of an arrow it is said which
-abbrev pub Spells : Element → List ℕ → Type 0
-Spells (elements.Move from to arrow) text = IsArrowText from to arrow text
-Spells _ text = Unit {0}
+-- the arrows of a block's rows, each once
+abbrev pub arrows_of_block : Block → List Arrow
+arrows_of_block block = arrows_in block.rows.items
 
--- the texts of elements, one behind the other
-abbrev pub IsText : List Element → List ℕ → Type 0
-IsText [] text = text ≡ []
-IsText (element ∷ more) text =
-    (first : List ℕ) × (rest : List ℕ) × (text ≡ first ++ rest) × Spells element first × IsText more rest
+-- those of blocks
+abbrev pub arrows_of_blocks : List Block → List Arrow
+arrows_of_blocks all = flat_map arrows_of_block all
 
--- the text of a picture: between its front and its end the elements, which have exactly the arrows of the blocks'
--- rows, in their order, and stand at their lanes
-pub record IsSvg (blocks : List Block) (text : List ℕ) : Type 0 where
-  pub lanes : List Lane
-  pub all : List Element
-  pub front : List ℕ
-  pub middle : List ℕ
-  pub back : List ℕ
-  pub text_is : text ≡ front ++ middle ++ back
-  pub spelled : IsText all middle
-  pub arrows : arrows_drawn all ≡ arrows_of_blocks blocks
-  pub placed : All (IsPlaced lanes) all
+-- the texts of these arrows stand in a text, one behind the other
+unfoldable pub Shows : List Lane → List Arrow → List ℕ → Type 0
+Shows lanes [] text = Unit {0}
+Shows lanes (arrow ∷ more) text =
+    (front : List ℕ) × (first : List ℕ) × (rest : List ℕ)
+    × (text ≡ front ++ (first ++ rest)) × IsArrowText lanes arrow first × Shows lanes more rest
+
+-- a text has more, in which they stand
+pub record Shown (lanes : List Lane) (arrows : List Arrow) (old new : List ℕ) : Type 0 where
+  pub more : List ℕ
+  pub more_is : new ≡ old ++ more
+  pub shows : Shows lanes arrows more
+
+-- the text of a picture: the arrows of its blocks' rows stand there
+abbrev pub IsSvg : List Block → List ℕ → Type 0
+IsSvg blocks text = (lanes : List Lane) × Shows lanes (arrows_of_blocks blocks) text

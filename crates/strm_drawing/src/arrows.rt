@@ -18,7 +18,7 @@ pub enum Lane {
 }
 
 /// So many items that were moved on a stream, from its write end to its read end.
-#[derive(Clone, Copy, PartialEq, Eq)]
+#[derive(Clone, Copy)]
 pub struct Arrow {
     pub stream: u32,
     /// In items, above 0.
@@ -30,7 +30,7 @@ pub struct Arrow {
 }
 
 /// A row of a picture. Each step has a mark, and behind it the arrows of what it moved.
-#[derive(Clone, Copy, PartialEq, Eq)]
+#[derive(Clone, Copy)]
 pub enum Row {
     Mark(Mark),
     Arrow(Arrow),

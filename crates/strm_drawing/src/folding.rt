@@ -2,10 +2,11 @@
 //!
 //! Meaning: `Folding.antt`. Ours. Which rows are folded is a choice; what they stand for is all rows, in order.
 
-ghost use Rattle.std.specs.Prelude.{◌≡◌, ◌<◌, ◌≤◌, ◌∷◌, ◌++◌, [], length, IsTrue, IfSome, IfOk, OnOk};
+ghost use Rattle.std.specs.Prelude.{◌≡◌, ◌<◌, ◌≤◌, ◌+◌, ◌∷◌, ◌++◌, [], length, take, true, IsTrue, IfSome, IfOk, OnOk, OnErr};
 ghost use Rattle.strm_drawing.specs.Folding.{rows_kept, spread_all, ComesAgain, IsFolding};
 
 use crate::arrows::Row;
+use crate::sameness::same_row;
 use std::alloc::Global;
 use std::mem;
 use strm_codes::counts::OutOfMemory;
@@ -42,19 +43,27 @@ pub(crate) struct FoldedRows {
     tail: Vec<Row>,
 }
 
+/// Adds an item at the end.
+pub(crate) fn push_item<T: Copy>(items: &mut Vec<T>, item: &T) -> Result<(), OutOfMemory>
+    ensures ok { OnOk result (items.new.items ≡ items.old.items ++ item.now ∷ []) }
+    ensures err { OnErr result (items.new.items ≡ items.old.items) }
+{
+    items.reserve(1)?;
+    items.push_reserved(*item);
+    Ok(())
+}
+
 // How many rows in a run are the same as those `period` before them, from `period` on.
 fn repeated(rows: &[Row], period: usize) -> usize
     requires { 0 < period }
     ensures { result ≤ length rows.now }
 {
-    let mut k = period;
-    while k < rows.len() {
-        if rows[k] != rows[k - period] {
+    for k in period..rows.len() {
+        if !same_row(&rows[k], &rows[k - period]) {
             return k - period;
         }
-        k += 1;
     }
-    k.saturating_sub(period)
+    rows.len().saturating_sub(period)
 }
 
 // How many rows are spared where the first `period` are kept once.
@@ -95,7 +104,30 @@ fn comes_again(block: &Block, rows: &[Row]) -> bool
     ensures { IsTrue result → ComesAgain block.now rows.now }
 {
     let again = block.rows.as_slice();
-    block.times < u32::MAX && again.len() <= rows.len() && again == &rows[..again.len()]
+    block.times < u32::MAX && again.len() <= rows.len() && begins_with(rows, again)
+}
+
+// Whether rows begin with others.
+fn begins_with(rows: &[Row], others: &[Row]) -> bool
+    requires { length others.now ≤ length rows.now }
+    ensures { IsTrue result → take (length others.now) rows.now ≡ others.now }
+{
+    for k in 0..others.len() {
+        if !same_next(rows, others, k) {
+            return false;
+        }
+    }
+    true
+}
+
+// Whether rows that begin with so many of others begin with one more of them.
+fn same_next(rows: &[Row], others: &[Row], k: usize) -> bool
+    requires rows { k < length rows.now }
+    requires others { k < length others.now }
+    ensures { IsTrue result → take k rows.now ≡ take k others.now →
+        take (k + 1) rows.now ≡ take (k + 1) others.now }
+{
+    same_row(&rows[k], &others[k])
 }
 
 impl FoldedRows {
@@ -117,13 +149,12 @@ impl FoldedRows {
     }
 
     /// A row more.
-    pub(crate) fn push(&mut self, row: Row) -> Result<(), OutOfMemory>
+    pub(crate) fn push(&mut self, row: &Row) -> Result<(), OutOfMemory>
         requires { IsFolding self.old }
-        ensures rows { OnOk result (rows_kept self.new ≡ rows_kept self.old ++ row ∷ []) }
+        ensures rows { OnOk result (rows_kept self.new ≡ rows_kept self.old ++ row.now ∷ []) }
         ensures folding { OnOk result (IsFolding self.new) }
     {
-        self.tail.reserve(1)?;
-        self.tail.push_reserved(row);
+        push_item(&mut self.tail, row)?;
         if !self.folds || self.tail.len() >= WINDOW {
             self.settle()?;
         }
@@ -155,12 +186,16 @@ impl FoldedRows {
 
     // The last block stands there once more.
     fn stand_again(&mut self) -> Result<(), OutOfMemory>
+        requires repeats { self.old.repeats ≡ true }
         requires again { ComesAgain self.old.last self.old.tail.items }
         requires some { 0 < length self.old.last.rows.items }
         ensures rows { OnOk result (rows_kept self.new ≡ rows_kept self.old) }
+        ensures folding { OnOk result (IsFolding self.new) }
         ensures fewer { OnOk result (length self.new.tail.items < length self.old.tail.items) }
     {
-        let rest = copied(self.alloc, &self.tail[self.last.rows.len()..])?;
+        let again = self.last.rows.as_slice().len();
+        let (_, rest) = self.tail.as_slice().split_at(again);
+        let rest = copied(self.alloc, rest)?;
         self.last.times += 1;
         self.tail = rest;
         Ok(())
@@ -174,8 +209,9 @@ impl FoldedRows {
         ensures folding { OnOk result (IsFolding self.new) }
         ensures fewer { OnOk result (length self.new.tail.items < length self.old.tail.items) }
     {
-        let rows = copied(self.alloc, &self.tail[..count])?;
-        let rest = copied(self.alloc, &self.tail[count..])?;
+        let (front, rest) = self.tail.as_slice().split_at(count);
+        let rows = copied(self.alloc, front)?;
+        let rest = copied(self.alloc, rest)?;
         self.done.reserve(1)?;
         let block = Block { rows, times: 1 };
         self.done.push_reserved(mem::replace(&mut self.last, block));
@@ -192,9 +228,10 @@ impl FoldedRows {
         ensures folding { OnOk result (IsFolding self.new) }
         ensures fewer { OnOk result (length self.new.tail.items < length self.old.tail.items) }
     {
-        let rest = copied(self.alloc, &self.tail[1..])?;
-        self.last.rows.reserve(1)?;
-        self.last.rows.push_reserved(self.tail[0]);
+        let first = self.tail[0];
+        let (_, rest) = self.tail.as_slice().split_at(1);
+        let rest = copied(self.alloc, rest)?;
+        push_item(&mut self.last.rows, &first)?;
         self.tail = rest;
         Ok(())
     }

@@ -3,8 +3,7 @@
 //! Ours. No word has a character that SVG keeps for itself.
 
 use crate::arrows::Lane;
-use crate::marks::{Deed, Mark, Object, Said};
-use strm_codes::codes::ReturnCode;
+use crate::marks::{Deed, DrawnCode, Mark, Object, Said};
 use strm_codes::counts::OutOfMemory;
 use strm_lines::lists::TextBytes;
 use strm_lines::texts::push_number;
@@ -90,12 +89,12 @@ pub fn push_label(out: &mut TextBytes, mark: &Mark) -> Result<(), OutOfMemory> {
 }
 
 // Adds a code.
-fn push_code(out: &mut TextBytes, code: ReturnCode) -> Result<(), OutOfMemory> {
+fn push_code(out: &mut TextBytes, code: DrawnCode) -> Result<(), OutOfMemory> {
     match code {
-        ReturnCode::Blocked => out.push_slice(b"Blocked"),
-        ReturnCode::Completed(count) => push_numbered(out, b"Completed ", count.as_u32()),
-        ReturnCode::Dropped(count) => push_numbered(out, b"Dropped ", count.as_u32()),
-        ReturnCode::Cancelled(count) => push_numbered(out, b"Cancelled ", count.as_u32()),
+        DrawnCode::Blocked => out.push_slice(b"Blocked"),
+        DrawnCode::Completed(count) => push_numbered(out, b"Completed ", count),
+        DrawnCode::Dropped(count) => push_numbered(out, b"Dropped ", count),
+        DrawnCode::Cancelled(count) => push_numbered(out, b"Cancelled ", count),
     }
 }
 
@@ -122,10 +121,10 @@ pub fn push_said(out: &mut TextBytes, mark: &Mark) -> Result<(), OutOfMemory> {
         }
         Said::Code(code) => push_code(out, code),
         Said::Nothing => out.push_slice(b"none"),
-        Said::Member(member) => {
-            push_numbered(out, b"handle ", member.handle)?;
+        Said::Member { handle, code } => {
+            push_numbered(out, b"handle ", handle)?;
             out.push_slice(b" ")?;
-            push_code(out, member.code)
+            push_code(out, code)
         }
         Said::Refused(refusal) => {
             out.push_slice(b"refused ")?;

@@ -1,23 +1,25 @@
 //! Which lanes a picture has, and where they stand: the guests', the host writers', the host readers', by their
 //! numbers.
 //!
-//! Meaning: `Layout.antt`. Ours. Lengths are in pixels.
+//! Meaning: `Places.antt`. Ours. Lengths are in pixels.
 
-ghost use Rattle.std.specs.Prelude.{◌≡◌, ◌<◌, ◌+◌, ◌*◌, length, slice_get, Contains, Some, None, IfSome};
-ghost use Rattle.strm_drawing.specs.Layout.{StandsAt};
+ghost use Rattle.std.specs.Prelude.{◌≡◌, ◌≢◌, ◌<◌, ◌+◌, ◌*◌, length, slice_get, All, Some, None, IfSome};
+ghost use Rattle.strm_drawing.specs.Places.{StandsAt};
 
 use crate::arrows::{Lane, Row};
-use crate::folding::Block;
+use crate::folding::{Block, push_item};
 use crate::marks::{Deed, Mark, Said};
+use crate::sameness::same_lane;
 use std::alloc::Global;
 use strm_codes::counts::OutOfMemory;
 
-// Where the first lane stands, how far it is from each lane to the next, and where that stands which is of no lane.
+// Where the first lane stands, and how far it is from each lane to the next.
 const FIRST_LANE: u64 = 200;
 
 const LANE_WIDTH: u64 = 200;
 
-const NO_LANE: u64 = 136;
+/// Where that stands which is of no lane.
+pub(crate) const NO_LANE: u64 = 136;
 
 // How many lanes are drawn, at most: more than there are guests and host ends.
 const MOST_LANES: usize = 4_294_967_295;
@@ -115,8 +117,7 @@ impl Lanes {
     // A lane more, to the right of the others.
     fn add(&mut self, lane: Lane) -> Result<(), OutOfMemory> {
         if self.all.len() < MOST_LANES {
-            self.all.reserve(1)?;
-            self.all.push_reserved(lane);
+            push_item(&mut self.all, &lane)?;
         }
         Ok(())
     }
@@ -124,13 +125,13 @@ impl Lanes {
     // The place of a lane, if it has one, looked for from the right: there the host ends are.
     fn find(&self, lane: Lane) -> Option<u32>
         ensures some { IfSome result (λ place. slice_get self.now.all.items place ≡ Some lane) }
-        ensures none { result ≡ None → ¬ Contains self.now.all.items lane }
+        ensures none { result ≡ None → All (λ other. other ≢ lane) self.now.all.items }
     {
         let all = self.all.as_slice();
         let mut place = self.count();
         while place > 0 {
             place -= 1;
-            if all[place as usize] == lane {
+            if same_lane(all[place as usize], lane) {
                 return Some(place);
             }
         }
@@ -140,10 +141,10 @@ impl Lanes {
     // The place of a lane, if it has one. A guest's is its number.
     fn place(&self, lane: Lane) -> Option<u32>
         ensures some { IfSome result (λ place. slice_get self.now.all.items place ≡ Some lane) }
-        ensures none { result ≡ None → ¬ Contains self.now.all.items lane }
+        ensures none { result ≡ None → All (λ other. other ≢ lane) self.now.all.items }
     {
         if let Lane::Guest(number) = lane {
-            if number < self.count() && self.all[number as usize] == lane {
+            if number < self.count() && same_lane(self.all[number as usize], lane) {
                 return Some(number);
             }
         }

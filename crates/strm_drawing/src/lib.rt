@@ -5,16 +5,15 @@
 #![tactic(auto)]
 
 pub mod arrows;
-mod elements;
 mod folding;
 mod holders;
 mod labels;
 mod lanes;
-mod layout;
 pub mod marks;
 mod moves;
 pub mod pictures;
 pub mod running;
+mod sameness;
 pub mod serving;
 mod shapes;
 mod svg;

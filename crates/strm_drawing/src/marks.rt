@@ -3,7 +3,7 @@
 //! Meaning: `Marks.antt`. Ours.
 
 ghost use Rattle.std.specs.Prelude.{◌≡◌};
-ghost use Rattle.strm_drawing.specs.Marks.{answer_of, made_guest, deed_of, lane_of_step, other_lane, end_object, object_of, items_in, bytes_in, count_in, mark_of};
+ghost use Rattle.strm_drawing.specs.Marks.{drawn_code, drawn_member, answer_of, made_guest, deed_of, lane_of_step, other_lane, end_object, object_of, items_in, bytes_in, count_in, mark_of};
 
 use crate::arrows::Lane;
 use strm_codes::codes::{ReturnCode, TransmitIndex};
@@ -58,8 +58,17 @@ pub enum Object {
     Nothing,
 }
 
+/// A code, with its count in items.
+#[derive(Clone, Copy)]
+pub enum DrawnCode {
+    Blocked,
+    Completed(u32),
+    Dropped(u32),
+    Cancelled(u32),
+}
+
 /// What is drawn of a reply.
-#[derive(Clone, Copy, PartialEq, Eq)]
+#[derive(Clone, Copy)]
 pub enum Said {
     /// It was done, with nothing more to say.
     Done,
@@ -68,17 +77,17 @@ pub enum Said {
     /// It made a stream.
     Pair(Pair),
     /// A code.
-    Code(ReturnCode),
+    Code(DrawnCode),
     /// There was nothing to tell.
     Nothing,
-    /// A member of a set was told something.
-    Member(Member),
+    /// The member of a set under this handle was told this.
+    Member { handle: u32, code: DrawnCode },
     /// It was refused.
     Refused(Refusal),
 }
 
 /// The mark of a step.
-#[derive(Clone, Copy, PartialEq, Eq)]
+#[derive(Clone, Copy)]
 pub struct Mark {
     pub deed: Deed,
     /// Where it stands.
@@ -91,6 +100,28 @@ pub struct Mark {
     pub said: Said,
 }
 
+// What is drawn of a code.
+fn drawn_code(code: ReturnCode) -> DrawnCode
+    ensures { result ≡ drawn_code code }
+{
+    match code {
+        ReturnCode::Blocked => DrawnCode::Blocked,
+        ReturnCode::Completed(count) => DrawnCode::Completed(count.as_u32()),
+        ReturnCode::Dropped(count) => DrawnCode::Dropped(count.as_u32()),
+        ReturnCode::Cancelled(count) => DrawnCode::Cancelled(count.as_u32()),
+    }
+}
+
+// What is drawn of a member that was told something.
+fn drawn_member(member: &Member) -> Said
+    ensures { result ≡ drawn_member member.now }
+{
+    Said::Member {
+        handle: member.handle,
+        code: drawn_code(member.code),
+    }
+}
+
 // What is drawn of a reply.
 fn answer_of(reply: &Reply) -> Said
     ensures { result ≡ answer_of reply.now }
@@ -99,8 +130,8 @@ fn answer_of(reply: &Reply) -> Said
         Reply::Done | Reply::Bytes(_) => Said::Done,
         Reply::Number(number) => Said::Number(*number),
         Reply::Pair(pair) => Said::Pair(*pair),
-        Reply::Code(code) | Reply::Event(Some(code)) => Said::Code(*code),
-        Reply::Member(Some(member)) => Said::Member(*member),
+        Reply::Code(code) | Reply::Event(Some(code)) => Said::Code(drawn_code(*code)),
+        Reply::Member(Some(member)) => drawn_member(member),
         Reply::Event(None) | Reply::Member(None) => Said::Nothing,
         Reply::Refused(refusal) => Said::Refused(*refusal),
         Reply::BadItem { .. } | Reply::StoreTrapped => Said::Nothing,

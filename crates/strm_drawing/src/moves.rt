@@ -2,11 +2,11 @@
 //!
 //! Meaning: `Moves.antt`. Ours.
 
-ghost use Rattle.std.specs.Prelude.{◌≡◌, ◌≤◌, ◌+◌, map, IfOk};
+ghost use Rattle.std.specs.Prelude.{◌≡◌, ◌≤◌, ◌+◌, map, length, option_to_list, IfOk};
 ghost use Rattle.std.specs.List.{range_with_len};
 ghost use Rattle.strm_machine.specs.Moments.{received};
 ghost use Rattle.strm_machine.specs.State.{State};
-ghost use Rattle.strm_drawing.specs.Moves.{handle_in, end_named_in, end_of_handle, span_of, move_on};
+ghost use Rattle.strm_drawing.specs.Moves.{handle_in, end_named_in, end_of_handle, span, span_of, move_on};
 
 use crate::arrows::Arrow;
 use crate::holders::AllHolders;
@@ -73,6 +73,28 @@ pub(crate) fn end_named_in(store: &Store, step: &Step) -> Option<EndInfo>
     }
 }
 
+// One stream.
+fn span_of_one(stream: u32) -> Span
+    ensures exact { result ≡ span stream 1 }
+    ensures within { result.first + result.count ≤ 4294967296 }
+{
+    Span {
+        first: stream,
+        count: 1,
+    }
+}
+
+// All streams that were made.
+fn span_of_all(store: &Store) -> Span
+    ensures exact { result ≡ span 0 (length store.now.streams) }
+    ensures within { result.first + result.count ≤ 4294967296 }
+{
+    Span {
+        first: 0,
+        count: store.streams(),
+    }
+}
+
 /// The streams on which a step may move items: the one whose end a read or write names, or in a drive round
 /// all.
 pub(crate) fn span_of(store: &Store, named: &Option<EndInfo>, step: &Step) -> Span
@@ -80,14 +102,8 @@ pub(crate) fn span_of(store: &Store, named: &Option<EndInfo>, step: &Step) -> Sp
     ensures within { result.first + result.count ≤ 4294967296 }
 {
     match (step, named) {
-        (Step::Write { .. } | Step::Read { .. }, Some(end)) => Span {
-            first: end.stream,
-            count: 1,
-        },
-        (Step::Drive, _) => Span {
-            first: 0,
-            count: store.streams(),
-        },
+        (Step::Write { .. } | Step::Read { .. }, Some(end)) => span_of_one(end.stream),
+        (Step::Drive, _) => span_of_all(store),
         _ => Span { first: 0, count: 0 },
     }
 }
@@ -127,7 +143,7 @@ pub(crate) fn arrow_on(
     before: u128,
 ) -> Option<Arrow>
     ensures { (state : State) → before ≡ received stream state →
-        (result ≡ move_on holders.now state store.now stream) }
+        (option_to_list result ≡ move_on holders.now state store.now stream) }
 {
     let count = received_on(store, stream).saturating_sub(before);
     if count == 0 {

@@ -2,7 +2,7 @@
 //!
 //! Meaning: `Moves.antt`, and `Running.antt` for what a run comes to. Ours.
 
-ghost use Rattle.std.specs.Prelude.{◌≡◌, ◌≢◌, ◌≤◌, ◌+◌, ◌++◌, ◌∷◌, [], false, map, length, Some, Err, IfOk, IfErr, OnOk};
+ghost use Rattle.std.specs.Prelude.{◌≡◌, ◌≢◌, ◌<◌, ◌≤◌, ◌+◌, ◌++◌, [], ℕ, false, map, length, Some, Err, IfOk, IfErr, OnOk};
 ghost use Rattle.std.specs.List.{range_with_len};
 ghost use Rattle.strm_codes.specs.declared.refusals.Refusal.{Refusal};
 ghost use Rattle.strm_host_machine.specs.Does.{Fits};
@@ -15,7 +15,7 @@ ghost use Rattle.strm_transmit.specs.Hosted.{call_answered};
 ghost use Rattle.strm_drawing.specs.declared.arrows.Row.{Row};
 ghost use Rattle.strm_drawing.specs.Folding.{rows_kept, IsFolding};
 ghost use Rattle.strm_drawing.specs.Holders.{holders_after};
-ghost use Rattle.strm_drawing.specs.Moves.{end_named_in, span_of, moves_on, rows_of_step};
+ghost use Rattle.strm_drawing.specs.Moves.{end_named_in, move_on, moves_on, rows_of_step};
 ghost use Rattle.strm_drawing.specs.Running.{IsStepDrawn, IsStopDrawn, IsRunDrawn, IsPicture, IsEnding, WasSeen};
 
 use crate::arrows::Row;
@@ -58,6 +58,36 @@ struct Sketch {
     holders: AllHolders,
 }
 
+// Adds the arrow of what a step moved on a stream, by how many items were received on it before.
+fn push_arrow(
+    rows: &mut FoldedRows,
+    store: &Store,
+    holders: &AllHolders,
+    stream: u32,
+    before: u128,
+) -> Result<(), OutOfMemory>
+    requires { IsFolding rows.old }
+    ensures arrow { (state : State) → before ≡ received stream state →
+        OnOk result (rows_kept rows.new ≡ rows_kept rows.old
+        ++ map Row.Arrow (move_on holders.now state store.now stream)) }
+    ensures folding { OnOk result (IsFolding rows.new) }
+{
+    if let Some(arrow) = arrow_on(store, holders, stream, before) {
+        rows.push(&Row::Arrow(arrow))?;
+    }
+    Ok(())
+}
+
+// How many items were received before on the k-th of some streams.
+fn count_before(before: &Counts, k: u32) -> u128
+    requires { k < length before.now }
+    ensures { (state : State) (first count : ℕ) →
+        before.now ≡ map (λ s. received s state) (range_with_len first count) →
+        result ≡ received (first + k) state }
+{
+    before.as_slice()[k as usize]
+}
+
 // Adds the arrows of what a step moved on these streams, by how many items were received on each before.
 fn push_arrows(
     rows: &mut FoldedRows,
@@ -76,10 +106,13 @@ fn push_arrows(
     ensures folding { OnOk result (IsFolding rows.new) }
 {
     for k in 0..span.count {
-        let stream = span.first + k;
-        if let Some(arrow) = arrow_on(store, holders, stream, before.as_slice()[k as usize]) {
-            rows.push(Row::Arrow(arrow))?;
-        }
+        push_arrow(
+            rows,
+            store,
+            holders,
+            span.first + k,
+            count_before(before, k),
+        )?;
     }
     Ok(())
 }
@@ -105,7 +138,7 @@ fn keep_step(
 {
     sketch
         .rows
-        .push(Row::Mark(mark_of(step, &seen.named, reply)))?;
+        .push(&Row::Mark(mark_of(step, &seen.named, reply)))?;
     push_arrows(
         &mut sketch.rows,
         store,
@@ -113,7 +146,8 @@ fn keep_step(
         seen.span,
         &seen.before,
     )?;
-    sketch.holders.go_on(&seen.named, step, reply)
+    sketch.holders.go_on(&seen.named, step, reply)?;
+    Ok(())
 }
 
 // Looks at a store before a step.

@@ -5,10 +5,16 @@
 ghost use Rattle.std.specs.Prelude.{◌≡◌, ◌++◌, OnOk};
 ghost use Rattle.strm_drawing.specs.Svg.{attribute_text, element_begin, open_text, close_text, line_text, path_text};
 
-use crate::elements::Point;
 use strm_codes::counts::OutOfMemory;
 use strm_lines::lists::TextBytes;
 use strm_lines::texts::push_number;
+
+/// A place in a picture, from its upper left corner.
+#[derive(Clone, Copy)]
+pub(crate) struct Point {
+    pub x: u64,
+    pub y: u64,
+}
 
 /// The signs of marks.
 #[derive(Clone, Copy)]

@@ -1,25 +1,42 @@
-//! A picture as a text of SVG.
+//! A picture as a text of SVG: lanes side by side, and below their heads the rows, from the first step on.
 //!
 //! Meaning: `Svg.antt`. Ours. Lengths are in pixels.
 
-ghost use Rattle.std.specs.Prelude.{◌≡◌, ◌++◌, IfOk, OnOk};
-ghost use Rattle.strm_drawing.specs.Svg.{Adds, count_text, IsArrowText, Spells, IsText, IsSvg};
+ghost use Rattle.std.specs.Prelude.{◌≡◌, ◌∷◌, ◌++◌, [], IfOk, OnOk};
+ghost use Rattle.strm_drawing.specs.Moves.{arrow_in, arrows_in};
+ghost use Rattle.strm_drawing.specs.Svg.{count_text, arrows_of_block, arrows_of_blocks, Shown, IsSvg};
 
-use crate::arrows::{Arrow, Lane};
-use crate::elements::{Element, Point};
+use crate::arrows::{Arrow, Lane, Row};
+use crate::folding::Block;
 use crate::labels::{push_label, push_lane, push_said, push_stop};
-use crate::layout::Layout;
-use crate::marks::{Deed, Mark, Said};
+use crate::lanes::{Lanes, NO_LANE};
+use crate::marks::{Deed, DrawnCode, Mark, Said};
 use crate::pictures::Picture;
 use crate::shapes::{
-    Sign, begin_text, end_text, push_attribute, push_line, push_path, push_rect, push_sign,
+    Point, Sign, begin_text, end_text, push_attribute, push_line, push_path, push_rect, push_sign,
 };
 use std::alloc::Global;
-use strm_codes::codes::ReturnCode;
 use strm_codes::counts::OutOfMemory;
 use strm_lines::lists::TextBytes;
 use strm_lines::texts::push_number;
 use strm_machine::stops::Stop;
+
+// From the last lane to the right edge, and where the numbers of steps end.
+const LAST_WIDTH: u64 = 340;
+
+const NUMBER_END: u64 = 116;
+
+// How high the rows are: of heads, of marks, of arrows, and what is left free below all.
+const HEADS_HEIGHT: u64 = 44;
+
+const MARK_HEIGHT: u64 = 22;
+
+const ARROW_HEIGHT: u64 = 24;
+
+const FOOT_HEIGHT: u64 = 12;
+
+// After so many rows the heads stand again.
+const ROWS_BELOW_HEADS: u32 = 40;
 
 // The size of a head.
 const HEAD_WIDTH: u64 = 116;
@@ -93,6 +110,46 @@ text{fill:#e6edf3}
 <rect class=\"paper\" width=\"100%\" height=\"100%\"/>
 ";
 
+// How far down a picture goes so far, the number of the last step, and how many rows stand below the last heads.
+#[derive(Clone, Copy)]
+struct Pen {
+    down: u64,
+    step: u64,
+    rows_below_heads: u32,
+}
+
+impl Pen {
+    // Goes down by so much; answers how far down the middle of that is.
+    fn go_down(&mut self, height: u64) -> u64 {
+        let middle = self.down.saturating_add(height / 2);
+        self.down = self.down.saturating_add(height);
+        middle
+    }
+
+    // Goes on to the next row, of this height.
+    fn next_row(&mut self, height: u64) -> u64 {
+        self.rows_below_heads = self.rows_below_heads.saturating_add(1);
+        self.go_down(height)
+    }
+
+    // Goes on to the next step.
+    fn next_step(&mut self) -> u64 {
+        self.step = self.step.saturating_add(1);
+        self.step
+    }
+
+    // So many steps come so many times more.
+    fn skip(&mut self, steps: u64, times: u32) {
+        let more = steps.saturating_mul(u64::from(times));
+        self.step = self.step.saturating_add(more);
+    }
+}
+
+// How wide a picture is.
+fn width_of(lanes: &Lanes) -> u64 {
+    lanes.last_x().saturating_add(LAST_WIDTH)
+}
+
 // A place to the right of another and below it.
 fn beside(at: Point, right: u64, down: u64) -> Point {
     Point {
@@ -105,7 +162,7 @@ fn beside(at: Point, right: u64, down: u64) -> Point {
 fn sign_of(mark: &Mark) -> (Sign, &'static [u8]) {
     match mark.said {
         Said::Refused(_) => return (Sign::Cross, b"refused"),
-        Said::Code(ReturnCode::Blocked) => return (Sign::Ring, b"wait"),
+        Said::Code(DrawnCode::Blocked) => return (Sign::Ring, b"wait"),
         _ => {}
     }
     match mark.deed {
@@ -126,7 +183,7 @@ fn sign_of(mark: &Mark) -> (Sign, &'static [u8]) {
 fn class_of(said: Said) -> &'static [u8] {
     match said {
         Said::Refused(_) => b"bad",
-        Said::Code(ReturnCode::Blocked) => b"waits",
+        Said::Code(DrawnCode::Blocked) => b"waits",
         _ => b"said",
     }
 }
@@ -143,32 +200,56 @@ fn push_head(out: &mut TextBytes, at: Point, lane: Lane) -> Result<(), OutOfMemo
     end_text(out)
 }
 
-// Adds the ground of rows that come again, and how often they do.
-fn push_fold(
-    out: &mut TextBytes,
-    corner: Point,
-    width: u64,
-    height: u64,
-    times: u32,
-) -> Result<(), OutOfMemory> {
-    push_rect(out, b"fold", corner, width, height)?;
-    begin_text(out, b"times", beside(corner, TIMES_BEGIN, TIMES_DOWN))?;
-    out.push_slice(b"&#215; ")?;
-    push_number(out, times)?;
-    end_text(out)
+// Adds the heads of all lanes.
+fn push_heads(out: &mut TextBytes, lanes: &Lanes, pen: &mut Pen) -> Result<(), OutOfMemory> {
+    let y = pen.go_down(HEADS_HEIGHT);
+    pen.rows_below_heads = 0;
+    for lane in lanes.all.as_slice() {
+        let x = lanes.x_of(*lane);
+        push_head(out, Point { x, y }, *lane)?;
+    }
+    Ok(())
 }
 
-// Adds the number of a step.
-fn push_step(out: &mut TextBytes, at: Point, number: u64) -> Result<(), OutOfMemory> {
+// Adds the heads again, where the last ones stand too far up.
+fn push_heads_again(out: &mut TextBytes, lanes: &Lanes, pen: &mut Pen) -> Result<(), OutOfMemory> {
+    if pen.rows_below_heads >= ROWS_BELOW_HEADS {
+        push_heads(out, lanes, pen)
+    } else {
+        Ok(())
+    }
+}
+
+// Adds the number of the next step.
+fn push_step(out: &mut TextBytes, y: u64, pen: &mut Pen) -> Result<(), OutOfMemory> {
+    let at = Point { x: NUMBER_END, y };
     begin_text(out, b"step", beside(at, 0, WORDS_DOWN))?;
-    push_number(out, number)?;
+    push_number(out, pen.next_step())?;
     end_text(out)
 }
 
-// Adds a mark: its sign and its words.
-fn push_mark(out: &mut TextBytes, at: Point, mark: &Mark) -> Result<(), OutOfMemory> {
-    let (sign, class) = sign_of(mark);
-    push_sign(out, class, at, sign)?;
+// Adds a tie from a mark to the lane that it leads to, and of a drive round one across all lanes.
+fn push_tie(
+    out: &mut TextBytes,
+    lanes: &Lanes,
+    mark: &Mark,
+    from: Point,
+) -> Result<(), OutOfMemory> {
+    let x = if mark.deed == Deed::Drive {
+        lanes.last_x()
+    } else if mark.other == Lane::Nobody {
+        from.x
+    } else {
+        lanes.x_of(mark.other)
+    };
+    if x == from.x {
+        return Ok(());
+    }
+    push_line(out, b"tie", from, Point { x, y: from.y })
+}
+
+// Adds the words of a mark.
+fn push_words(out: &mut TextBytes, at: Point, mark: &Mark) -> Result<(), OutOfMemory> {
     begin_text(out, b"deed", beside(at, WORDS_RIGHT, WORDS_DOWN))?;
     push_label(out, mark)?;
     out.push_slice(b" <tspan class=\"")?;
@@ -177,6 +258,29 @@ fn push_mark(out: &mut TextBytes, at: Point, mark: &Mark) -> Result<(), OutOfMem
     push_said(out, mark)?;
     out.push_slice(b"</tspan>")?;
     end_text(out)
+}
+
+// The text of a mark: heads where they stand again, the step's number, a tie, a sign and words.
+fn mark_text(
+    alloc: Global,
+    lanes: &Lanes,
+    mark: &Mark,
+    again: bool,
+    pen: &mut Pen,
+) -> Result<TextBytes, OutOfMemory> {
+    let mut out = TextBytes::new(alloc);
+    if again {
+        push_heads_again(&mut out, lanes, pen)?;
+    }
+    let y = pen.next_row(MARK_HEIGHT);
+    let x = lanes.x_of(mark.lane);
+    let at = Point { x, y };
+    push_step(&mut out, y, pen)?;
+    push_tie(&mut out, lanes, mark, at)?;
+    let (sign, class) = sign_of(mark);
+    push_sign(&mut out, class, at, sign)?;
+    push_words(&mut out, at, mark)?;
+    Ok(out)
 }
 
 // Adds the count of an arrow.
@@ -196,104 +300,195 @@ fn push_count(
 }
 
 // Adds an arrow, from the lane of its write end to that of its read end, with its count.
-fn push_arrow(out: &mut TextBytes, from: Point, to: Point, arrow: &Arrow) -> Result<(), OutOfMemory>
-    ensures { OnOk result (Adds out.old out.new (IsArrowText from to arrow.now)) }
+fn push_arrow(out: &mut TextBytes, lanes: &Lanes, arrow: &Arrow, y: u64) -> Result<(), OutOfMemory>
+    ensures { OnOk result
+        (Shown lanes.now.all.items (arrow.now ∷ []) out.old out.new) }
 {
-    if from.x == to.x {
-        push_path(out, b"move", from, LOOP)?;
-        return push_count(out, b"aside", beside(from, LOOP_RIGHT, WORDS_DOWN), arrow);
-    }
-    let begin = beside(from, 0, ARROW_DOWN);
-    push_line(out, b"move", begin, beside(to, 0, ARROW_DOWN))?;
-    let middle = Point {
-        x: from.x / 2 + to.x / 2,
+    let from = Point {
+        x: lanes.x_of(arrow.from),
+        y: y.saturating_add(ARROW_DOWN),
+    };
+    let to = Point {
+        x: lanes.x_of(arrow.to),
         y: from.y,
     };
-    push_count(out, b"count", middle, arrow)
-}
-
-// Adds why a run stopped.
-fn push_end(out: &mut TextBytes, at: Point, stop: Stop) -> Result<(), OutOfMemory> {
-    push_sign(out, b"refused", at, Sign::Cross)?;
-    begin_text(out, b"bad", beside(at, WORDS_RIGHT, WORDS_DOWN))?;
-    out.push_slice(b"stopped: ")?;
-    push_stop(out, stop)?;
-    end_text(out)
-}
-
-// The text of an element that is no arrow.
-fn other_text(alloc: Global, element: &Element) -> Result<TextBytes, OutOfMemory> {
-    let mut out = TextBytes::new(alloc);
-    match element {
-        Element::Head { at, lane } => push_head(&mut out, *at, *lane)?,
-        Element::Fold {
-            corner,
-            width,
-            height,
-            times,
-        } => push_fold(&mut out, *corner, *width, *height, *times)?,
-        Element::Step { at, number } => push_step(&mut out, *at, *number)?,
-        Element::Tie { from, to } => push_line(&mut out, b"tie", *from, *to)?,
-        Element::Mark { at, mark } => push_mark(&mut out, *at, mark)?,
-        Element::Stop { at, stop } => push_end(&mut out, *at, *stop)?,
-        Element::Move { .. } => {}
+    if from.x == to.x {
+        push_path(out, b"move", from, LOOP)?;
+        push_count(out, b"aside", beside(from, LOOP_RIGHT, WORDS_DOWN), arrow)?;
+        return Ok(());
     }
+    push_line(out, b"move", from, to)?;
+    let x = from.x / 2 + to.x / 2;
+    push_count(out, b"count", Point { x, y }, arrow)?;
+    Ok(())
+}
+
+// Adds a row.
+fn push_row(
+    alloc: Global,
+    out: &mut TextBytes,
+    lanes: &Lanes,
+    row: &Row,
+    again: bool,
+    pen: &mut Pen,
+) -> Result<(), OutOfMemory>
+    ensures { OnOk result
+        (Shown lanes.now.all.items (arrow_in row.now) out.old out.new) }
+{
+    match row {
+        Row::Mark(mark) => {
+            let text = mark_text(alloc, lanes, mark, again, pen)?;
+            out.push_slice(text.as_slice())?;
+            Ok(())
+        }
+        Row::Arrow(arrow) => {
+            let y = pen.next_row(ARROW_HEIGHT);
+            push_arrow(out, lanes, arrow, y)
+        }
+    }
+}
+
+// Adds rows, with the heads again between them or not.
+fn push_rows(
+    alloc: Global,
+    out: &mut TextBytes,
+    lanes: &Lanes,
+    rows: &[Row],
+    again: bool,
+    pen: &mut Pen,
+) -> Result<(), OutOfMemory>
+    ensures { OnOk result
+        (Shown lanes.now.all.items (arrows_in rows.now) out.old out.new) }
+{
+    for k in 0..rows.len() {
+        push_row(alloc, out, lanes, &rows[k], again, pen)?;
+    }
+    Ok(())
+}
+
+// How high a row is.
+fn height_of(row: &Row) -> u64 {
+    match row {
+        Row::Mark(_) => MARK_HEIGHT,
+        Row::Arrow(_) => ARROW_HEIGHT,
+    }
+}
+
+// How high rows are together.
+fn height_of_all(rows: &[Row]) -> u64 {
+    let mut height = 0u64;
+    for row in rows {
+        height = height.saturating_add(height_of(row));
+    }
+    height
+}
+
+// The ground of rows that come again, and how often they do.
+fn ground_text(
+    alloc: Global,
+    lanes: &Lanes,
+    block: &Block,
+    pen: &mut Pen,
+) -> Result<TextBytes, OutOfMemory> {
+    let mut out = TextBytes::new(alloc);
+    if block.times == 1 {
+        return Ok(out);
+    }
+    push_heads_again(&mut out, lanes, pen)?;
+    let corner = Point { x: 0, y: pen.down };
+    let height = height_of_all(block.rows.as_slice());
+    push_rect(&mut out, b"fold", corner, width_of(lanes), height)?;
+    begin_text(&mut out, b"times", beside(corner, TIMES_BEGIN, TIMES_DOWN))?;
+    out.push_slice(b"&#215; ")?;
+    push_number(&mut out, block.times)?;
+    end_text(&mut out)?;
     Ok(out)
 }
 
-// Adds an element.
-fn push_element(alloc: Global, out: &mut TextBytes, element: &Element) -> Result<(), OutOfMemory>
-    ensures { OnOk result (Adds out.old out.new (Spells element.now)) }
-{
-    if let Element::Move { from, to, arrow } = element {
-        return push_arrow(out, *from, *to, arrow);
-    }
-    let text = other_text(alloc, element)?;
-    out.push_slice(text.as_slice())
-}
-
-// Adds elements.
-fn push_elements(
+// Adds the rows of a block, each once.
+fn push_block(
     alloc: Global,
     out: &mut TextBytes,
-    elements: &[Element],
+    lanes: &Lanes,
+    block: &Block,
+    pen: &mut Pen,
 ) -> Result<(), OutOfMemory>
-    ensures { OnOk result (Adds out.old out.new (IsText elements.now)) }
+    ensures { OnOk result
+        (Shown lanes.now.all.items (arrows_of_block block.now) out.old out.new) }
 {
-    for element in elements {
-        push_element(alloc, out, element)?;
+    let ground = ground_text(alloc, lanes, block, pen)?;
+    let before = pen.step;
+    out.push_slice(ground.as_slice())?;
+    push_rows(
+        alloc,
+        out,
+        lanes,
+        block.rows.as_slice(),
+        block.times == 1,
+        pen,
+    )?;
+    let steps = pen.step.saturating_sub(before);
+    pen.skip(steps, block.times.saturating_sub(1));
+    Ok(())
+}
+
+// Adds the rows of all blocks.
+fn push_blocks(
+    alloc: Global,
+    out: &mut TextBytes,
+    lanes: &Lanes,
+    blocks: &[Block],
+    pen: &mut Pen,
+) -> Result<(), OutOfMemory>
+    ensures { OnOk result
+        (Shown lanes.now.all.items (arrows_of_blocks blocks.now) out.old out.new) }
+{
+    for k in 0..blocks.len() {
+        push_block(alloc, out, lanes, &blocks[k], pen)?;
     }
     Ok(())
+}
+
+// The text of why a run stopped, and at which step.
+fn end_of_run(alloc: Global, stop: Option<Stop>, pen: &mut Pen) -> Result<TextBytes, OutOfMemory> {
+    let mut out = TextBytes::new(alloc);
+    let Some(stop) = stop else {
+        return Ok(out);
+    };
+    let y = pen.next_row(MARK_HEIGHT);
+    let at = Point { x: NO_LANE, y };
+    push_step(&mut out, y, pen)?;
+    push_sign(&mut out, b"refused", at, Sign::Cross)?;
+    begin_text(&mut out, b"bad", beside(at, WORDS_RIGHT, WORDS_DOWN))?;
+    out.push_slice(b"stopped: ")?;
+    push_stop(&mut out, stop)?;
+    end_text(&mut out)?;
+    Ok(out)
 }
 
 // Adds the lines of the lanes, from top to bottom.
-fn push_lanes(out: &mut TextBytes, layout: &Layout) -> Result<(), OutOfMemory> {
-    for place in 0..layout.lanes.all.len() {
-        let x = layout.lanes.x_of(layout.lanes.all[place]);
-        let top = Point { x, y: 0 };
-        push_line(out, b"lane", top, Point { x, y: layout.down })?;
+fn push_lanes(out: &mut TextBytes, lanes: &Lanes, down: u64) -> Result<(), OutOfMemory> {
+    for lane in lanes.all.as_slice() {
+        let x = lanes.x_of(*lane);
+        push_line(out, b"lane", Point { x, y: 0 }, Point { x, y: down })?;
     }
     Ok(())
 }
 
-// Adds what a picture of this size begins with.
-fn push_front(out: &mut TextBytes, width: u64, height: u64) -> Result<(), OutOfMemory> {
-    out.push_slice(b"<svg xmlns=\"http://www.w3.org/2000/svg\"")?;
-    push_attribute(out, b"width", width)?;
-    push_attribute(out, b"height", height)?;
-    out.push_slice(b" viewBox=\"0 0 ")?;
-    push_number(out, width)?;
-    out.push_slice(b" ")?;
-    push_number(out, height)?;
-    out.push_slice(b"\">\n")?;
-    out.push_slice(STYLE)
-}
-
-// What stands before the elements of a picture.
-fn front_text(alloc: Global, layout: &Layout) -> Result<TextBytes, OutOfMemory> {
+// What stands before the rows of a picture that goes so far down: its size, its style, its lanes.
+fn front_text(alloc: Global, lanes: &Lanes, down: u64) -> Result<TextBytes, OutOfMemory> {
     let mut out = TextBytes::new(alloc);
-    push_front(&mut out, layout.width(), layout.down)?;
-    push_lanes(&mut out, layout)?;
+    let width = width_of(lanes);
+    out.push_slice(b"<svg xmlns=\"http://www.w3.org/2000/svg\"")?;
+    push_attribute(&mut out, b"width", width)?;
+    push_attribute(&mut out, b"height", down)?;
+    out.push_slice(b" viewBox=\"0 0 ")?;
+    push_number(&mut out, width)?;
+    out.push_slice(b" ")?;
+    push_number(&mut out, down)?;
+    out.push_slice(b"\">\n")?;
+    out.push_slice(STYLE)?;
+    push_lanes(&mut out, lanes, down)?;
     Ok(out)
 }
 
@@ -301,9 +496,26 @@ fn front_text(alloc: Global, layout: &Layout) -> Result<TextBytes, OutOfMemory> 
 pub fn svg_text(alloc: Global, picture: &Picture) -> Result<TextBytes, OutOfMemory>
     ensures { IfOk result (IsSvg picture.now.blocks.items) }
 {
-    let layout = Layout::of(alloc, picture)?;
-    let mut out = front_text(alloc, &layout)?;
-    push_elements(alloc, &mut out, layout.elements.as_slice())?;
+    let lanes = Lanes::of(alloc, picture.blocks.as_slice())?;
+    let mut pen = Pen {
+        down: 0,
+        step: 0,
+        rows_below_heads: 0,
+    };
+    let mut rows = TextBytes::new(alloc);
+    push_heads(&mut rows, &lanes, &mut pen)?;
+    push_blocks(
+        alloc,
+        &mut rows,
+        &lanes,
+        picture.blocks.as_slice(),
+        &mut pen,
+    )?;
+    let end = end_of_run(alloc, picture.stop, &mut pen)?;
+    let down = pen.down.saturating_add(FOOT_HEIGHT);
+    let mut out = front_text(alloc, &lanes, down)?;
+    out.push_slice(rows.as_slice())?;
+    out.push_slice(end.as_slice())?;
     out.push_slice(b"</svg>\n")?;
     Ok(out)
 }
