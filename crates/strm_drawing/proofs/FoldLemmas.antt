@@ -56,7 +56,7 @@ gone_on front rows rows_now tail rest x n once some e is f =
     ∙ ap (λ xs. xs ++ tail) (sym (times_over-once rows)) ∙ ap (λ k. times_over k rows ++ tail) (sym once))
 
 -- rows that begin with the same begin with one more of the same
-pub same_front : (xs ys : List Row) (k : ℕ) (x y : Row) → k < length xs → k < length ys → get_or xs k x ≡ x → get_or ys k y ≡ y → x ≡ y → take k xs ≡ take k ys → take (k + 1) xs ≡ take (k + 1) ys
-same_front xs ys k x y a b e f same front =
-    take_more xs k x a ∙ ap (λ zs. zs ++ get_or xs k x ∷ []) front
-    ∙ ap (λ z. take k ys ++ z ∷ []) (e ∙ same ∙ sym f) ∙ sym (take_more ys k y b)
+pub same_front : (xs ys : List Row) (k : ℕ) (d e : Row) → k < length xs → k < length ys → get_or xs k d ≡ get_or ys k e → take k xs ≡ take k ys → take (k + 1) xs ≡ take (k + 1) ys
+same_front xs ys k d e a b same front =
+    take_more xs k d a ∙ ap (λ zs. zs ++ get_or xs k d ∷ []) front
+    ∙ ap (λ z. take k ys ++ z ∷ []) same ∙ sym (take_more ys k e b)

@@ -1,20 +1,20 @@
 -- The rows of a step, and of what it moved.
-use Rattle.std.proofs.Common.{◌≡◌, ℕ, zero, suc, ◌+◌, List, [], ◌∷◌, ◌++◌, map, Option, refl, sym, ap, ◌∙◌, arith}
+use Rattle.std.proofs.Common.{◌≡◌, ℕ, zero, suc, ◌+◌, List, [], ◌∷◌, ◌++◌, map, refl, sym, ap, ◌∙◌, arith}
 use Rattle.std.specs.List.{flat_map, range_with_len}
 use Rattle.std.proofs.lemmas.Grind.{flat_map-append}
 use Rattle.std.proofs.lemmas.List.{append-nil, append_assoc, map-append}
 use Rattle.strm_machine.specs.State.{State}
 use Rattle.strm_machine.specs.declared.replies.Reply.{Reply}
 use Rattle.strm_machine.specs.declared.steps.Step.{Step}
-use Rattle.strm_transmit.specs.declared.store.queries.EndInfo.{EndInfo}
 use Rattle.strm_drawing.specs.declared.arrows.Arrow.{Arrow}
 use Rattle.strm_drawing.specs.declared.arrows.Row.{Row}
 use Rattle.strm_drawing.specs.declared.arrows.Row.TheVariants as rows
 use Rattle.strm_drawing.specs.declared.holders.Holders.{Holders}
 use Rattle.strm_drawing.specs.declared.marks.Mark.{Mark}
-use Rattle.strm_drawing.specs.declared.moves.Span.{Span}
+use Rattle.strm_drawing.specs.declared.running.Seen.{Seen}
 use Rattle.strm_drawing.specs.Marks.{mark_of}
-use Rattle.strm_drawing.specs.Moves.{end_named_in, span_of, moves_on, rows_of_step}
+use Rattle.strm_drawing.specs.Moves.{end_named_in, moves_on, rows_of_step}
+use Rattle.strm_drawing.specs.Running.{WasSeen}
 
 -- one number more
 pub range_more : (a n : ℕ) → range_with_len a (n + 1) ≡ range_with_len a n ++ (a + n) ∷ []
@@ -34,13 +34,11 @@ arrows_more f first k start old new e g =
     (sym (map-append rows.Arrow xs (f (first + k)))
     ∙ ap (map rows.Arrow) (ap (λ zs. xs ++ zs) (sym (append-nil (f (first + k)))) ∙ sym (flat_map-append f (range_with_len first k) ((first + k) ∷ [])) ∙ ap (flat_map f) (sym (range_more first k))))
 
--- the mark of a step, and the arrows behind it
-pub rows_kept_of_step : (all : List Holders) (before after : State) (step : Step) (reply : Reply) (named : Option EndInfo) (span : Span) (mark : Mark) (start mid now : List Row)
-    → named ≡ end_named_in before step → span ≡ span_of before (end_named_in before step) step → mark ≡ mark_of step named reply
-    → mid ≡ start ++ rows.Mark mark ∷ [] → now ≡ mid ++ map rows.Arrow (moves_on all before after span)
-    → now ≡ start ++ rows_of_step all before step reply after
-rows_kept_of_step all before after step reply named span mark start mid now n s m e f =
-    f ∙ ap (λ zs. zs ++ map rows.Arrow (moves_on all before after span)) e
-    ∙ append_assoc start (rows.Mark mark ∷ []) (map rows.Arrow (moves_on all before after span))
-    ∙ ap (λ k. start ++ rows.Mark k ∷ map rows.Arrow (moves_on all before after span)) (m ∙ ap (λ x. mark_of step x reply) n)
-    ∙ ap (λ k. start ++ rows.Mark (mark_of step (end_named_in before step) reply) ∷ map rows.Arrow (moves_on all before after k)) s
+module _ (all : List Holders) (before after : State) (step : Step) (reply : Reply) where
+  -- the mark of a step, and the arrows behind it
+  pub rows_kept_of_step : (seen : Seen) (mark : Mark) (start mid now : List Row) → WasSeen before step seen → mark ≡ mark_of step seen.named reply → mid ≡ start ++ rows.Mark mark ∷ [] → now ≡ mid ++ map rows.Arrow (moves_on all before after seen.span) → now ≡ start ++ rows_of_step all before step reply after
+  rows_kept_of_step seen mark start mid now was m e f =
+      f ∙ ap (λ zs. zs ++ map rows.Arrow (moves_on all before after seen.span)) e
+      ∙ append_assoc start (rows.Mark mark ∷ []) (map rows.Arrow (moves_on all before after seen.span))
+      ∙ ap (λ k. start ++ rows.Mark k ∷ map rows.Arrow (moves_on all before after seen.span)) (m ∙ ap (λ x. mark_of step x reply) was.named)
+      ∙ ap (λ k. start ++ rows.Mark (mark_of step (end_named_in before step) reply) ∷ map rows.Arrow (moves_on all before after k)) was.span

@@ -1,6 +1,6 @@
 -- A run that is drawn: what holds before each step, and of the end.
-use Rattle.std.proofs.Common.{◌≡◌, false, List, [], ◌∷◌, ◌++◌, Result, Ok, Err, Some, refl, sym, ap, subst, ◌∙◌}
-use Rattle.std.specs.Prelude.{IfErr}
+use Rattle.std.proofs.Common.{◌≡◌, false, ℕ, List, [], ◌∷◌, ◌++◌, Result, Ok, Err, Some, None, refl, sym, ap, subst, ◌∙◌}
+use Rattle.std.specs.Prelude.{IfErr, OnOk}
 use Rattle.std.proofs.lemmas.List.{append-nil, append_assoc}
 use Rattle.strm_buffers.specs.Tells.{Tells}
 use Rattle.strm_laws.specs.Starts.{run_start}
@@ -14,13 +14,18 @@ use Rattle.strm_host_machine.specs.Outcomes.{Outcome, Goes, Stops}
 use Rattle.strm_host_machine.specs.Steps.{outcome_of_step}
 use Rattle.strm_host_machine.specs.World.{World}
 use Rattle.strm_host_machine.proofs.DoesLemmas.{extends_self}
-use Rattle.strm_session.specs.Runs.{stop_of}
+use Rattle.strm_session.specs.Runs.{start_among, stop_of}
+use Rattle.strm_session.specs.Serving.{HaltsWith, IsStatusOf}
 use Rattle.strm_session.specs.declared.runs.RunCause.{RunCause}
+use Rattle.strm_session.specs.declared.runs.RunCause.TheVariants as causes
 use Rattle.strm_drawing.specs.declared.arrows.Row.{Row}
 use Rattle.strm_drawing.specs.declared.holders.Holders.{Holders}
+use Rattle.strm_drawing.specs.declared.pictures.Picture.{Picture}
+use Rattle.strm_drawing.specs.declared.running.Ending.{Ending}
+use Rattle.strm_drawing.specs.Folding.{spread_all}
 use Rattle.strm_drawing.specs.Holders.{holders_after}
 use Rattle.strm_drawing.specs.Moves.{end_named_in, rows_of_step, rows_then, rows_from}
-use Rattle.strm_drawing.specs.Running.{IsStepDrawn, IsStopDrawn, IsRunDrawn}
+use Rattle.strm_drawing.specs.Running.{IsStepDrawn, IsStopDrawn, IsRunDrawn, IsEnding, IsPicture}
 
 -- what holds where these steps are left: whatever is yet to come, the rows of the whole run are those so far and
 -- those of the rest, and the run is played on from here
@@ -93,3 +98,46 @@ drawn_all old new steps left rows all state s none =
       );
       stop = tt;
     }
+
+-- before the first step
+pub sketching_begins : (tells : Tells) (steps : List Step) (rows : List Row) (all : List Holders) (state : State) → state ≡ run_start → rows ≡ [] → all ≡ [] → Fits state tells → Sketching tells tells steps steps rows all state
+sketching_begins tells steps rows all state e f h fits =
+    subst (λ s. Sketching tells tells steps steps rows all s) (sym e)
+    (subst (λ xs. Sketching tells tells steps steps xs all run_start) (sym f)
+    (subst (λ hs. Sketching tells tells steps steps [] hs run_start) (sym h)
+    (sketching_none tells steps (subst (λ s. Fits s tells) e fits))))
+
+-- running out of memory is no stop of the machine
+pub no_stop : (stop : Stop) → stop_of causes.OutOfMemory ≡ Some stop → ⊥
+no_stop stop e = cc
+
+pub out_of_memory_drawn : (step : Step) (old new : State) (tells told : Tells) (rows rows_now : List Row) → IsStopDrawn step old new tells told causes.OutOfMemory rows rows_now
+out_of_memory_drawn step old new tells told rows rows_now = record {
+  does = λ stop e. absurd (no_stop stop e);
+  rows_are = λ stop e. absurd (no_stop stop e);
+}
+
+-- what is so where a run ended well or by a stop is so where it ended
+pub at_end : (P : Type 0) (ended : Result (Unit {0}) RunCause) (ending : Ending) → IsEnding ended ending → OnOk ended P → IfErr ended (λ cause. (stop : Stop) → stop_of cause ≡ Some stop → P) → P
+at_end P (Ok done) ending e ok err = ok
+at_end P (Err cause) ending e ok err = err e.0 e.1
+
+module _ (old new : Tells) (steps : List Step) (ending : Ending) (picture : Picture) where
+  -- the picture of a run that ended so
+  pub picture_is : (rows : List Row) (ended : Result (Unit {0}) RunCause) → IsRunDrawn old new steps rows ended → IsEnding ended ending → spread_all picture.blocks.items ≡ rows → picture.stop ≡ ending.stop → picture.status ≡ ending.status → IsPicture old new steps picture
+  picture_is rows (Ok done) d e blocks stop status = record {
+    rows = blocks ∙ d.ok.0;
+    done = λ none. (status ∙ e.0, d.ok.1);
+    stopped = λ other some. absurd (let wrong : Some other ≡ None = sym some ∙ stop ∙ e.1 in cc);
+  }
+  picture_is rows (Err cause) d e blocks stop status =
+      let stops = d.stop e.0 e.1 in
+      record {
+        rows = blocks ∙ stops.0;
+        done = λ none. absurd (let wrong : None ≡ Some e.0 = sym none ∙ stop ∙ e.2 in cc);
+        stopped = λ other some.
+            let same : e.0 ≡ other = (let both : Some e.0 ≡ Some other = sym e.2 ∙ sym stop ∙ some in cc) in (
+              (cause, subst (λ s. IsStatusOf picture.status cause s) same (subst (λ n. IsStatusOf n cause e.0) (sym status) e.3)),
+              subst (λ s. HaltsWith (start_among old new) steps s) same stops.1,
+            );
+      }

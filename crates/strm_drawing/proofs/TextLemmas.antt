@@ -55,12 +55,12 @@ shown_then lanes xs ys a b c p q = record {
 }
 
 -- those of the first of some, and of the next
-pub shown_more : {X : Type 0} (lanes : List Lane) (f : X → List Arrow) (all : List X) (k : ℕ) (x : X) (a b c : List ℕ) → k < length all → get_or all k x ≡ x → Shown lanes (flat_map f (take k all)) a b → Shown lanes (f x) b c → Shown lanes (flat_map f (take (k + 1) all)) a c
-shown_more lanes f all k x a b c inside is p q =
+pub shown_more : {X : Type 0} (lanes : List Lane) (f : X → List Arrow) (all : List X) (k : ℕ) (d : X) (a b c : List ℕ) → k < length all → Shown lanes (flat_map f (take k all)) a b → Shown lanes (f (get_or all k d)) b c → Shown lanes (flat_map f (take (k + 1) all)) a c
+shown_more lanes f all k d a b c inside p q =
     subst (λ ys. Shown lanes ys a c)
-    (sym (ap (flat_map f) (take_more all k x inside) ∙ flat_map-append f (take k all) (get_or all k x ∷ [])
-    ∙ ap (λ zs. flat_map f (take k all) ++ zs) (append-nil (f (get_or all k x)) ∙ ap f is)))
-    (shown_then lanes (flat_map f (take k all)) (f x) a b c p q)
+    (sym (ap (flat_map f) (take_more all k d inside) ∙ flat_map-append f (take k all) (get_or all k d ∷ [])
+    ∙ ap (λ zs. flat_map f (take k all) ++ zs) (append-nil (f (get_or all k d)))))
+    (shown_then lanes (flat_map f (take k all)) (f (get_or all k d)) a b c p q)
 
 -- between other texts
 pub shown_within : (lanes : List Lane) (arrows : List Arrow) (front a b back : List ℕ) → Shown lanes arrows a b → Shows lanes arrows ((front ++ b) ++ back)
@@ -69,3 +69,10 @@ shown_within lanes arrows front a b back s =
     let text = subst (Shows lanes arrows) (sym s.more_is) inner in
     subst (λ xs. Shows lanes xs ((front ++ b) ++ back)) (append-nil arrows)
     (shows-append lanes arrows [] (front ++ b) back (shows-behind lanes arrows front b text) (shows-none lanes back))
+
+-- in a text that goes on behind them
+pub shown_text : (lanes : List Lane) (arrows : List Arrow) (front a b end tail first second third : List ℕ) → first ≡ front ++ b → second ≡ first ++ end → third ≡ second ++ tail → Shown lanes arrows a b → Shows lanes arrows third
+shown_text lanes arrows front a b end tail first second third e f g s =
+    subst (Shows lanes arrows)
+    (sym (g ∙ ap (λ xs. xs ++ tail) (f ∙ ap (λ xs. xs ++ end) e) ∙ append_assoc (front ++ b) end tail))
+    (shown_within lanes arrows front a b (end ++ tail) s)

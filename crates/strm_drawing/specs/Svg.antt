@@ -31,11 +31,12 @@ path_text class from steps =
     element_begin (codes "path") class ++ codes " d=\"M" ++ decimal from.x ++ codes " " ++ decimal from.y
     ++ steps ++ codes "\"/>\n"
 
--- what a text begins and ends with
+-- what a text begins with
 abbrev pub open_text : List ℕ → Point → List ℕ
 open_text class at =
     element_begin (codes "text") class ++ attribute_text (codes "x") at.x ++ attribute_text (codes "y") at.y ++ codes ">"
 
+-- and ends with
 abbrev pub close_text : List ℕ
 close_text = codes "</text>\n"
 

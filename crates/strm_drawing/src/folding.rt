@@ -133,7 +133,8 @@ fn same_next(rows: &[Row], others: &[Row], k: usize) -> bool
 impl FoldedRows {
     /// No rows. Where they are not folded, each is kept as it comes.
     pub(crate) fn new(alloc: Global, folds: bool) -> FoldedRows
-        ensures { rows_kept result ≡ [] }
+        ensures rows { rows_kept result ≡ [] }
+        ensures folding { IsFolding result }
     {
         FoldedRows {
             alloc,

@@ -93,7 +93,7 @@ module _ (shown : Shown) (source source_after : Port) where
   abbrev pub IsWithin : Port → Port → Type 0
   IsWithin sink sink_after = (bytes : List ℕ) → Has bytes → most_bytes < length bytes → ¬ Rose sink.faults sink_after.faults → ⊥
 
-  pub plays_read : (tape : TapeOf) (sink mid after : Port) (status : ℕ) → mid ≡ sink → ReadsTape tape source source_after → ReadsWithin most_bytes source.bytes source_after.bytes → IsOnly tape → IsWithin sink mid → Plays shown tape mid after status → PlaysRead shown source source_after sink after status
+  pub plays_read : (tape : TapeOf) (sink mid after : Port) (code : ℕ) → mid ≡ sink → ReadsTape tape source source_after → ReadsWithin most_bytes source.bytes source_after.bytes → IsOnly tape → IsWithin sink mid → Plays shown tape mid after code → PlaysRead shown source source_after sink after code
   plays_read tape sink mid after status quiet reads read only within plays =
       let here = subst (λ (port : Port). Plays shown tape port after status) quiet plays in
       record {
