@@ -36,9 +36,9 @@ arrows_more f first k start old new e g =
 
 module _ (all : List Holders) (before after : State) (step : Step) (reply : Reply) where
   -- the mark of a step, and the arrows behind it
-  pub rows_kept_of_step : (seen : Seen) (mark : Mark) (start mid now : List Row) → WasSeen before step seen → mark ≡ mark_of step seen.named reply → mid ≡ start ++ rows.Mark mark ∷ [] → now ≡ mid ++ map rows.Arrow (moves_on all before after seen.span) → now ≡ start ++ rows_of_step all before step reply after
-  rows_kept_of_step seen mark start mid now was m e f =
+  pub rows_kept_of_step : (seen : Seen) (mark : Mark) (a b c : List Row) → WasSeen before step seen → mark ≡ mark_of step seen.named reply → b ≡ a ++ rows.Mark mark ∷ [] → c ≡ b ++ map rows.Arrow (moves_on all before after seen.span) → c ≡ a ++ rows_of_step all before step reply after
+  rows_kept_of_step seen mark a b c was m e f =
       f ∙ ap (λ zs. zs ++ map rows.Arrow (moves_on all before after seen.span)) e
-      ∙ append_assoc start (rows.Mark mark ∷ []) (map rows.Arrow (moves_on all before after seen.span))
-      ∙ ap (λ k. start ++ rows.Mark k ∷ map rows.Arrow (moves_on all before after seen.span)) (m ∙ ap (λ x. mark_of step x reply) was.named)
-      ∙ ap (λ k. start ++ rows.Mark (mark_of step (end_named_in before step) reply) ∷ map rows.Arrow (moves_on all before after k)) was.span
+      ∙ append_assoc a (rows.Mark mark ∷ []) (map rows.Arrow (moves_on all before after seen.span))
+      ∙ ap (λ k. a ++ rows.Mark k ∷ map rows.Arrow (moves_on all before after seen.span)) (m ∙ ap (λ x. mark_of step x reply) was.named)
+      ∙ ap (λ k. a ++ rows.Mark (mark_of step (end_named_in before step) reply) ∷ map rows.Arrow (moves_on all before after k)) was.span
