@@ -1,17 +1,18 @@
-//! The program: runs the lines of its input, and writes their replies; or runs steps that are drawn, and
-//! writes a summary.
+//! The program: runs the lines of its input, and writes their replies, or the picture of the run; or runs steps
+//! that are drawn from a seed, and writes a summary.
 #![tactic(auto)]
 
-ghost use Rattle.std.specs.Prelude.{IfOk, drop, map, string_bytes};
+ghost use Rattle.std.specs.Prelude.{◌↔◌, IsTrue, IfOk, drop, map, string_bytes};
 ghost use Rattle.std.specs.Process.{exit_status};
 ghost use Rattle.std.specs.Vec.Iter.{into_iter_items};
-ghost use Rattle.strm.specs.Served.{IsServed};
+ghost use Rattle.strm.specs.Served.{TellsToDraw, IsServed};
 
 use std::alloc::{AllocError, Global};
 use std::env::Args;
 use std::io::{self, Read, Write};
 use std::process::ExitCode;
 use strm_buffers::hosts::Hosts;
+use strm_drawing::serving::draw_script;
 use strm_input_output::ports::{Sink, Source};
 use strm_input_output::words::{process_args, words_behind};
 use strm_program_hosts::among::{AmongHosts, served_among_hosts};
@@ -37,6 +38,10 @@ impl<S: Source, K: Sink> AmongHosts for Work<S, K> {
         IsServed (map string_bytes old.words.items) (S.left old.source) (S.faults old.source) status };
 
     fn serve_among(&mut self, hosts: &mut Hosts) -> ExitCode {
+        if is_draw(&self.words) {
+            let status = draw_script(self.alloc, &mut self.source, &mut self.sink, hosts);
+            return ExitCode::from(status);
+        }
         let status = serve(
             self.alloc,
             &self.words,
@@ -46,6 +51,14 @@ impl<S: Source, K: Sink> AmongHosts for Work<S, K> {
         );
         ExitCode::from(status)
     }
+}
+
+// Whether the words tell the program to draw.
+fn is_draw(words: &Vec<String>) -> bool
+    ensures { IsTrue result ↔ TellsToDraw (map string_bytes words.now.items) }
+{
+    let words = words.as_slice();
+    words.len() == 1 && words[0].as_bytes() == b"draw".as_slice()
 }
 
 // Serves the words behind the program's name, all of them, among the program's host ends.

@@ -1,0 +1,5 @@
+pub mod RunLemmas
+pub mod FoldLemmas
+pub mod TextLemmas
+pub mod MoveLemmas
+pub mod ServeLemmas

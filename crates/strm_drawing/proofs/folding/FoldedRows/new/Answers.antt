@@ -1,0 +1,7 @@
+use Rattle.std.proofs.Common.{ap, ◌∙◌}
+use Rattle.strm_drawing.specs.Folding.{spread_all, spread}
+use Rattle.strm_drawing.proofs.FoldLemmas.{nothing_kept}
+use Rattle.strm_drawing.proofs.folding.FoldedRows.new.Goals as goal
+
+pub returns-clause-rows : goal.returns-clause-rows
+returns-clause-rows c = nothing_kept _ _ _ c.new.ensures.items c.new-2.ensures.items c.new-3.ensures.items
