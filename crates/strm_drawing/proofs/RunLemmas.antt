@@ -1,5 +1,5 @@
 -- A run that is drawn: what holds before each step, and of the end.
-use Rattle.std.proofs.Common.{◌≡◌, false, ℕ, List, [], ◌∷◌, ◌++◌, Result, Ok, Err, Some, None, refl, sym, ap, subst, ◌∙◌}
+use Rattle.std.proofs.Common.{◌≡◌, false, List, [], ◌∷◌, ◌++◌, Result, Ok, Err, Some, None, refl, sym, ap, subst, ◌∙◌}
 use Rattle.std.specs.Prelude.{IfErr, OnOk}
 use Rattle.std.proofs.lemmas.List.{append-nil, append_assoc}
 use Rattle.strm_buffers.specs.Tells.{Tells}
@@ -10,9 +10,8 @@ use Rattle.strm_machine.specs.declared.steps.Step.{Step}
 use Rattle.strm_machine.specs.declared.stops.Stop.{Stop}
 use Rattle.strm_host_machine.specs.Does.{Logs, Extends, Fits, saids, world_of}
 use Rattle.strm_host_machine.specs.HostPlays.{host_play, after_host_step}
-use Rattle.strm_host_machine.specs.Outcomes.{Outcome, Goes, Stops}
+use Rattle.strm_host_machine.specs.Outcomes.{Outcome}
 use Rattle.strm_host_machine.specs.Steps.{outcome_of_step}
-use Rattle.strm_host_machine.specs.World.{World}
 use Rattle.strm_host_machine.proofs.DoesLemmas.{extends_self}
 use Rattle.strm_session.specs.Runs.{start_among, stop_of}
 use Rattle.strm_session.specs.Serving.{HaltsWith, IsStatusOf}

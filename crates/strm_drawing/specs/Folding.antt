@@ -1,5 +1,5 @@
 -- Rows that are kept once for each time that they follow each other, and what they stand for. Ours.
-use Rattle.std.specs.Prelude.{◌≡◌, ◌≤◌, ◌<◌, ℕ, zero, suc, Bool, true, false, List, [], ◌∷◌, ◌++◌, length, take}
+use Rattle.std.specs.Prelude.{◌≡◌, ◌≤◌, ◌<◌, ℕ, zero, suc, true, false, List, [], ◌++◌, length, take}
 use Rattle.std.specs.List.{flat_map}
 use Rattle.strm_drawing.specs.declared.arrows.Row.{Row}
 use Rattle.strm_drawing.specs.declared.folding.Block.{Block}

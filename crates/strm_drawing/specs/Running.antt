@@ -1,5 +1,5 @@
 -- What a picture tells of a run. Ours.
-use Rattle.std.specs.Prelude.{◌≡◌, ◌++◌, [], ℕ, List, map, Option, Some, None, Result, Ok, Err, IfOk, IfErr, OnOk}
+use Rattle.std.specs.Prelude.{◌≡◌, ◌++◌, List, map, Some, None, Result, Ok, Err, IfErr, OnOk}
 use Rattle.strm_buffers.specs.Tells.{Tells}
 use Rattle.std.specs.List.{range_with_len}
 use Rattle.strm_machine.specs.Moments.{received}
@@ -7,7 +7,7 @@ use Rattle.strm_machine.specs.State.{State}
 use Rattle.strm_machine.specs.declared.replies.Reply.{Reply}
 use Rattle.strm_machine.specs.declared.steps.Step.{Step}
 use Rattle.strm_machine.specs.declared.stops.Stop.{Stop}
-use Rattle.strm_host_machine.specs.Does.{Does, Fits, RunsTo}
+use Rattle.strm_host_machine.specs.Does.{Does, RunsTo}
 use Rattle.strm_host_machine.specs.Steps.{outcome_of_step}
 use Rattle.strm_session.specs.Runs.{start_among, stop_of}
 use Rattle.strm_session.specs.Serving.{HaltsWith, IsStatusOf}

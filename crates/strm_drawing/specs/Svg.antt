@@ -1,6 +1,6 @@
 -- The text of a picture, as far as it is promised: each arrow has a text with its count, from the lane of its write end
 -- to that of its read end, and these texts stand there in the order of the arrows. Ours.
-use Rattle.std.specs.Prelude.{◌≡◌, ◌≢◌, ℕ, List, [], ◌∷◌, ◌++◌, codes, decimal, ◌⊎◌}
+use Rattle.std.specs.Prelude.{◌≡◌, ℕ, List, [], ◌∷◌, ◌++◌, codes, decimal, ◌⊎◌}
 use Rattle.std.specs.List.{flat_map}
 use Rattle.strm_drawing.specs.declared.arrows.Arrow.{Arrow}
 use Rattle.strm_drawing.specs.declared.arrows.Lane.{Lane}

@@ -249,8 +249,9 @@ fn draw_steps<L: GivesSteps, H: HostEnds>(
     ensures still { IfErr result (λ cause. (stop : Stop) → stop_of cause ≡ Some stop →
         IsFolding sketch.new.rows) }
 {
+    let mut step = Step::Drive;
     for _ in 0..steps.len() {
-        let step = steps.next();
+        steps.put_next(&mut step);
         match draw_step(alloc, store, hosts, sketch, &step) {
             Ok(()) => {}
             Err(cause) => return Err(cause),

@@ -2,7 +2,7 @@ use Rattle.std.proofs.Common.{inl, inr, refl, ap, ◌∙◌, ◌++◌, ◌+◌, 
 use Rattle.std.specs.Prelude.{codes}
 use Rattle.std.proofs.lemmas.List.{append_assoc}
 use Rattle.strm_drawing.specs.declared.shapes.Point.{Point}
-use Rattle.strm_drawing.specs.Svg.{path_text, line_text, count_text, at_height}
+use Rattle.strm_drawing.specs.Svg.{path_text, line_text, count_text}
 use Rattle.strm_drawing.proofs.TextLemmas.{shown_one}
 use Rattle.strm_drawing.proofs.svg.push_arrow.Goals as goal
 

@@ -1,4 +1,4 @@
-use Rattle.std.proofs.Common.{rules, sym, ap, drop, ◌≡◌, ◌∙◌}
+use Rattle.std.proofs.Common.{rules, sym, drop, ◌≡◌}
 use Rattle.strm_drawing.specs.Folding.{spread_all}
 use Rattle.strm_drawing.proofs.FoldLemmas.{gone_on}
 use Rattle.strm_drawing.proofs.folding.FoldedRows.go_on.Goals as goal

@@ -1,5 +1,3 @@
-use Rattle.std.proofs.Common.{ap, ◌∙◌}
-use Rattle.strm_drawing.specs.Folding.{spread_all, spread}
 use Rattle.strm_drawing.proofs.FoldLemmas.{nothing_kept}
 use Rattle.strm_drawing.proofs.folding.FoldedRows.new.Goals as goal
 

@@ -1,4 +1,4 @@
-use Rattle.std.proofs.Common.{◌≡◌, ◌≢◌, ◌≤◌, length, drop}
+use Rattle.std.proofs.Common.{◌≢◌, ◌≤◌, length, drop}
 use Rattle.std.specs.Prelude.{All}
 use Rattle.strm_drawing.proofs.lanes.Lanes.find.Given as goal
 
