@@ -97,13 +97,16 @@ pub fn payload_at(word: u64) -> Option<Payload>
 }
 
 /// The type of a word.
+#[inline(always)]
 pub fn type_at(word: u64) -> Option<TransmitIndex>
     ensures { result ≡ type_at word }
 {
-    if word < FUTURE {
-        payload_at(word).map(TransmitIndex::Stream)
+    let is_future = word >= FUTURE;
+    let payload = payload_at(if is_future { word - FUTURE } else { word })?;
+    if is_future {
+        Some(TransmitIndex::Future(payload))
     } else {
-        payload_at(word - FUTURE).map(TransmitIndex::Future)
+        Some(TransmitIndex::Stream(payload))
     }
 }
 

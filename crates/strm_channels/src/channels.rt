@@ -65,6 +65,7 @@ impl Model for Channel {
 }
 
 // An end that has no operation and was not told.
+#[inline(always)]
 fn idle_part(kind: TransmitKind, owner: Owner) -> Part
     ensures owner { result.owner ≡ owner }
     ensures cell { result.cell ≡ new_cell kind }
@@ -189,6 +190,7 @@ fn own_in(part: &mut Part, other: &mut EventCell, owner: Owner)
 
 impl Channel {
     /// A stream that has just been made; both ends are there.
+    #[inline(always)]
     pub fn new(kind: TransmitKind, payload: Payload, writer: Owner, reader: Owner) -> Channel
         requires writer { is_gone writer ≡ false }
         requires reader { is_gone reader ≡ false }

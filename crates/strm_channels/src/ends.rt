@@ -22,6 +22,7 @@ use strm_handles::tables::HandleTable;
 use strm_machine::acts::NamedEnd;
 use strm_machine::streams::Side;
 
+#[inline(always)]
 fn try_insert(
     table: &mut HandleTable,
     counter: &mut HandleCounter,
@@ -49,6 +50,7 @@ fn try_insert(
 }
 
 // An end's handle, in a table that has room for it.
+#[inline(always)]
 fn insert(
     table: &mut HandleTable,
     counter: &mut HandleCounter,
@@ -70,6 +72,7 @@ fn insert(
 }
 
 // Room for so many handles in a guest's table.
+#[inline(always)]
 pub(crate) fn reserve(guests: &mut Vec<Guest>, guest: usize, needed: u32) -> Result<(), OutOfMemory>
     requires { guest < length guests.old.items }
     ensures seen { guests_of guests.new.items ≡ guests_of guests.old.items }
@@ -109,6 +112,7 @@ fn insert_end(
 
 /// The handles of a new stream's ends in two guests' tables, the read end's first: answers their
 /// numbers, the read end's first. After running out of memory nothing has changed.
+#[inline(always)]
 pub fn insert_ends(
     guests: &mut Vec<Guest>,
     counter: &mut HandleCounter,
@@ -137,6 +141,7 @@ pub fn insert_ends(
     Ok((read, write))
 }
 
+#[inline(always)]
 fn try_remove(
     table: &mut HandleTable,
     counter: &mut HandleCounter,

@@ -8,4 +8,6 @@ pub mod BaseLemmas
 pub mod OperateLemmas
 pub mod TableGains
 pub mod GainLemmas
+-- limits that are none
+pub mod LimitLemmas
 pub mod MessageLemmas

@@ -2,7 +2,7 @@
 //!
 //! Meaning: `Limits.antt`. Ours.
 
-ghost use Rattle.std.specs.Prelude.{◌≡◌, ◌≢◌, ◌<◌, ◌+◌, ◌*◌, ℕ, [], length, nat_lt, OnOk, OnErr};
+ghost use Rattle.std.specs.Prelude.{◌≡◌, ◌≢◌, ◌<◌, ◌+◌, ◌*◌, ℕ, true, [], length, nat_lt, OnOk, OnErr};
 ghost use Rattle.strm_machine.specs.ErrorContexts.{message_limit};
 ghost use Rattle.strm_guest_store.specs.Limits.{unbounded, limits_of, passes};
 
@@ -108,6 +108,14 @@ impl LimitsByGuest {
         LimitsByGuest {
             limits: Vec::new(alloc),
         }
+    }
+
+    /// Whether no guest's limits were ever set.
+    #[inline(always)]
+    pub fn is_empty(&self) -> bool
+        ensures { result ≡ true → self.now ≡ [] }
+    {
+        self.limits.is_empty()
     }
 
     /// The limits of a guest.

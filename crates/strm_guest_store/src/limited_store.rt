@@ -76,6 +76,7 @@ impl LimitedStore {
 
     /// Whether a call would give a guest more than its limits allow. Not so of a guest that is not there, of
     /// which the call itself tells.
+    #[inline(always)]
     pub fn is_past(&self, guest: u32, gain: Gain) -> bool
         ensures { result ≡ is_past self.now.store self.now.limits guest gain }
     {
@@ -86,9 +87,15 @@ impl LimitedStore {
     }
 
     // Whether the making of a stream would give one of its two guests more than it may have.
+    #[inline(always)]
     fn is_pair_past(&self, writer: u32, reader: u32) -> bool
         ensures { result ≡ is_pair_past self.now.store self.now.limits writer reader }
     {
+        // Where none has a bound, none passes it.
+        if self.limits.is_empty() {
+            self.store.among_guests();
+            return false;
+        }
         if writer == reader {
             return self.is_past(writer, Gain::Ends { count: 2 });
         }

@@ -74,6 +74,7 @@ impl StreamPlaces {
     }
 
     /// The free place that a stream gets next, if there is one: the last freed.
+    #[inline(always)]
     pub(crate) fn next(&self) -> Option<u32>
         ensures { result ≡ next_free self.now.free }
     {
@@ -84,6 +85,7 @@ impl StreamPlaces {
     }
 
     /// A stream more gets it.
+    #[inline(always)]
     fn take(&mut self)
         requires { self.old.live < 4294967295 }
         ensures { self.new ≡ taken self.old }
@@ -138,6 +140,7 @@ pub(crate) fn append(streams: &mut Vec<Channel>, places: &mut StreamPlaces, stre
 }
 
 /// A stream more, in the free place that was freed last.
+#[inline(always)]
 pub(crate) fn reuse(
     streams: &mut Vec<Channel>,
     places: &mut StreamPlaces,

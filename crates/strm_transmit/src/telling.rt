@@ -19,6 +19,7 @@ use strm_machine::streams::{Owner, Side};
 use strm_waitable_sets::ready::ReadySets;
 
 // The set that a guest's handle is in.
+#[inline(always)]
 pub(crate) fn home_of(guests: &Vec<Guest>, guest: usize, handle: u32) -> Option<u32>
     requires { guest < length guests.now.items }
     ensures { result ≡ set_of (sets_in (guests_of guests.now.items) guest) handle }
@@ -112,6 +113,7 @@ fn retell_ends(ready: &mut Vec<ReadySets>, guests: &Vec<Guest>, stream: &Channel
 }
 
 /// A handle of a guest leaves the set that it is in, if it is in one. It takes no memory.
+#[inline(always)]
 pub(crate) fn leave(ready: &mut Vec<ReadySets>, guest: usize, home: Option<u32>, handle: u32)
     ensures { Leaves guest handle home ready.old.items ready.new.items }
 {

@@ -19,6 +19,7 @@ pub struct StrmPair {
 }
 
 /// A pair, put at `out`.
+#[inline(always)]
 pub fn pair(answer: Result<Pair, StoreError>, out: &mut StrmPair) -> Status
     ensures status { result ≡ answer_status answer }
     ensures pair { out.new ≡ answer_pair answer out.old }

@@ -90,6 +90,7 @@ impl GuestStore {
 impl GuestStore {
     /// Drops the write end of a future. `canon future.drop-writable`. It is refused (FutureWithoutValue)
     /// before the value has passed, or the end was told that nobody reads it.
+    #[inline(always)]
     pub fn future_drop_writable(
         &mut self,
         guest: u32,
@@ -107,6 +108,7 @@ impl GuestStore {
     }
 
     /// Drops the read end of a future. `canon future.drop-readable`.
+    #[inline(always)]
     pub fn future_drop_readable(
         &mut self,
         guest: u32,

@@ -47,6 +47,7 @@ impl GuestStore {
     /// A stream or future between two guests, which may be one: the read end's handle goes into the
     /// reader's table first, and then the write end's into the writer's. Its number is chosen, and it is
     /// refused, as those of `stream_new`.
+    #[inline(always)]
     pub fn new_between(
         &mut self,
         writer: u32,

@@ -103,6 +103,7 @@ impl GuestStore {
 #[tactic(auto, using(crate::proofs::AmongLemmas::hosted_meets, crate::proofs::BaseLemmas::hosted_stays))]
 impl GuestStore {
     /// Drops the write end of a stream. `canon stream.drop-writable`.
+    #[inline(always)]
     pub fn stream_drop_writable(
         &mut self,
         guest: u32,
@@ -120,6 +121,7 @@ impl GuestStore {
     }
 
     /// Drops the read end of a stream. `canon stream.drop-readable`.
+    #[inline(always)]
     pub fn stream_drop_readable(
         &mut self,
         guest: u32,

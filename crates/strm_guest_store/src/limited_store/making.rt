@@ -62,6 +62,7 @@ impl LimitedStore {
 
     /// A stream or future between two guests, as `GuestStore::new_between`, if each may have the end that it
     /// would get.
+    #[inline(always)]
     pub fn new_between(
         &mut self,
         writer: u32,

@@ -22,6 +22,7 @@ pub struct GuestCounts {
 impl Store {
     /// How many handles a guest has, and of which kinds. It looks at none of them. A trapped store answers
     /// too. Refused: UnknownGuest.
+    #[inline(always)]
     pub fn guest_counts(&self, guest: u32) -> Result<GuestCounts, Refusal>
         ensures exact { result ≡ counts_answer self.now guest }
     {

@@ -131,6 +131,7 @@ impl Store {
     }
 
     // The stream whose end a handle of a guest names, where that end may be dropped.
+    #[inline(always)]
     #[tactic(auto, unfolding(strm_machine::specs::Refusals::refusal))]
     fn drop_found(&self, side: Side, end: &NamedEnd) -> Result<u32, Refusal>
         ensures exact { result ≡ or_found (refusal self.now (OnEnd side end.now Drop))
@@ -145,6 +146,7 @@ impl Store {
 
     /// Drops the end that a handle names, which is gone then; a stream whose both ends are gone is
     /// removed at once.
+    #[inline(always)]
     pub(crate) fn drop_side<H: HostEnds>(
         &mut self,
         hosts: &mut H,
@@ -166,6 +168,7 @@ impl Store {
 
     /// Drops the read end of a stream. `canon stream.drop-readable`. Refused: UnknownGuest,
     /// UnknownHandle, WrongKind, WrongType, WrongEnd, Busy.
+    #[inline(always)]
     pub fn stream_drop_readable<H: HostEnds>(
         &mut self,
         hosts: &mut H,
@@ -186,6 +189,7 @@ impl Store {
 
     /// Drops the write end of a stream. `canon stream.drop-writable`. Refused: UnknownGuest,
     /// UnknownHandle, WrongKind, WrongType, WrongEnd, Busy.
+    #[inline(always)]
     pub fn stream_drop_writable<H: HostEnds>(
         &mut self,
         hosts: &mut H,
@@ -206,6 +210,7 @@ impl Store {
 
     /// Drops the read end of a future. `canon future.drop-readable`. Refused: UnknownGuest,
     /// UnknownHandle, WrongKind, WrongType, WrongEnd, Busy.
+    #[inline(always)]
     pub fn future_drop_readable<H: HostEnds>(
         &mut self,
         hosts: &mut H,
@@ -227,6 +232,7 @@ impl Store {
     /// Drops the write end of a future. `canon future.drop-writable`. Refused: UnknownGuest,
     /// UnknownHandle, WrongKind, WrongType, WrongEnd, Busy, FutureWithoutValue (its value has not
     /// passed, and it was not told that nobody reads it).
+    #[inline(always)]
     pub fn future_drop_writable<H: HostEnds>(
         &mut self,
         hosts: &mut H,

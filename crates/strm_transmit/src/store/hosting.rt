@@ -305,6 +305,7 @@ impl Store {
     }
 
     // A stream lost its read end: a host writer on the other side goes too, and is closed.
+    #[inline(always)]
     fn forsake_writer<H: HostEnds>(&mut self, hosts: &mut H, stream: u32)
         requires there { stream < length self.old.streams }
         requires fits { Fits self.old (H.tells hosts.old) }
@@ -325,6 +326,7 @@ impl Store {
     }
 
     // A stream lost its write end: a host reader on the other side goes too, and is closed.
+    #[inline(always)]
     fn forsake_reader<H: HostEnds>(&mut self, hosts: &mut H, stream: u32)
         requires there { stream < length self.old.streams }
         requires fits { Fits self.old (H.tells hosts.old) }
@@ -345,6 +347,7 @@ impl Store {
     }
 
     // A stream lost the end on a side: a host end on the other side goes too, and is closed.
+    #[inline(always)]
     pub(crate) fn forsake<H: HostEnds>(&mut self, hosts: &mut H, stream: u32, side: Side)
         requires there { stream < length self.old.streams }
         requires fits { Fits self.old (H.tells hosts.old) }

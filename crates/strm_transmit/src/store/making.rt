@@ -44,6 +44,7 @@ const MOST_STREAMS: usize = 4_294_967_295;
 
 // Whether so many places more would pass a limit, beside those of so many streams, sets and error
 // contexts.
+#[inline(always)]
 fn pass_limit(limit: u32, streams: u32, sets: u32, contexts: usize, needed: u32) -> bool
     ensures { result ≡ nat_lt limit (3 * streams + sets + contexts + needed) }
 {
@@ -52,6 +53,7 @@ fn pass_limit(limit: u32, streams: u32, sets: u32, contexts: usize, needed: u32)
 }
 
 // The handles of a new stream's ends, the read end's first, and its number.
+#[inline(always)]
 fn pair_of(numbers: (u32, u32), stream: u32) -> Pair
     ensures { result ≡ record { read = numbers.0; write = numbers.1; stream = stream } }
 {
@@ -64,6 +66,7 @@ fn pair_of(numbers: (u32, u32), stream: u32) -> Pair
 }
 
 // A stream whose ends two guests have under these handles.
+#[inline(always)]
 fn stream_of(kind: TransmitKind, payload: Payload, writer: u32, reader: u32, pair: &Pair) -> Channel
     ensures { (ty : TransmitIndex) → kind ≡ kind_of ty → payload ≡ payload_of ty
         → result ≡ made_stream ty writer pair.now.write reader pair.now.read }
@@ -81,6 +84,7 @@ fn stream_of(kind: TransmitKind, payload: Payload, writer: u32, reader: u32, pai
 
 impl Store {
     // The number that the write end gets, where the read end's was inserted.
+    #[inline(always)]
     fn writer_index(&self, writer: u32, reader: u32) -> u32
         requires writer { writer < length self.now.guests }
         requires reader { reader < length self.now.guests }
@@ -95,6 +99,7 @@ impl Store {
     }
 
     // Whether a table would give a number that is no handle.
+    #[inline(always)]
     fn is_number_missing(&self, writer: u32, reader: u32) -> bool
         requires writer { writer < length self.now.guests }
         requires reader { reader < length self.now.guests }
@@ -107,6 +112,7 @@ impl Store {
     }
 
     // Whether so many handles more would pass the limit.
+    #[inline(always)]
     pub(crate) fn are_handles_full(&self, needed: u32) -> bool
         ensures { result ≡ are_handles_full self.now needed }
     {
@@ -114,6 +120,7 @@ impl Store {
     }
 
     // Whether so many places more would pass the limit.
+    #[inline(always)]
     pub(crate) fn are_places_full(&self, needed: u32) -> bool
         ensures { result ≡ are_places_full self.now needed }
     {
@@ -127,6 +134,7 @@ impl Store {
     }
 
     // Whether a stream more would pass the limit on places, or have no number.
+    #[inline(always)]
     pub(crate) fn are_streams_full(&self) -> bool
         ensures { result ≡ are_places_full self.now 3 || are_streams_full self.now }
     {
@@ -134,6 +142,7 @@ impl Store {
     }
 
     // Whether a stream may be made between two guests.
+    #[inline(always)]
     #[tactic(auto, unfolding(strm_machine::specs::Refusals::refusal))]
     fn pair_fits(&self, writer: u32, reader: u32) -> Result<(), Refusal>
         ensures { (ty : TransmitIndex) → result
@@ -182,6 +191,7 @@ impl Store {
 
     // A stream in the free place that was freed last, or behind the last where none is free. After running
     // out of memory nothing has changed.
+    #[inline(always)]
     fn make_again(
         &mut self,
         writer: u32,
@@ -209,8 +219,9 @@ impl Store {
         )?;
         let pair = pair_of(numbers, stream);
         let joined = stream_of(kind, payload, writer, reader, &pair);
-        retell(&mut self.ready, &self.guests, &joined);
         reuse(&mut self.streams, &mut self.places, stream, joined);
+        let placed = &self.streams[stream as usize];
+        retell(&mut self.ready, &self.guests, placed);
         Ok(pair)
     }
 
@@ -235,6 +246,7 @@ impl Store {
     /// The same for a store that needs no host end; but the number may be that of a stream both of whose
     /// ends are gone, and is a new one only where there is none. Refused: UnknownGuest (either),
     /// IndexOverflow, HandleLimit, Full. OutOfMemory. wasmtime, `ResourceTable::push`.
+    #[inline(always)]
     pub fn new_between_again(
         &mut self,
         writer: u32,

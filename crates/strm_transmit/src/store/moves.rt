@@ -66,6 +66,7 @@ impl Store {
     }
 
     // A guest's handle is freed, and the end of a stream that it names has another owner.
+    #[inline(always)]
     pub(crate) fn release(&mut self, side: Side, end: &NamedEnd, stream: u32, owner: Owner)
         requires fits { LeaveFits self.old side end.now }
         requires stream { stream ≡ stream_named (named self.old end.now) }

@@ -1,4 +1,4 @@
-use Rattle.std.proofs.Common.{◌<◌, List, length, set, refl, sym, ap, ◌∙◌, subst, arith}
+use Rattle.std.proofs.Common.{◌≡◌, ◌<◌, List, length, set, refl, sym, ap, ◌∙◌, subst, arith}
 use Rattle.std.proofs.lemmas.List.{length-map, length-set}
 use Rattle.strm_machine.specs.State.{is_live}
 use Rattle.strm_machine.specs.declared.streams.Stream.{Stream}
@@ -10,6 +10,7 @@ use Rattle.strm_transmit.specs.Inside.{state_of}
 use Rattle.strm_transmit.specs.Telling.{Retells}
 use Rattle.strm_transmit.proofs.AgainLemmas.{MakesAgain, IsStore-again, performs-again, joined_again, pair_again, free_of, made_behind, made_not}
 use Rattle.strm_transmit.proofs.PlaceLemmas.{next_gone, none_free}
+use Rattle.strm_transmit.proofs.StoreLemmas.{set_at}
 use Rattle.strm_transmit.proofs.store.Store.make_again.Goals as goal
 
 pub insert_ends-requires-clause-writer : goal.insert_ends-requires-clause-writer
@@ -47,6 +48,14 @@ reuse-requires-clause-live c = ap is_live (c.stream_of-joined.ensures c.args.ty 
 pub reuse-requires-clause-next : goal.reuse-requires-clause-next
 reuse-requires-clause-next c = sym c.next.ensures ∙ c.in-Some.is
 
+pub index-placed-requires : goal.index-placed-requires
+index-placed-requires c =
+    let old = c.self.inside in
+    let n = c.in-Some.stream in
+    let gone = next_gone old.places old.streams.items n (sym c.next.ensures ∙ c.in-Some.is) c.self.invariant.places in
+    let same : length c.reuse.new.streams.items ≡ length old.streams.items = ap (λ (xs : List Stream). length xs) c.reuse.ensures.streams ∙ length-set old.streams.items n _ in
+    omega (arith, gone.made, same, c.reuse.new.streams.ok)
+
 pub invariant_of-self-2 : goal.invariant_of-self-2
 invariant_of-self-2 c =
     let old = c.self.inside in
@@ -55,6 +64,7 @@ invariant_of-self-2 c =
     let gone = next_gone old.places old.streams.items n next c.self.invariant.places in
     let joined = joined_again old n c.args.writer c.args.reader c.args.ty c.in_ok-numbers.numbers c.stream_of-joined.result c.in_ok-numbers.ensures.gives.numbers
     (c.stream_of-joined.ensures c.args.ty c.kind-kind.ensures c.payload-payload.ensures ∙ rw c.pair_of-pair.ensures refl) in
+    let placed = set_at old.streams.items c.reuse.new.streams.items n c.stream_of-joined.result c.index-placed.result.now gone.made c.reuse.ensures.streams c.index-placed.ensures in
     IsStore-again old _ n c.args.writer c.args.reader c.args.ty
     (record {
       same = record { tag = refl; limits = refl; producers = refl; kept = refl; consumers = refl; contexts = refl; trapped = refl };
@@ -66,7 +76,7 @@ invariant_of-self-2 c =
       places = c.reuse.ensures.places;
       guests = c.in_ok-numbers.ensures.gives.guests;
       streams = c.reuse.ensures.streams ∙ ap (set old.streams.items n) joined;
-      retold = subst (λ (s : Stream). Retells (guests_of c.insert_ends.new.guests.items) s old.ready.items c.retell.new.ready.items) joined c.retell.ensures;
+      retold = subst (λ (s : Stream). Retells (guests_of c.insert_ends.new.guests.items) s old.ready.items c.retell.new.ready.items) (placed ∙ joined) c.retell.ensures;
     })
     (rw (← c.self.view_is) at c.requires.may) (rw (← c.self.view_is) at c.requires.unserved) c.self.invariant
 
@@ -78,6 +88,7 @@ returns-clause-meets c =
     let gone = next_gone old.places old.streams.items n next c.self.invariant.places in
     let joined = joined_again old n c.args.writer c.args.reader c.args.ty c.in_ok-numbers.numbers c.stream_of-joined.result c.in_ok-numbers.ensures.gives.numbers
     (c.stream_of-joined.ensures c.args.ty c.kind-kind.ensures c.payload-payload.ensures ∙ rw c.pair_of-pair.ensures refl) in
+    let placed = set_at old.streams.items c.reuse.new.streams.items n c.stream_of-joined.result c.index-placed.result.now gone.made c.reuse.ensures.streams c.index-placed.ensures in
     let made : MakesAgain old (record old { counter = c.insert_ends.new.counter; guests = c.insert_ends.new.guests; streams = c.reuse.new.streams; places = c.reuse.new.places; ready = c.retell.new.ready }) n c.args.writer c.args.reader c.args.ty = record {
       same = record { tag = refl; limits = refl; producers = refl; kept = refl; consumers = refl; contexts = refl; trapped = refl };
       counter = c.in_ok-numbers.ensures.gives.counter;
@@ -88,7 +99,7 @@ returns-clause-meets c =
       places = c.reuse.ensures.places;
       guests = c.in_ok-numbers.ensures.gives.guests;
       streams = c.reuse.ensures.streams ∙ ap (set old.streams.items n) joined;
-      retold = subst (λ (s : Stream). Retells (guests_of c.insert_ends.new.guests.items) s old.ready.items c.retell.new.ready.items) joined c.retell.ensures;
+      retold = subst (λ (s : Stream). Retells (guests_of c.insert_ends.new.guests.items) s old.ready.items c.retell.new.ready.items) (placed ∙ joined) c.retell.ensures;
     } in
     rw (← c.self.view_is)
     (record {
