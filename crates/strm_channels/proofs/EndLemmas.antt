@@ -6,12 +6,11 @@ use Rattle.std.proofs.lemmas.List.Sums.{sum_by-set}
 use Rattle.strm_codes.specs.declared.codes.TransmitIndex.{TransmitIndex}
 use Rattle.strm_codes.specs.declared.codes.TransmitIndex.TheVariants as index
 use Rattle.strm_codes.specs.declared.payloads.Payload.{Payload}
-use Rattle.strm_handles.specs.Handles.{Handles, Table, lends_of, live_of, removed}
+use Rattle.strm_handles.specs.Handles.{Handles, Table, entry_at, lends_of, live_of}
 use Rattle.strm_handles.specs.Ends.{without_value}
-use Rattle.strm_handles.specs.Lookups.{◌>>=◌, stream_end_of, future_end_of}
-use Rattle.strm_handles.specs.declared.entries.TransmitEnd.{TransmitEnd}
+use Rattle.strm_handles.specs.Lookups.{◌>>=◌, stream_end_of, future_end_of, end_rep_of}
 use Rattle.strm_handles.specs.declared.errors.HandleError.{HandleError}
-use Rattle.strm_handles.proofs.LookupLemmas.{live_of-removed-stream, live_of-removed-future}
+use Rattle.strm_handles.proofs.LookupLemmas.{stream_is_end, future_is_end}
 use Rattle.strm_machine.specs.State as machine
 use Rattle.strm_machine.specs.State.{no_guest, guest_in}
 use Rattle.strm_machine.specs.Making.{end_entry}
@@ -74,17 +73,9 @@ first_ok : {A B : Type 0} (r : Result A HandleError) (next : A → Result B Hand
 first_ok (Ok x) next e = refl
 first_ok (Err x) next e = cc
 
-stream_live : (handles : Handles) (payload : Payload) (n : ℕ) (r : Result TransmitEnd HandleError) → stream_end_of handles payload n ≡ r → IsOk r → live_of (removed handles n) + 1 ≡ live_of handles
-stream_live handles payload n (Ok end) e k = live_of-removed-stream handles payload n end e
-stream_live handles payload n (Err x) e k = cc
-
-future_live : (handles : Handles) (payload : Payload) (n : ℕ) (r : Result TransmitEnd HandleError) → future_end_of handles payload n ≡ r → IsOk r → live_of (removed handles n) + 1 ≡ live_of handles
-future_live handles payload n (Ok end) e k = live_of-removed-future handles payload n end e
-future_live handles payload n (Err x) e k = cc
-
--- the removal of an end is one live handle less
-pub removable_live : (side : Side) (ty : TransmitIndex) (handles : Handles) (n : ℕ) → removable side ty handles n ≡ Ok tt → live_of (removed handles n) + 1 ≡ live_of handles
-removable_live Writing (index.Stream payload) handles n e = stream_live handles payload n _ refl (first_ok (stream_end_of handles payload n) _ e)
-removable_live Reading (index.Stream payload) handles n e = stream_live handles payload n _ refl (first_ok (stream_end_of handles payload n) _ e)
-removable_live Writing (index.Future payload) handles n e = future_live handles payload n _ refl (first_ok (future_end_of handles payload n) _ e)
-removable_live Reading (index.Future payload) handles n e = future_live handles payload n _ refl (first_ok (future_end_of handles payload n) _ e)
+-- what may be removed as an end is an end
+pub removable_end : (side : Side) (ty : TransmitIndex) (handles : Handles) (n : ℕ) → removable side ty handles n ≡ Ok tt → IsOk (end_rep_of handles n)
+removable_end Writing (index.Stream payload) handles n e = stream_is_end payload (entry_at handles n) (first_ok (stream_end_of handles payload n) _ e)
+removable_end Reading (index.Stream payload) handles n e = stream_is_end payload (entry_at handles n) (first_ok (stream_end_of handles payload n) _ e)
+removable_end Writing (index.Future payload) handles n e = future_is_end payload (entry_at handles n) (first_ok (future_end_of handles payload n) _ e)
+removable_end Reading (index.Future payload) handles n e = future_is_end payload (entry_at handles n) (first_ok (future_end_of handles payload n) _ e)

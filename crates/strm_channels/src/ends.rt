@@ -6,8 +6,9 @@
 
 ghost use Rattle.std.specs.Prelude.{◌≡◌, ◌≢◌, Ok, ◌+◌, ◌^◌, ◌<◌, ◌≤◌, ℕ, length, IsOk, IfOk, OnOk, OnErr};
 ghost use Rattle.strm_handles.specs.Handles.{next_index, inserted, live_of};
-ghost use Rattle.strm_handles.specs.Changes.{Inserts, Removes};
-ghost use Rattle.strm_handles.specs.Counters.{counted, uncounted};
+ghost use Rattle.strm_handles.specs.Changes.{Inserts};
+ghost use Rattle.strm_handles.specs.Counters.{counted};
+ghost use Rattle.strm_handles.specs.Lookups.{end_rep_of};
 ghost use Rattle.strm_machine.specs.State.{guest_in};
 ghost use Rattle.strm_machine.specs.Making.{end_entry, with_read_end, with_ends};
 ghost use Rattle.strm_channels.specs.Changes.{AddsHandle, GivesHandle, GivesEnds, FreesHandle, MovesEnd, without_end};
@@ -141,42 +142,12 @@ pub fn insert_ends(
     Ok((read, write))
 }
 
+/// Frees the handle of an end in its guest's table; it leaves the set that it is in.
 #[inline(always)]
-fn try_remove(
-    table: &mut HandleTable,
-    counter: &mut HandleCounter,
-    side: Side,
-    ty: TransmitIndex,
-    handle: u32,
-) -> Result<(), HandleError>
-    requires { live_of table.old.handles ≤ counter.old.live }
-    ensures answer { result ≡ removable side ty table.old.handles handle }
-    ensures removes { Removes table.old table.new counter.old counter.new handle result }
-{
-    match (side, ty) {
-        (Side::Writing, TransmitIndex::Stream(payload)) => {
-            table.stream_remove_writable(counter, payload, handle)?;
-        }
-        (Side::Reading, TransmitIndex::Stream(payload)) => {
-            table.stream_remove_readable(counter, payload, handle)?;
-        }
-        (Side::Writing, TransmitIndex::Future(payload)) => {
-            table.future_remove_writable(counter, payload, handle)?;
-        }
-        (Side::Reading, TransmitIndex::Future(payload)) => {
-            table.future_remove_readable(counter, payload, handle)?;
-        }
-    }
-    Ok(())
-}
-
-/// Frees the handle of an end that the table shows idle, in its guest's table; it leaves the set that
-/// it is in.
-#[inline(always)]
-pub fn remove_end(guests: &mut Vec<Guest>, counter: &mut HandleCounter, side: Side, end: &NamedEnd)
+pub fn remove_end(guests: &mut Vec<Guest>, counter: &mut HandleCounter, end: &NamedEnd)
     requires there { end.now.guest < length guests.old.items }
-    requires idle { removable side end.now.ty
-        (guest_in (guests_of guests.old.items) end.now.guest).handles end.now.handle ≡ Ok tt }
+    requires end { IsOk (end_rep_of
+        (guest_in (guests_of guests.old.items) end.now.guest).handles end.now.handle) }
     requires live { live_in (guests_of guests.old.items) ≤ counter.old.live }
     ensures frees { FreesHandle (guests_of guests.old.items) (guests_of guests.new.items)
         (without_end (guests_of guests.old.items) end.now) counter.old counter.new }
@@ -185,7 +156,7 @@ pub fn remove_end(guests: &mut Vec<Guest>, counter: &mut HandleCounter, side: Si
     ensures count { length guests.new.items ≡ length guests.old.items }
 {
     let guest = &mut guests[end.guest as usize];
-    try_remove(&mut guest.table, counter, side, end.ty, end.handle).unwrap();
+    guest.table.end_remove(counter, end.handle);
     guest.sets.leave(end.handle);
 }
 
@@ -251,6 +222,6 @@ pub fn move_end(
     ensures count { length guests.new.items ≡ length guests.old.items }
 {
     reserve_move(guests, end.guest as usize, to)?;
-    remove_end(guests, counter, side, end);
+    remove_end(guests, counter, end);
     Ok(insert_end(guests, counter, to, side, end.ty, stream))
 }

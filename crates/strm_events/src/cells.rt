@@ -257,7 +257,9 @@ impl EventCell {
     pub fn set_other_gone(&mut self, other_gone: bool)
         ensures { self.new ≡ record self.old { other_gone = other_gone } }
     {
-        *self = keep(self.kind, self.pending, other_gone, self.told, self.passed);
+        let pending = self.pending.as_ref();
+        self.kept = report(self.kind, pending, other_gone, self.told, self.passed);
+        self.other_gone = other_gone;
     }
 
     /// A future's value passed.

@@ -1,11 +1,12 @@
 -- How many handles of a kind a table has after an insert, a removal and a change of an entry.
 use Rattle.std.proofs.Common.{◌≡◌, ℕ, ◌+◌, ◌<◌, ◌≤◌, length, Option, Some, None, refl, arith}
-use Rattle.std.specs.Prelude.{IsSome}
+use Rattle.std.specs.Prelude.{IsSome, IsOk}
 use Rattle.std.proofs.lemmas.List.Sums.{sum_by-le-sum_by}
 use Rattle.strm_handles.specs.declared.entries.Entry.{Entry}
 use Rattle.strm_handles.specs.declared.entries.Entry.TheVariants as entry
 use Rattle.strm_handles.specs.Handles.{Handles, entry_at, inserted, removed, with_entry, occupied_in, occupied, IsTable}
 use Rattle.strm_handles.specs.Kinds.{end_in, ends_held, context_in, contexts_held}
+use Rattle.strm_handles.specs.Lookups.{end_rep_in}
 use Rattle.strm_handles.proofs.HandleLemmas.{given, inserted_sum, sum_by-entries_with}
 
 -- what stands for something was given
@@ -37,6 +38,18 @@ ends-most h = sum_by-le-sum_by end_in occupied_in h.entries by
     by (Some (entry.Future end)) = omega arith
     by (Some _) = omega arith
 
+-- what is an end counts as one
+pub end-counts : (o : Option Entry) → IsOk (end_rep_in o) → end_in o ≡ 1
+end-counts None ok = cc
+end-counts (Some (entry.Stream end)) ok = refl
+end-counts (Some (entry.Future end)) ok = refl
+end-counts (Some _) ok = cc
+
+-- and is something
+pub end-some : (o : Option Entry) → IsOk (end_rep_in o) → IsSome o
+end-some None ok = cc
+end-some (Some e) ok = refl
+
 -- ## Error contexts
 
 pub contexts-inserted : (h : Handles) (e : Entry) → IsTable h → contexts_held (inserted h e) ≡ contexts_held h + context_in (Some e)
@@ -59,3 +72,10 @@ contexts-most h = sum_by-le-sum_by context_in occupied_in h.entries by
     by None = omega arith
     by (Some (entry.ErrorContext rep)) = omega arith
     by (Some _) = omega arith
+
+-- an end is no error context
+pub end-no_context : (o : Option Entry) → IsOk (end_rep_in o) → context_in o ≡ 0
+end-no_context None ok = cc
+end-no_context (Some (entry.Stream end)) ok = refl
+end-no_context (Some (entry.Future end)) ok = refl
+end-no_context (Some _) ok = cc

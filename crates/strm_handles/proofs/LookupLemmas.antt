@@ -1,6 +1,6 @@
 -- What a look-up of an end says of the number's entry, and back.
 use Rattle.std.proofs.Common.{◌≡◌, ℕ, ◌+◌, Bool, true, false, Option, Some, None, refl, sym, ap, ◌∙◌, arith}
-use Rattle.std.specs.Prelude.{◌≢◌, ◌↔◌, Result, Ok, Err, IfOk, if◌then◌else◌}
+use Rattle.std.specs.Prelude.{◌≢◌, ◌↔◌, Result, Ok, Err, IsOk, IfOk, if◌then◌else◌}
 use Rattle.strm_handles.specs.Words.{Payload, Entry, TransmitEnd, HandleError}
 use Rattle.strm_codes.specs.Sameness.{same_payload}
 use Rattle.strm_codes.proofs.SamenessLemmas.{Decides-same_payload}
@@ -9,7 +9,7 @@ use Rattle.strm_handles.specs.declared.errors.HandleError.TheVariants.{IndexOver
 use Rattle.strm_handles.specs.Handles.{Handles, Table, entry_at, next_index, inserted, removed, live_of, IsTable}
 use Rattle.strm_handles.specs.Changes.{Inserts}
 use Rattle.strm_handles.specs.Counters.{Counter}
-use Rattle.strm_handles.specs.Lookups.{end_typed, stream_end_in, stream_end_of, stream_rep_of, future_end_in, future_end_of}
+use Rattle.strm_handles.specs.Lookups.{end_typed, stream_end_in, stream_end_of, stream_rep_of, future_end_in, future_end_of, end_rep_in, end_rep_of}
 use Rattle.strm_handles.proofs.HandleLemmas.{entry_at-inserted-same, live_of-removed}
 
 typed_cases : (b : Bool) (end found : TransmitEnd) → (if b then Ok end else Err WrongType) ≡ Ok found → (b ≡ true) × (end ≡ found)
@@ -66,6 +66,27 @@ live_of-removed-stream h ty idx end is =
 pub live_of-removed-future : (h : Handles) (ty : Payload) (idx : ℕ) (end : TransmitEnd) → future_end_of h ty idx ≡ Ok end → live_of (removed h idx) + 1 ≡ live_of h
 live_of-removed-future h ty idx end is =
     omega (arith, live_of-removed h idx (Future end) (entry-future_of h ty idx end is).0)
+
+-- the same of what is an end, of whatever payload
+pub live_of-removed-end : (h : Handles) (idx : ℕ) → IsOk (end_rep_of h idx) → live_of (removed h idx) + 1 ≡ live_of h
+live_of-removed-end h idx ok = by (entry_at h idx) refl ok
+  where
+    by : (o : Option Entry) → entry_at h idx ≡ o → IsOk (end_rep_in o) → live_of (removed h idx) + 1 ≡ live_of h
+    by None e ok = cc
+    by (Some (Stream end)) e ok = omega (arith, live_of-removed h idx (Stream end) e)
+    by (Some (Future end)) e ok = omega (arith, live_of-removed h idx (Future end) e)
+    by (Some _) e ok = cc
+
+-- an end of a payload is an end
+pub stream_is_end : (ty : Payload) (o : Option Entry) → IsOk (stream_end_in ty o) → IsOk (end_rep_in o)
+stream_is_end ty None ok = cc
+stream_is_end ty (Some (Stream end)) ok = refl
+stream_is_end ty (Some _) ok = cc
+
+pub future_is_end : (ty : Payload) (o : Option Entry) → IsOk (future_end_in ty o) → IsOk (end_rep_in o)
+future_is_end ty None ok = cc
+future_is_end ty (Some (Future end)) ok = refl
+future_is_end ty (Some _) ok = cc
 
 -- an end has the wrong type exactly where its payload is another
 pub end_typed-wrong : (ty : Payload) (end : TransmitEnd) → (end_typed ty end ≡ Err WrongType) ↔ (end.ty ≢ ty)

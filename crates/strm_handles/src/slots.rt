@@ -112,6 +112,7 @@ impl<E: Copy> Slots<E> {
     }
 
     /// Room for so many inserts.
+    #[inline(always)]
     pub(crate) fn reserve(&mut self, count: u32) -> Result<(), HandleError>
         ensures ok { OnOk result (count ≤ self.new.room) }
         ensures handles { self.new.handles ≡ self.old.handles }

@@ -21,10 +21,10 @@ mod resources;
 #[derive(Drop)]
 pub struct HandleTable {
     slots: Slots<Entry>,
-    // How many numbers stand for ends of streams and futures.
-    ends: u32,
-    // How many stand for error contexts.
+    // How many numbers stand for error contexts.
     contexts: u32,
+    // How many stand for ends of streams and futures.
+    ends: u32,
 }
 
 impl Model for HandleTable {
@@ -106,6 +106,7 @@ impl HandleTable {
     }
 
     /// Takes room for so many inserts, which then take no memory.
+    #[inline(always)]
     pub fn reserve(&mut self, count: u32) -> Result<(), HandleError>
         ensures ok { OnOk result (count ≤ self.new.room) }
         ensures handles { self.new.handles ≡ self.old.handles }

@@ -2,10 +2,11 @@
 //!
 //! Source: wasmtime, `handle_table.rs`; setting a state is ours, where wasmtime lends the state.
 
-ghost use Rattle.std.specs.Prelude.{◌≡◌, ◌≤◌, IsSome, Ok, Err, IfOk, IfErr, OnOk, OnErr};
+ghost use Rattle.std.specs.Prelude.{◌≡◌, ◌+◌, ◌≤◌, IsSome, IsOk, Ok, Err, IfOk, IfErr, OnOk, OnErr};
 ghost use Rattle.std.specs.Result.{ForOk};
-ghost use Rattle.strm_handles.specs.Handles.{entry_at, with_entry, live_of};
+ghost use Rattle.strm_handles.specs.Handles.{entry_at, removed, with_entry, live_of};
 ghost use Rattle.strm_handles.specs.Changes.{Inserts, Removes};
+ghost use Rattle.strm_handles.specs.Counters.{uncounted};
 ghost use Rattle.strm_handles.specs.Lookups.{stream_end_of, future_end_of, stream_rep_of, future_rep_of, end_rep_of};
 ghost use Rattle.strm_handles.specs.Ends.{read_end, write_end, is_reading, without_value, stream_readable_of, stream_writable_of, future_readable_of, future_writable_of};
 
@@ -17,6 +18,7 @@ use strm_codes::payloads::Payload;
 
 impl HandleTable {
     /// Adds the read end of a stream of this payload, idle and not done.
+    #[inline(always)]
     pub fn stream_insert_read(
         &mut self,
         counter: &mut HandleCounter,
@@ -30,6 +32,7 @@ impl HandleTable {
     }
 
     /// Adds the write end of a stream of this payload, idle and not done.
+    #[inline(always)]
     pub fn stream_insert_write(
         &mut self,
         counter: &mut HandleCounter,
@@ -43,6 +46,7 @@ impl HandleTable {
     }
 
     /// Adds the read end of a future of this payload, idle and not done.
+    #[inline(always)]
     pub fn future_insert_read(
         &mut self,
         counter: &mut HandleCounter,
@@ -56,6 +60,7 @@ impl HandleTable {
     }
 
     /// Adds the write end of a future of this payload, idle and not done.
+    #[inline(always)]
     pub fn future_insert_write(
         &mut self,
         counter: &mut HandleCounter,
@@ -246,5 +251,18 @@ impl HandleTable {
         let (rep, done) = (end.rep, end.state.writable()?);
         self.remove(counter, idx);
         Ok((rep, done))
+    }
+
+    /// Removes an end of a stream or future, whatever its payload and its state, which `end_rep` tells. Ours.
+    #[inline(always)]
+    pub fn end_remove(&mut self, counter: &mut HandleCounter, idx: u32)
+        requires end { IsOk (end_rep_of self.old.handles idx) }
+        requires live { live_of self.old.handles ≤ counter.old.live }
+        ensures handles { self.new.handles ≡ removed self.old.handles idx }
+        ensures room { self.new.room ≡ self.old.room + 1 }
+        ensures live { counter.new ≡ uncounted counter.old }
+    {
+        self.slots.remove(counter, idx);
+        self.ends -= 1;
     }
 }

@@ -26,8 +26,8 @@ ghost use Rattle.strm_transmit.specs.Hosted.{StillFits, MeetsHosted};
 
 use crate::errors::StoreError;
 use crate::host_ends::HostEnds;
-use crate::store::Store;
 use crate::store::refusals::{refusal_of, side_of};
+use crate::store::{Store, number_type};
 use crate::telling::retell;
 use strm_channels::endings::cancel_operation;
 use strm_codes::codes::{ReturnCode, TransmitIndex};
@@ -148,6 +148,44 @@ impl Store {
     /// removed at once.
     #[inline(always)]
     pub(crate) fn drop_side<H: HostEnds>(
+        &mut self,
+        hosts: &mut H,
+        side: Side,
+        end: &NamedEnd,
+    ) -> Result<(), StoreError>
+        requires fits { Fits self.old (H.tells hosts.old) }
+        ensures meets { MeetsHosted self.old self.new (H.tells hosts.old) (H.tells hosts.new)
+            (as_reply (λ _. replies.Done) result) (OnEnd side end.now Drop) }
+        ensures takes_no_memory { result ≢ Err StoreError.OutOfMemory }
+    {
+        match number_type(end.ty) {
+            Some(ty) => {
+                let end = NamedEnd { ty, ..*end };
+                self.drop_here(hosts, side, &end)
+            }
+            None => self.drop_apart(hosts, side, *end),
+        }
+    }
+
+    // The same of any payload, apart from the code for numbers.
+    #[inline(never)]
+    fn drop_apart<H: HostEnds>(
+        &mut self,
+        hosts: &mut H,
+        side: Side,
+        end: NamedEnd,
+    ) -> Result<(), StoreError>
+        requires fits { Fits self.old (H.tells hosts.old) }
+        ensures meets { MeetsHosted self.old self.new (H.tells hosts.old) (H.tells hosts.new)
+            (as_reply (λ _. replies.Done) result) (OnEnd side end Drop) }
+        ensures takes_no_memory { result ≢ Err StoreError.OutOfMemory }
+    {
+        self.drop_here(hosts, side, &end)
+    }
+
+    // The same, in the caller's code.
+    #[inline(always)]
+    fn drop_here<H: HostEnds>(
         &mut self,
         hosts: &mut H,
         side: Side,

@@ -77,7 +77,7 @@ impl Store {
     {
         let home = home_of(&self.guests, end.guest as usize, end.handle);
         let (guests, counter) = (&mut self.guests, &mut self.counter);
-        remove_end(guests, counter, side, end);
+        remove_end(guests, counter, end);
         let (streams, places) = (&mut self.streams, &mut self.places);
         set_owner(streams, places, stream, side, owner);
         leave(&mut self.ready, end.guest as usize, home, end.handle);

@@ -6,6 +6,7 @@ use Rattle.strm_machine.specs.Moves.{with_owner}
 use Rattle.strm_machine.specs.Tests.{end_named}
 use Rattle.strm_machine.specs.declared.streams.Stream.{Stream}
 use Rattle.strm_channels.specs.Guests.{guests_of}
+use Rattle.strm_channels.proofs.EndLemmas.{removable_end}
 use Rattle.strm_transmit.specs.Telling.{Retells}
 use Rattle.strm_transmit.proofs.PlaceLemmas.{live_stays}
 use Rattle.strm_transmit.proofs.StoreLemmas.{set_at}
@@ -14,9 +15,10 @@ use Rattle.strm_transmit.proofs.EndingLemmas.{removable_named, named_made, named
 use Rattle.strm_transmit.proofs.MoveLemmas.{IsStore-released}
 use Rattle.strm_transmit.proofs.store.Store.release.Goals as goal
 
-pub remove_end-requires-clause-idle : goal.remove_end-requires-clause-idle
-remove_end-requires-clause-idle c =
-    removable_named (state_of c.self.inside) c.args.side c.args.end.now c.self.invariant.sound (rw (← c.self.view_is) at c.requires.fits)
+pub remove_end-requires-clause-end : goal.remove_end-requires-clause-end
+remove_end-requires-clause-end c =
+    let end = c.args.end.now in
+    removable_end c.args.side end.ty _ end.handle (removable_named (state_of c.self.inside) c.args.side end c.self.invariant.sound (rw (← c.self.view_is) at c.requires.fits))
 
 pub set_owner-requires-clause-there : goal.set_owner-requires-clause-there
 set_owner-requires-clause-there c =

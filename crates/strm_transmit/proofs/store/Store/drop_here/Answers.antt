@@ -7,7 +7,7 @@ use Rattle.strm_host_turns.proofs.WriterTurnLemmas.{handed_on}
 use Rattle.strm_transmit.proofs.StepLemmas.{is_admitted, meets_not_admitted}
 use Rattle.strm_transmit.proofs.HostStepLemmas.{hosted_not_admitted}
 use Rattle.strm_transmit.proofs.DropLemmas.{drops-end, drops-end-alone, dropped-fits, drops-hosted}
-use Rattle.strm_transmit.proofs.store.Store.drop_side.Goals as goal
+use Rattle.strm_transmit.proofs.store.Store.drop_here.Goals as goal
 
 pub release-requires-clause-fits : goal.release-requires-clause-fits
 release-requires-clause-fits g c =
