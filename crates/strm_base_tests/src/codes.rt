@@ -5,7 +5,7 @@ use strm_codes::codes::ReturnCode;
 use strm_codes::counts::ItemCount;
 
 /// Zero where it is no count.
-pub fn items(count: u32) -> ItemCount {
+pub(crate) fn items(count: u32) -> ItemCount {
     ItemCount::new(count).unwrap_or(ItemCount::ZERO)
 }
 

@@ -8,7 +8,7 @@ use strm_codes::scalars::Scalar;
 const _: () = prove!(size_of::<Payload>() <= 10);
 
 /// Nothing where there is no such tuple.
-pub fn tuple(fields: &[Scalar]) -> Payload {
+pub(crate) fn tuple(fields: &[Scalar]) -> Payload {
     match Shape::new(fields) {
         Some(shape) => Payload::Tuple(shape),
         None => Payload::Nothing,

@@ -14,7 +14,7 @@ use strm_memory::copies::copy_items;
 pub const COUNTS: [u32; 4] = [8, 64, 512, 4096];
 
 /// What is copied, and its name.
-pub fn layouts() -> [(&'static str, Payload); 6] {
+pub(crate) fn layouts() -> [(&'static str, Payload); 6] {
     let mixed = [
         Scalar::Bool,
         Scalar::U16,
@@ -60,7 +60,11 @@ pub struct Copies {
 impl Copies {
     /// Slices whose bytes are written to: every fourth byte of the source counts up, and all others
     /// are 0, so that each field of four bytes is a character.
-    pub fn new(alloc: Global, payload: Payload, count: ItemCount) -> Result<Copies, OutOfMemory> {
+    pub(crate) fn new(
+        alloc: Global,
+        payload: Payload,
+        count: ItemCount,
+    ) -> Result<Copies, OutOfMemory> {
         let len = payload.size() as usize * count.as_usize();
         let mut source = filled(alloc, 0, len)?;
         let destination = filled(alloc, 7, len)?;
@@ -79,7 +83,7 @@ impl Copies {
 
     /// Copies all items, so many times.
     #[inline(never)]
-    pub fn repeat(&mut self, rounds: u32) {
+    pub(crate) fn repeat(&mut self, rounds: u32) {
         for _ in 0..rounds {
             let _ = copy_items(
                 self.source.as_slice(),
@@ -91,7 +95,7 @@ impl Copies {
     }
 
     /// The sum of the bytes that items were copied to, modulo 2^64.
-    pub fn sum(&self) -> u64 {
+    pub(crate) fn sum(&self) -> u64 {
         sum_of(&self.destination)
     }
 }

@@ -41,17 +41,25 @@ const LIMITS: Limits = Limits {
 };
 
 /// A list of so many bytes.
-pub fn list(alloc: Global, len: u32) -> Result<Vec<u8>, AllocError> {
+pub(crate) fn list(alloc: Global, len: u32) -> Result<Vec<u8>, AllocError> {
     vec![in alloc; 7u8; len as usize]
 }
 
-/// The bytes of a feed.
-pub fn fed() -> Chunk {
+// The bytes of a feed.
+fn fed() -> Chunk {
     Chunk::new(&[7; 64]).unwrap()
 }
 
+/// A feed of the first host writer.
+pub(crate) fn feed() -> Step {
+    Step::Feed {
+        host: 0,
+        bytes: fed(),
+    }
+}
+
 /// A byte is written to each page of the first guest's memory.
-pub fn touch(store: &mut Store, size: u32) -> Result<(), StoreError>
+pub(crate) fn touch(store: &mut Store, size: u32) -> Result<(), StoreError>
     ensures { OnOk result (StillFits store.old store.new) }
 {
     let bytes = fed();
@@ -77,7 +85,11 @@ fn prepare<H: HostEnds>(store: &mut Store, hosts: &H, size: u32) -> Result<(u32,
 }
 
 /// A step that is no read and no write; its reply is not looked at.
-pub fn done<H: HostEnds>(store: &mut Store, hosts: &mut H, step: &Step) -> Result<(), StoreError>
+pub(crate) fn done<H: HostEnds>(
+    store: &mut Store,
+    hosts: &mut H,
+    step: &Step,
+) -> Result<(), StoreError>
     requires { Fits store.old (H.tells hosts.old) }
     ensures { Fits store.new (H.tells hosts.new) }
 {
@@ -97,7 +109,11 @@ pub struct Reading {
 
 impl Reading {
     /// The guest has so many bytes.
-    pub fn new<H: HostEnds>(alloc: Global, hosts: &H, size: u32) -> Result<Reading, StoreError>
+    pub(crate) fn new<H: HostEnds>(
+        alloc: Global,
+        hosts: &H,
+        size: u32,
+    ) -> Result<Reading, StoreError>
         ensures { IfOk result (λ reading. Fits reading.store (H.tells hosts.now)) }
     {
         let mut store = Store::new(alloc, 0, LIMITS);
@@ -113,7 +129,7 @@ impl Reading {
 
     /// Feeds the writer, and reads what it was fed, so many times.
     #[inline(never)]
-    pub fn feed_and_read<H: HostEnds>(
+    pub(crate) fn feed_and_read<H: HostEnds>(
         &mut self,
         hosts: &mut H,
         rounds: u32,
@@ -121,10 +137,7 @@ impl Reading {
         requires { Fits self.old.store (H.tells hosts.old) }
         ensures fits { Fits self.new.store (H.tells hosts.new) }
     {
-        let step = Step::Feed {
-            host: 0,
-            bytes: fed(),
-        };
+        let step = feed();
         for round in 0..rounds {
             done(&mut self.store, hosts, &step)?;
             let address = round % (FED / FEED) * FEED;
@@ -136,7 +149,7 @@ impl Reading {
 
     /// Reads a list, piece behind piece.
     #[inline(never)]
-    pub fn read_list<H: HostEnds>(&mut self, hosts: &mut H) -> Result<(), StoreError>
+    pub(crate) fn read_list<H: HostEnds>(&mut self, hosts: &mut H) -> Result<(), StoreError>
         requires { Fits self.old.store (H.tells hosts.old) }
         ensures fits { Fits self.new.store (H.tells hosts.new) }
     {
@@ -148,12 +161,12 @@ impl Reading {
     }
 
     /// How many bytes were read.
-    pub fn received(&self) -> u128 {
+    pub(crate) fn received(&self) -> u128 {
         self.store.moved(self.stream).unwrap_or(0)
     }
 
     /// The sum of the guest's memory, modulo 2^64.
-    pub fn sum(&self) -> u64 {
+    pub(crate) fn sum(&self) -> u64 {
         match self.store.memory(0) {
             Some(bytes) => sum_of(bytes),
             None => 0,

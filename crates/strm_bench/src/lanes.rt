@@ -14,7 +14,7 @@ const FRAME: usize = 258;
 const SIZES: [usize; 3] = [1, 64, 65_536];
 
 /// Pieces of each size, of a stream of about so many bytes.
-pub fn time_all(rt: &HostRuntime, bytes: usize) -> io::Result<()> {
+pub(crate) fn time_all(rt: &HostRuntime, bytes: usize) -> io::Result<()> {
     match frames(rt.alloc(), bytes) {
         Ok(mux) => {
             for size in SIZES {

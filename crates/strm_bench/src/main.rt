@@ -64,11 +64,11 @@ fn time_store(rt: &HostRuntime) -> io::Result<()> {
     }
     time_feeds(rt, turns / 8)?;
     time_list(rt)?;
-    time_grants(rt, turns / 8)?;
+    time_granting(rt, 0, Some(turns / 8))?;
     time_consumer(rt)?;
     pipes::time_list(rt)?;
     pipes::time_rounds(rt)?;
-    time_drives(rt)
+    time_granting(rt, BESIDE, None)
 }
 
 // How long something took.
@@ -212,8 +212,9 @@ fn time_listed<H: HostEnds>(
     }
 }
 
-// Grants of 64 bytes to a host reader, each followed by a write of as many.
-fn time_grants(rt: &HostRuntime, rounds: u32) -> io::Result<()> {
+// Of a host reader, beside so many streams: so many grants of 64 bytes, each followed by a write of as many; or drive
+// rounds while one write waits.
+fn time_granting(rt: &HostRuntime, beside: u32, grants: Option<u32>) -> io::Result<()> {
     let alloc = rt.alloc();
     let credit = CreditReader::new(alloc, TransmitKind::Stream, BYTES);
     let mut readers: Vec<Box<dyn HostReader>> = Vec::new(alloc);
@@ -227,8 +228,11 @@ fn time_grants(rt: &HostRuntime, rounds: u32) -> io::Result<()> {
         writers: Vec::new(alloc),
         readers,
     };
-    match Writing::new(alloc, &mut hosts, FED, 0) {
-        Ok(mut writing) => time_granted(rt, &mut writing, &mut hosts, rounds),
+    match Writing::new(alloc, &mut hosts, FED, beside) {
+        Ok(mut writing) => match grants {
+            Some(rounds) => time_granted(rt, &mut writing, &mut hosts, rounds),
+            None => time_driven(rt, &mut writing, &mut hosts),
+        },
         Err(error) => eprintln!(rt; "{error:?}"),
     }
 }
@@ -286,27 +290,6 @@ fn time_taken<H: HostEnds>(rt: &HostRuntime, writing: &mut Writing, hosts: &mut 
             tell_taken(rt, "consumed", writing)?;
             tell_time(rt, "a consumer of 64 MiB", spent, "ns")
         }
-        Err(error) => eprintln!(rt; "{error:?}"),
-    }
-}
-
-// Drive rounds while one write waits, beside many streams.
-fn time_drives(rt: &HostRuntime) -> io::Result<()> {
-    let alloc = rt.alloc();
-    let credit = CreditReader::new(alloc, TransmitKind::Stream, BYTES);
-    let mut readers: Vec<Box<dyn HostReader>> = Vec::new(alloc);
-    let Ok(reader) = Box::new(alloc, credit) else {
-        return eprintln!(rt; "no memory");
-    };
-    let Ok(()) = readers.push(reader) else {
-        return eprintln!(rt; "no memory");
-    };
-    let mut hosts = Hosts {
-        writers: Vec::new(alloc),
-        readers,
-    };
-    match Writing::new(alloc, &mut hosts, FED, BESIDE) {
-        Ok(mut writing) => time_driven(rt, &mut writing, &mut hosts),
         Err(error) => eprintln!(rt; "{error:?}"),
     }
 }

@@ -3,10 +3,9 @@
 ghost use Rattle.std.specs.Prelude.{IfOk, OnOk};
 ghost use Rattle.strm_host_machine.specs.Does.{Fits};
 
-use crate::hosted::{FEED, done, fed};
+use crate::hosted::{FEED, done, feed};
 use std::alloc::Global;
 use strm_machine::limits::Limits;
-use strm_machine::steps::Step;
 use strm_transmit::errors::StoreError;
 use strm_transmit::host_ends::HostEnds;
 use strm_transmit::store::Store;
@@ -38,7 +37,7 @@ pub struct Piping {
 
 impl Piping {
     /// From the first host writer to the first host reader.
-    pub fn new<H: HostEnds>(alloc: Global, hosts: &mut H) -> Result<Piping, StoreError>
+    pub(crate) fn new<H: HostEnds>(alloc: Global, hosts: &mut H) -> Result<Piping, StoreError>
         ensures { IfOk result (λ piping. Fits piping.store (H.tells hosts.new)) }
     {
         let mut store = Store::new(alloc, 0, LIMITS);
@@ -50,7 +49,7 @@ impl Piping {
 
     /// One round.
     #[inline(never)]
-    pub fn drive<H: HostEnds>(&mut self, hosts: &mut H) -> Result<(), StoreError>
+    pub(crate) fn drive<H: HostEnds>(&mut self, hosts: &mut H) -> Result<(), StoreError>
         requires { Fits self.old.store (H.tells hosts.old) }
         ensures fits { Fits self.new.store (H.tells hosts.new) }
     {
@@ -59,7 +58,7 @@ impl Piping {
 
     /// Feeds the writer, grants the reader as many bytes, and drives, so many times.
     #[inline(never)]
-    pub fn feed_and_drive<H: HostEnds>(
+    pub(crate) fn feed_and_drive<H: HostEnds>(
         &mut self,
         hosts: &mut H,
         rounds: u32,
@@ -67,10 +66,7 @@ impl Piping {
         requires { Fits self.old.store (H.tells hosts.old) }
         ensures fits { Fits self.new.store (H.tells hosts.new) }
     {
-        let step = Step::Feed {
-            host: 0,
-            bytes: fed(),
-        };
+        let step = feed();
         for _ in 0..rounds {
             done(&mut self.store, hosts, &step)?;
             self.store.grant(hosts, 0, FEED)?;
@@ -80,7 +76,7 @@ impl Piping {
     }
 
     /// How many bytes passed.
-    pub fn passed(&self) -> u128 {
+    pub(crate) fn passed(&self) -> u128 {
         self.store.moved(self.stream).unwrap_or(0)
     }
 }

@@ -24,7 +24,7 @@ fn tell_passed(rt: &HostRuntime, name: &str, piping: &Piping) -> io::Result<()> 
 }
 
 /// A list of 64 MiB that a host writer gives, piped to a consumer.
-pub fn time_list(rt: &HostRuntime) -> io::Result<()> {
+pub(crate) fn time_list(rt: &HostRuntime) -> io::Result<()> {
     let alloc = rt.alloc();
     let given = list(alloc, LISTED);
     let bytes = Vec::with_capacity(alloc, LISTED as usize);
@@ -63,7 +63,7 @@ fn time_piped<H: HostEnds>(rt: &HostRuntime, piping: &mut Piping, hosts: &mut H)
 }
 
 /// Rounds of a pipe, in each of which 64 bytes pass.
-pub fn time_rounds(rt: &HostRuntime) -> io::Result<()> {
+pub(crate) fn time_rounds(rt: &HostRuntime) -> io::Result<()> {
     let alloc = rt.alloc();
     let queue = QueueWriter::new(alloc, TransmitKind::Stream, BYTES);
     let credit = CreditReader::new(alloc, TransmitKind::Stream, BYTES);

@@ -40,7 +40,7 @@ pub struct Told {
 }
 
 /// So many rounds on a new store with a stream from one guest to another.
-pub fn run(alloc: Global, items: Payload, rounds: u32) -> Result<Told, StoreError> {
+pub(crate) fn run(alloc: Global, items: Payload, rounds: u32) -> Result<Told, StoreError> {
     let mut store = Store::new(alloc, 0, LIMITS);
     let mut hosts = Hosts {
         writers: Vec::new(alloc),

@@ -64,7 +64,7 @@ pub struct Writing {
 
 impl Writing {
     /// The guest has so many bytes, and so many other streams.
-    pub fn new<H: HostEnds>(
+    pub(crate) fn new<H: HostEnds>(
         alloc: Global,
         hosts: &mut H,
         size: u32,
@@ -85,7 +85,7 @@ impl Writing {
 
     /// Grants the reader some bytes, and writes as many, so many times.
     #[inline(never)]
-    pub fn grant_and_write<H: HostEnds>(
+    pub(crate) fn grant_and_write<H: HostEnds>(
         &mut self,
         hosts: &mut H,
         rounds: u32,
@@ -104,7 +104,7 @@ impl Writing {
 
     /// Writes a list, piece behind piece.
     #[inline(never)]
-    pub fn write_list<H: HostEnds>(&mut self, hosts: &mut H) -> Result<(), StoreError>
+    pub(crate) fn write_list<H: HostEnds>(&mut self, hosts: &mut H) -> Result<(), StoreError>
         requires { Fits self.old.store (H.tells hosts.old) }
         ensures fits { Fits self.new.store (H.tells hosts.new) }
     {
@@ -117,7 +117,11 @@ impl Writing {
 
     /// Writes some bytes, for which the reader has no credit, and drives so many times.
     #[inline(never)]
-    pub fn drive<H: HostEnds>(&mut self, hosts: &mut H, rounds: u32) -> Result<(), StoreError>
+    pub(crate) fn drive<H: HostEnds>(
+        &mut self,
+        hosts: &mut H,
+        rounds: u32,
+    ) -> Result<(), StoreError>
         requires { Fits self.old.store (H.tells hosts.old) }
         ensures fits { Fits self.new.store (H.tells hosts.new) }
     {
@@ -130,7 +134,7 @@ impl Writing {
     }
 
     /// How many bytes were taken.
-    pub fn taken(&self) -> u128 {
+    pub(crate) fn taken(&self) -> u128 {
         self.store.moved(self.stream).unwrap_or(0)
     }
 }

@@ -17,7 +17,7 @@ const FRONT: [u8; 13] = *b"STRT\x01\x00\x00\x00\x00\x01\x00\x01\x02";
 const ITEMS: [u32; 3] = [64, 4096, 1_048_576];
 
 /// Records of each size, of a tape of about so many bytes.
-pub fn time_all(rt: &HostRuntime, bytes: usize) -> io::Result<()> {
+pub(crate) fn time_all(rt: &HostRuntime, bytes: usize) -> io::Result<()> {
     for items in ITEMS {
         time_records(rt, bytes, items)?;
     }

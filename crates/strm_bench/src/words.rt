@@ -21,7 +21,7 @@ const TURNS: u32 = 2_000_000;
 const BYTES: usize = 4_194_304;
 
 /// What the first word chooses.
-pub fn choice(rt: &HostRuntime) -> io::Result<Timed> {
+pub(crate) fn choice(rt: &HostRuntime) -> io::Result<Timed> {
     match env::args(rt)?.nth(1) {
         None => Ok(Timed::All),
         Some(word) => Ok(chosen(word.as_str())),
@@ -40,7 +40,7 @@ fn chosen(word: &str) -> Timed {
 }
 
 /// The first word, a number of turns.
-pub fn turns(rt: &HostRuntime) -> io::Result<u32> {
+pub(crate) fn turns(rt: &HostRuntime) -> io::Result<u32> {
     match env::args(rt)?.nth(1) {
         Some(word) => Ok(word.as_str().parse::<u32>().unwrap_or(TURNS)),
         None => Ok(TURNS),
@@ -48,7 +48,7 @@ pub fn turns(rt: &HostRuntime) -> io::Result<u32> {
 }
 
 /// The second word, a number of bytes.
-pub fn bytes(rt: &HostRuntime) -> io::Result<usize> {
+pub(crate) fn bytes(rt: &HostRuntime) -> io::Result<usize> {
     match env::args(rt)?.nth(2) {
         Some(word) => Ok(word.as_str().parse::<usize>().unwrap_or(BYTES)),
         None => Ok(BYTES),
@@ -56,7 +56,7 @@ pub fn bytes(rt: &HostRuntime) -> io::Result<usize> {
 }
 
 /// The second word, what an item of the rounds is.
-pub fn items(rt: &HostRuntime) -> io::Result<Payload> {
+pub(crate) fn items(rt: &HostRuntime) -> io::Result<Payload> {
     match env::args(rt)?.nth(2) {
         Some(word) => Ok(payload(word.as_str())),
         None => Ok(crate::BYTES),

@@ -19,7 +19,7 @@ pub enum Turn<T> {
     Ready(T),
     /// It failed.
     Failed,
-    /// Memory was wanting. Nothing is recorded.
+    /// Out of memory. Nothing is recorded.
     NoMemory,
 }
 

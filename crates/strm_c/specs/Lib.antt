@@ -8,3 +8,4 @@ pub mod Members
 pub mod Queries
 pub mod Making
 pub mod Limits
+pub mod Named

@@ -9,8 +9,8 @@ use Rattle.strm_c.specs.declared.exports.limits.StrmLimits.{StrmLimits}
 use Rattle.strm_c.specs.declared.handles.StoreHandle.{StoreHandle}
 
 -- the call would give a guest more than its limits allow
-abbrev pub guest_limit : ℕ
-guest_limit = 72
+abbrev pub guest_limit_status : ℕ
+guest_limit_status = 72
 
 -- by a test of its store and of the limits of its guests
 abbrev pub is_past_by : (State → List GuestLimits → Bool) → List GuestLimits → Option State → Bool
@@ -29,7 +29,7 @@ is_past_of h None past = false
 -- a call that gives a guest a handle: where that would be more than the guest's limits allow, nothing is done, which
 -- the status tells; else it answers as where there are no limits. The limits stay
 pub record WithinLimits (old new : StoreHandle) (is_past : Bool) (status old_word new_word : ℕ) (answers : Type 0) : Type 0 where
-  pub past : is_past ≡ true → IsNothing old.state guest_limit status old_word new_word new.state
+  pub past : is_past ≡ true → IsNothing old.state guest_limit_status status old_word new_word new.state
   pub within : is_past ≡ false → answers
   pub limits : new.limits ≡ old.limits
 

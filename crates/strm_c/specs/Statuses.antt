@@ -103,7 +103,7 @@ pub record IsAnswer (reaction : Reaction) (status old_word new_word : ℕ) (new 
   pub word_is : new_word ≡ word_in reaction.reply old_word
   pub state_is : new ≡ Some reaction.state
 
--- or, where the machine does the step, memory was wanted and nothing has changed
+-- or, where the machine does the step, memory had run out and nothing has changed
 abbrev pub IsAnswerOr : State → Reaction → ℕ → ℕ → ℕ → Option State → Type 0
 IsAnswerOr old reaction status old_word new_word new =
     (status ≢ no_memory → IsAnswer reaction status old_word new_word new)
@@ -120,7 +120,7 @@ abbrev pub AnswersCall : Option State → (State → Reaction) → ℕ → ℕ �
 AnswersCall (Some old) step status old_word new_word new = IsAnswer (step old) status old_word new_word new
 AnswersCall None step status old_word new_word new = IsNothing None no_store status old_word new_word new
 
--- the same where memory may be wanted
+-- the same where memory may run out
 abbrev pub AnswersOr : Option State → (State → Reaction) → ℕ → ℕ → ℕ → Option State → Type 0
 AnswersOr (Some old) step status old_word new_word new = IsAnswerOr old (step old) status old_word new_word new
 AnswersOr None step status old_word new_word new = IsNothing None no_store status old_word new_word new
@@ -134,7 +134,7 @@ AnswersOf (Some old) None step status old_word new_word new =
     IsNothing (Some old) no_payload status old_word new_word new
 AnswersOf None named step status old_word new_word new = IsNothing None no_store status old_word new_word new
 
--- the same where memory may be wanted
+-- the same where memory may run out
 abbrev pub AnswersOfOr : {T : Type 0} → Option State → Option T → (State → T → Reaction)
     → ℕ → ℕ → ℕ → Option State → Type 0
 AnswersOfOr (Some old) (Some named) step status old_word new_word new =

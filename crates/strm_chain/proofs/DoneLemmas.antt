@@ -15,7 +15,7 @@ use Rattle.strm_codes.specs.declared.codes.TransmitIndex.TheVariants as index
 use Rattle.strm_codes.specs.declared.codes.TransmitKind.TheVariants.{Stream as AStream}
 use Rattle.strm_codes.specs.declared.payloads.Payload.TheVariants.{Nothing as NoPayload, One}
 use Rattle.strm_codes.specs.declared.scalars.Scalar.TheVariants.{U8}
-use Rattle.strm_codes.specs.Codes.{count_of, completed_code}
+use Rattle.strm_codes.specs.Codes.{count_of_code, completed_code}
 use Rattle.strm_codes.specs.Counts.{count_limit}
 use Rattle.strm_codes.specs.Layout.{scalars_of, item_size}
 use Rattle.strm_codes.specs.Sameness.{same_payload}
@@ -278,7 +278,7 @@ abbrev pub IsReadCode : ReturnCode → Type 0
 IsReadCode code = (code ≡ codes.Blocked) ⊎ EndsRead code
 
 completes_read : (code : ReturnCode) (n : ℕ) → code ≡ codes.Completed n → EndsRead code
-completes_read code n e = WithMore (e ∙ ap codes.Completed (sym (ap count_of e)))
+completes_read code n e = WithMore (e ∙ ap codes.Completed (sym (ap count_of_code e)))
 
 reads_too : (code : ReturnCode) → IsWriteCode code → IsReadCode code
 reads_too code (inl e) = inl e
@@ -329,7 +329,7 @@ record TellsCode (gone : Bool) (code : ReturnCode) : Type 0 where
 
 tells_dropped : (gone : Bool) (code : ReturnCode) (n : ℕ) → gone ≡ true → code ≡ codes.Dropped n → TellsCode gone code
 tells_dropped gone code n g e = record {
-  read = WithLast (e ∙ ap codes.Dropped (sym (ap count_of e)));
+  read = WithLast (e ∙ ap codes.Dropped (sym (ap count_of_code e)));
   write = λ f. absurd (let wrong : true ≡ false = sym g ∙ f in cc);
 }
 

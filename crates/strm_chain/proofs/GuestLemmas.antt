@@ -4,7 +4,7 @@ use Rattle.std.specs.Prelude.{◌⊎◌, IsSome}
 use Rattle.std.proofs.Math.Nat.{min-le_left}
 use Rattle.std.proofs.lemmas.Bool.{cases_lt}
 use Rattle.std.proofs.lemmas.List.{length-set, get_or-set_same, get_or-set_other}
-use Rattle.strm_codes.specs.Codes.{count_of}
+use Rattle.strm_codes.specs.Codes.{count_of_code}
 use Rattle.strm_codes.specs.declared.codes.ReturnCode.{ReturnCode}
 use Rattle.strm_codes.specs.declared.codes.ReturnCode.TheVariants as codes
 use Rattle.strm_codes.specs.Layout.{scalars_of}
@@ -234,8 +234,8 @@ module _ (g : ℕ) (w : Worker) (p : ChainPlay) (x : IsGuest g w p) (f : IsChain
   -- ## Behind a read that is over: its bytes may be dumped
 
   pub record MayDump (q : ChainPlay) (code : ReturnCode) : Type 0 where
-    pub few : count_of code ≤ 64
-    pub done : IsDone q.state (steps.Dump g 0 (count_of code))
+    pub few : count_of_code code ≤ 64
+    pub done : IsDone q.state (steps.Dump g 0 (count_of_code code))
 
   module _ (q : ChainPlay) (code : ReturnCode) (after : IsChainPlayed q) where
     may_dump : (chunk : ℕ) (most : chunk ≤ 64) → ReadIsOver p ws g chunk j x.there run most q (g - 1) code → MayDump q code
@@ -243,8 +243,8 @@ module _ (g : ℕ) (w : Worker) (p : ChainPlay) (x : IsGuest g w p) (f : IsChain
         let frame = over.passes.frame in
         record {
           few = over.arrives.few;
-          done = dump_done q.state g 0 (count_of code) after.running (omega (arith, x.there, frame.guests))
-              (omega (arith, frame.room g x.there, over.arrives.few, min-le_left (count_of code) 64));
+          done = dump_done q.state g 0 (count_of_code code) after.running (omega (arith, x.there, frame.guests))
+              (omega (arith, frame.room g x.there, over.arrives.few, min-le_left (count_of_code code) 64));
         }
 
     pub read_over : (chunk : ℕ) → chunk ≤ 64 → (y : Reads g chunk w p q code) → code ≢ codes.Blocked → MayDump q code
@@ -314,8 +314,8 @@ module _ (g : ℕ) (w : Worker) (p : ChainPlay) (x : IsGuest g w p) (f : IsChain
 
 pub uncancelled : (code : ReturnCode) (n : ℕ) → IsReadCode code → code ≡ codes.Cancelled n → ⊥
 uncancelled code n (inl e) f = let wrong : codes.Blocked ≡ codes.Cancelled n = sym e ∙ f in cc
-uncancelled code n (inr (WithMore e)) f = let wrong : codes.Completed (count_of code) ≡ codes.Cancelled n = sym e ∙ f in cc
-uncancelled code n (inr (WithLast e)) f = let wrong : codes.Dropped (count_of code) ≡ codes.Cancelled n = sym e ∙ f in cc
+uncancelled code n (inr (WithMore e)) f = let wrong : codes.Completed (count_of_code code) ≡ codes.Cancelled n = sym e ∙ f in cc
+uncancelled code n (inr (WithLast e)) f = let wrong : codes.Dropped (count_of_code code) ≡ codes.Cancelled n = sym e ∙ f in cc
 
 pub undropped : (code : ReturnCode) (n : ℕ) → IsWriteCode code → code ≡ codes.Dropped n → ⊥
 undropped code n (inl e) f = let wrong : codes.Blocked ≡ codes.Dropped n = sym e ∙ f in cc
@@ -325,5 +325,5 @@ pub written_uncancelled : (code : ReturnCode) (n : ℕ) → IsWriteCode code →
 written_uncancelled code n (inl e) f = let wrong : codes.Blocked ≡ codes.Cancelled n = sym e ∙ f in cc
 written_uncancelled code n (inr x) f = let wrong : codes.Completed x.0 ≡ codes.Cancelled n = sym x.1 ∙ f in cc
 
-pub completes_count : (code : ReturnCode) (n : ℕ) → code ≡ codes.Completed n → code ≡ codes.Completed (count_of code)
-completes_count code n e = e ∙ ap codes.Completed (sym (ap count_of e))
+pub completes_count : (code : ReturnCode) (n : ℕ) → code ≡ codes.Completed n → code ≡ codes.Completed (count_of_code code)
+completes_count code n e = e ∙ ap codes.Completed (sym (ap count_of_code e))

@@ -20,7 +20,7 @@ use Rattle.strm_machine.proofs.TableLemmas.{at_push}
 use Rattle.strm_machine.proofs.ReactionLemmas.{reaction-performs}
 use Rattle.strm_transmit.specs.Meets.{is_done}
 use Rattle.strm_chain.specs.Playing.{bytes_type, IsDone}
-use Rattle.strm_chain.specs.Making.{TakesLittle, IsShort}
+use Rattle.strm_chain.specs.Making.{TakesLittle, IsShortTable}
 use Rattle.strm_chain.proofs.NamingLemmas.{IsPerformed}
 use Rattle.strm_chain.proofs.DoneLemmas.{not_le-false, not_lt-false, skip}
 
@@ -37,19 +37,19 @@ more_live h e none unlent =
     lends_same : open_lends (inserted_in h.entries [] e) ≡ open_lends h + lends_of e
     lends_same = sum_by_push lends_in h.entries (Some e)
 
-more_short : (h : Handles) (e : Entry) (n : ℕ) → IsShort n h → IsShort (n + 1) (inserted h e)
+more_short : (h : Handles) (e : Entry) (n : ℕ) → IsShortTable n h → IsShortTable (n + 1) (inserted h e)
 more_short h e n s =
-    subst (λ ns. IsShort (n + 1) (inserted_in h.entries ns e)) (sym s.freed)
+    subst (λ ns. IsShortTable (n + 1) (inserted_in h.entries ns e)) (sym s.freed)
     (record { freed = refl; entries = omega (arith, s.entries, length_push h.entries (Some e)) })
 
-longer_short : (h : Handles) (n : ℕ) → IsShort n h → IsShort (n + 1) h
+longer_short : (h : Handles) (n : ℕ) → IsShortTable n h → IsShortTable (n + 1) h
 longer_short h n s = record { freed = s.freed; entries = omega (arith, s.entries) }
 
 -- what the guests take, with so many handles at most
 record Little (count n : ℕ) (guests : List Guest) : Type 0 where
   bytes : sum_by (λ (g : Guest). length g.memory) guests ≡ 8192 * count
   handles : sum_by (λ (g : Guest). live_of g.handles) guests ≤ n
-  tables : (g : ℕ) → IsShort n (guest_in guests g).handles
+  tables : (g : ℕ) → IsShortTable n (guest_in guests g).handles
   sets : sum_by (λ (g : Guest). count_by (λ there. there) g.sets.there) guests ≡ 0
 
 little_more : (count n g : ℕ) (guests : List Guest) (e : Entry) → g < length guests → lends_of e ≡ 0 → Little count n guests → Little count (n + 1) (with_handles guests g (inserted (guest_in guests g).handles e))
@@ -61,9 +61,9 @@ little_more count n g guests e l unlent x =
       bytes = omega (arith, x.bytes, sum_by-set (λ (k : Guest). length k.memory) guests g y no_guest l);
       handles = omega (arith, x.handles, more_live h e (x.tables g).freed unlent, sum_by-set (λ (k : Guest). live_of k.handles) guests g y no_guest l);
       tables = λ k. elim (cases_eq k g) [
-        | inl same ↦ subst (λ i. IsShort (n + 1) (guest_in (set guests g y) i).handles) (sym same)
-            (subst (λ (z : Guest). IsShort (n + 1) z.handles) (sym (get_or-set_same guests g y no_guest l)) (more_short h e n (x.tables g)))
-        | inr ne ↦ subst (λ (z : Guest). IsShort (n + 1) z.handles) (sym (get_or-set_other guests g k y no_guest ne)) (longer_short (guest_in guests k).handles n (x.tables k))
+        | inl same ↦ subst (λ i. IsShortTable (n + 1) (guest_in (set guests g y) i).handles) (sym same)
+            (subst (λ (z : Guest). IsShortTable (n + 1) z.handles) (sym (get_or-set_same guests g y no_guest l)) (more_short h e n (x.tables g)))
+        | inr ne ↦ subst (λ (z : Guest). IsShortTable (n + 1) z.handles) (sym (get_or-set_other guests g k y no_guest ne)) (longer_short (guest_in guests k).handles n (x.tables k))
       ];
       sets = omega (arith, x.sets, sum_by-set (λ (k : Guest). count_by (λ there. there) k.sets.there) guests g y no_guest l);
     }
@@ -81,7 +81,7 @@ little_guest guests streams state next e x =
       limits = x.limits;
       bytes = omega (arith, x.bytes, many, sum_by_push (λ (k : Guest). length k.memory) state.guests y);
       handles = omega (arith, x.handles, sum_by_push (λ (k : Guest). live_of k.handles) state.guests y);
-      tables = λ g. at_push state.guests y no_guest g (λ (z : Guest). IsShort (2 * streams) z.handles) (λ _. record { freed = refl; entries = omega arith }) (λ _. x.tables g);
+      tables = λ g. at_push state.guests y no_guest g (λ (z : Guest). IsShortTable (2 * streams) z.handles) (λ _. record { freed = refl; entries = omega arith }) (λ _. x.tables g);
       sets = omega (arith, x.sets, sum_by_push (λ (k : Guest). count_by (λ there. there) k.sets.there) state.guests y);
       contexts = x.contexts;
     })
@@ -130,13 +130,13 @@ module _ (guests s : ℕ) (state : State) (many : length state.guests ≡ guests
         limits = x.limits;
         bytes = y.bytes;
         handles = omega (arith, y.handles);
-        tables = λ g. subst (λ n. IsShort n (guest_in (with_ends state.guests s (s + 1) bytes_type (length state.streams)) g).handles) more (y.tables g);
+        tables = λ g. subst (λ n. IsShortTable n (guest_in (with_ends state.guests s (s + 1) bytes_type (length state.streams)) g).handles) more (y.tables g);
         sets = y.sets;
         contexts = x.contexts;
       })
 
   -- the number that a table gives next
-  next_few : (h : Handles) (n : ℕ) → IsShort n h → n ≤ 20 → next_of h.freed (length h.entries) < handle_limit
+  next_few : (h : Handles) (n : ℕ) → IsShortTable n h → n ≤ 20 → next_of h.freed (length h.entries) < handle_limit
   next_few h n y l = subst (λ ns. next_of ns (length h.entries) < handle_limit) (sym y.freed) (omega (arith, y.entries, l))
 
   either_false : (a b : Bool) → a ≡ false → b ≡ false → a || b ≡ false

@@ -1,7 +1,7 @@
 -- What a turn leaves to do.
 use Rattle.std.proofs.Common.{◌≡◌, ◌≢◌, ℕ, zero, suc, ◌+◌, ◌-◌, ◌*◌, ◌<◌, ◌≤◌, Bool, true, false, List, length, Option, Some, None, refl, sym, ap, ◌∙◌, subst, inl, inr, arith}
 use Rattle.std.proofs.lemmas.Bool.{cases_eq}
-use Rattle.strm_codes.specs.Codes.{count_of}
+use Rattle.strm_codes.specs.Codes.{count_of_code}
 use Rattle.strm_codes.specs.declared.codes.ReturnCode.{ReturnCode}
 use Rattle.strm_codes.specs.declared.codes.ReturnCode.TheVariants as codes
 use Rattle.strm_events.specs.Reports.{is_dropped}
@@ -121,7 +121,7 @@ module _ (p : ChainPlay) (ws : List Worker) (g chunk : ℕ) (j : IsJoined p ws) 
 
   -- a read is over, of some items or the last ones
   module _ (mid : ChainPlay) (code : ReturnCode) (x : TakesIn g w code mid w' q) (goes : w.closed ≡ false) (r : 1 ≤ rank w.doing)
-      (some : (n : ℕ) → code ≡ codes.Completed n → 1 ≤ n) (more : taken_in_bytes p.state (g - 1) + count_of code ≤ taken_in_bytes q.state (g - 1)) where
+      (some : (n : ℕ) → code ≡ codes.Completed n → 1 ≤ n) (more : taken_in_bytes p.state (g - 1) + count_of_code code ≤ taken_in_bytes q.state (g - 1)) where
     sent_is : w'.sent ≡ w.sent
     sent_is = ap (λ (v : Worker). v.sent) x.is
 
@@ -133,8 +133,8 @@ module _ (p : ChainPlay) (ws : List Worker) (g chunk : ℕ) (j : IsJoined p ws) 
 
     taken_in : EndsRead code → Falls_here
     taken_in (WithMore e) =
-        by_taken bound t t' w.sent w'.sent (unclosed w.closed) (unclosed w'.closed) (rank w.doing) (rank w'.doing) (count_of code)
-        more (some (count_of code) e) takes_within sent_is (closed_is ∙ ap (λ c. unclosed (is_dropped c)) e ∙ sym (ap unclosed goes)) rank_is
+        by_taken bound t t' w.sent w'.sent (unclosed w.closed) (unclosed w'.closed) (rank w.doing) (rank w'.doing) (count_of_code code)
+        more (some (count_of_code code) e) takes_within sent_is (closed_is ∙ ap (λ c. unclosed (is_dropped c)) e ∙ sym (ap unclosed goes)) rank_is
     taken_in (WithLast e) =
         by_end bound t t' w.sent w'.sent (unclosed w.closed) (unclosed w'.closed) (rank w.doing) (rank w'.doing)
         takes sent_is (omega (arith, closed_is, ap (λ c. unclosed (is_dropped c)) e, ap unclosed goes)) rank_is

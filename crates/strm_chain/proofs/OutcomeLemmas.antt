@@ -3,7 +3,7 @@ use Rattle.std.proofs.Common.{◌≡◌, ℕ, ◌≤◌, List, [], ◌∷◌, �
 use Rattle.std.specs.Prelude.{count_by}
 use Rattle.std.proofs.lemmas.List.{append-nil}
 use Rattle.std.proofs.lemmas.List.Elements.{All-nil, All-cons}
-use Rattle.strm_codes.specs.Codes.{count_of}
+use Rattle.strm_codes.specs.Codes.{count_of_code}
 use Rattle.strm_codes.specs.declared.codes.ReturnCode.{ReturnCode}
 use Rattle.strm_codes.specs.declared.codes.ReturnCode.TheVariants as codes
 use Rattle.strm_machine.specs.Plays.{Ends as EndsSo, is_settled}
@@ -115,12 +115,12 @@ module _ (sink g chunk : ℕ) (w w' : Worker) (p q : ChainPlay) (turn : ChainTur
       (calls (step ∷ []) (reply ∷ []) t x.rests (call_first step reply [] [] refl))
   turned_turns (ReadServes mid code t x y) =
       let step = steps.Read g bytes_type x.handle 0 chunk in
-      let dump = steps.Dump g 0 (count_of code) in
+      let dump = steps.Dump g 0 (count_of_code code) in
       turns_two sink g chunk turn p mid q step dump (replies.Code code) (replies.Bytes y.bytes) x.adds y.dumps refl refl (refl, asked) refl (omega arith)
       (calls (step ∷ dump ∷ []) (replies.Code code ∷ replies.Bytes y.bytes ∷ []) t x.rests (call_first step (replies.Code code) (dump ∷ []) (replies.Bytes y.bytes ∷ []) refl))
   turned_turns (ReadSettles mid code t x y) =
       let step = steps.Event g x.handle in
-      let dump = steps.Dump g 0 (count_of code) in
+      let dump = steps.Dump g 0 (count_of_code code) in
       turns_two sink g chunk turn p mid q step dump (replies.Event (Some code)) (replies.Bytes y.bytes) x.adds y.dumps refl refl refl refl (omega arith)
       (Report x.handle code (dump ∷ []) (replies.Bytes y.bytes ∷ []) t (at.busy x.handle (inl (x.waits, x.has))) refl refl)
   turned_turns (WriteOpens t x is) = writes codes.Blocked t x

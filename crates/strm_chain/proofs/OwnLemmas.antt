@@ -2,7 +2,7 @@
 use Rattle.std.proofs.Common.{◌≡◌, ◌≢◌, ℕ, zero, suc, ◌+◌, ◌≤◌, true, List, [], ◌∷◌, ◌++◌, length, take, drop, Option, Some, None, refl, sym, ap, ◌∙◌, subst, arith}
 use Rattle.std.specs.Prelude.{IsSome}
 use Rattle.std.proofs.lemmas.List.{append-nil, length-drop}
-use Rattle.strm_codes.specs.Codes.{count_of}
+use Rattle.strm_codes.specs.Codes.{count_of_code}
 use Rattle.strm_codes.specs.declared.codes.ReturnCode.{ReturnCode}
 use Rattle.strm_codes.specs.declared.codes.ReturnCode.TheVariants as codes
 use Rattle.strm_memory.specs.Bytes.{bytes_at}
@@ -36,7 +36,7 @@ reported (codes.Completed n) ne = refl
 reported (codes.Dropped n) ne = refl
 reported (codes.Cancelled n) ne = refl
 
-pub counted : (m : Moment) (s : ℕ) (code : ReturnCode) → type_of (stream_at m.before s) ≡ bytes_type → count_of code ≡ count_reported (stream_at m.before s).kind code
+pub counted : (m : Moment) (s : ℕ) (code : ReturnCode) → type_of (stream_at m.before s) ≡ bytes_type → count_of_code code ≡ count_reported (stream_at m.before s).kind code
 counted m s code ty = ap (λ k. count_reported k code) (sym (kind_is m.before s ty))
 
 -- ## Reads
@@ -54,11 +54,11 @@ module _ (m : Moment) (s : ℕ) (first work : Work) (made : List ℕ) (got : Ite
 
   -- a read is over with this code: its bytes lie where it read to, and count as taken
   pub record IsOver (code : ReturnCode) : Type 0 where
-    pub arrived : Arrived 0 (count_of code) first work made (memory_in m.after.guests (s + 1)) (got ++ got_in s m)
+    pub arrived : Arrived 0 (count_of_code code) first work made (memory_in m.after.guests (s + 1)) (got ++ got_in s m)
     pub low : ReceivesLow m s
     pub none : after ≡ None
-    pub few : count_of code ≤ 64
-    pub taken : taken_in_bytes m.before s + count_of code ≤ taken_in_bytes m.after s
+    pub few : count_of_code code ≤ 64
+    pub taken : taken_in_bytes m.before s + count_of_code code ≤ taken_in_bytes m.after s
 
   module _ (end : NamedEnd) (count : ℕ) (act : m.act ≡ OnEnd Reading end (Operate 0 count)) (guest : end.guest ≡ s + 1) (asks : end.ty ≡ bytes_type) (few : count ≤ 64) where
     called : (code : ReturnCode) → m.reply ≡ replies.Code code → TakesCall (scene s Reading m) (s + 1) 0 count
@@ -89,7 +89,7 @@ module _ (m : Moment) (s : ℕ) (first work : Work) (made : List ℕ) (got : Ite
           let x = served Reading (scene s Reading m) (s + 1) 0 count code change (called code reply) (call_report s Reading m code reply named ∙ reported code ne) in
           let k = counted m s code ty in
           record {
-            arrived = read_serves s (s + 1) 0 first work made m got (payload_is m.before s ty) end count (count_of code) code act guest named x k t (omega (arith, room, few));
+            arrived = read_serves s (s + 1) 0 first work made m got (payload_is m.before s ty) end count (count_of_code code) code act guest named x k t (omega (arith, room, few));
             low = low_at (count_reported (stream_at m.before s).kind code) x.more x.within;
             none = x.is;
             few = omega (arith, k, x.within, few);
@@ -109,7 +109,7 @@ module _ (m : Moment) (s : ℕ) (first work : Work) (made : List ℕ) (got : Ite
         none_taken : accepted_in s Reading m (report_in s Reading m) ≡ []
         none_taken = event_takes s Reading m (Some code) (report_in s Reading m) reply named
 
-        k : count_of code ≡ count_reported (stream_at m.before s).kind code
+        k : count_of_code code ≡ count_reported (stream_at m.before s).kind code
         k = counted m s code ty
 
         by : Change Reading (scene s Reading m) → IsOver code
@@ -121,7 +121,7 @@ module _ (m : Moment) (s : ℕ) (first work : Work) (made : List ℕ) (got : Ite
             let y = subst (λ z. Settles Reading (scene s Reading m) o z) same x in
             let some : Takes (s + 1) 0 first work made (memory_in m.before.guests (s + 1)) (Some o) got = subst (λ q. Takes (s + 1) 0 first work made (memory_in m.before.guests (s + 1)) q got) y.was t in
             record {
-              arrived = read_settles s (s + 1) 0 first work made m got (payload_is m.before s ty) (count_of code) o code y k some stays;
+              arrived = read_settles s (s + 1) 0 first work made m got (payload_is m.before s ty) (count_of_code code) o code y k some stays;
               low = Nothing (omega (arith, y.same));
               none = y.is;
               few = omega (arith, k, y.counts, some.holds.begun.whole, some.holds.few);
@@ -129,7 +129,7 @@ module _ (m : Moment) (s : ℕ) (first work : Work) (made : List ℕ) (got : Ite
             }
         by (ByRest x) =
             let none : Takes (s + 1) 0 first work made (memory_in m.before.guests (s + 1)) None got = subst (λ q. Takes (s + 1) 0 first work made (memory_in m.before.guests (s + 1)) q got) x.was t in
-            let nothing : count_of code ≡ 0 = k ∙ sym (ap (k_of (stream_at m.before s).kind 0) tells) ∙ x.counts in
+            let nothing : count_of_code code ≡ 0 = k ∙ sym (ap (k_of (stream_at m.before s).kind 0) tells) ∙ x.counts in
             record {
               arrived = record {
                 taken = none.taken;
@@ -187,10 +187,10 @@ module _ (m : Moment) (g sent : ℕ) (made : List ℕ) (got : Items)
         )
 
     -- a write that is over at once
-    pub own_write_serves : (code : ReturnCode) → code ≢ codes.Blocked → m.reply ≡ replies.Code code → Sends g 64 (sent + count_of code) made (memory_in m.after.guests g) (stream_at m.after g).writer.operation (got ++ got_in g m) × ((stream_at m.after g).writer.operation ≡ None)
+    pub own_write_serves : (code : ReturnCode) → code ≢ codes.Blocked → m.reply ≡ replies.Code code → Sends g 64 (sent + count_of_code code) made (memory_in m.after.guests g) (stream_at m.after g).writer.operation (got ++ got_in g m) × ((stream_at m.after g).writer.operation ≡ None)
     own_write_serves code ne reply =
         let x = served Writing (scene g Writing m) g 64 count code change (calls code reply) (call_report g Writing m code reply named ∙ reported code ne) in (
-          write_serves g g 64 sent made (memory_in m.after.guests g) m got (payload_is m.before g ty) size (λ c l. same c) count (count_of code) code x (counted m g code ty) old lies within inside,
+          write_serves g g 64 sent made (memory_in m.after.guests g) m got (payload_is m.before g ty) size (λ c l. same c) count (count_of_code code) code x (counted m g code ty) old lies within inside,
           x.is,
         )
 
@@ -198,7 +198,7 @@ module _ (m : Moment) (g sent : ℕ) (made : List ℕ) (got : Items)
   module _ (h handle : ℕ) (code : ReturnCode) (ne : code ≢ codes.Blocked) (act : m.act ≡ Event h handle)
       (reply : m.reply ≡ replies.Event (Some code))
       (t : Sends g 64 sent made (memory_in m.before.guests g) (stream_at m.before g).writer.operation got) where
-    pub own_write_settles : Sends g 64 (sent + count_of code) made (memory_in m.after.guests g) (stream_at m.after g).writer.operation (got ++ got_in g m) × ((stream_at m.after g).writer.operation ≡ None)
+    pub own_write_settles : Sends g 64 (sent + count_of_code code) made (memory_in m.after.guests g) (stream_at m.after g).writer.operation (got ++ got_in g m) × ((stream_at m.after g).writer.operation ≡ None)
     own_write_settles = by change
       where
         tells : report_in g Writing m ≡ Some code
@@ -207,10 +207,10 @@ module _ (m : Moment) (g sent : ℕ) (made : List ℕ) (got : Items)
         none_taken : accepted_in g Writing m (report_in g Writing m) ≡ []
         none_taken = event_takes g Writing m (Some code) (report_in g Writing m) reply named
 
-        k : count_of code ≡ count_reported (stream_at m.before g).kind code
+        k : count_of_code code ≡ count_reported (stream_at m.before g).kind code
         k = counted m g code ty
 
-        by : Change Writing (scene g Writing m) → Sends g 64 (sent + count_of code) made (memory_in m.after.guests g) (stream_at m.after g).writer.operation (got ++ got_in g m) × ((stream_at m.after g).writer.operation ≡ None)
+        by : Change Writing (scene g Writing m) → Sends g 64 (sent + count_of_code code) made (memory_in m.after.guests g) (stream_at m.after g).writer.operation (got ++ got_in g m) × ((stream_at m.after g).writer.operation ≡ None)
         by (ByGoing o p n x) = absurd (let wrong : None ≡ Some code = sym x.unreported ∙ tells in cc)
         by (ByOpening g' address asked p n x) = absurd (let wrong = sym x.takes ∙ none_taken in cc)
         by (ByServing g' address asked c x) = absurd (let wrong = sym x.takes ∙ none_taken in cc)
@@ -218,12 +218,12 @@ module _ (m : Moment) (g sent : ℕ) (made : List ℕ) (got : Items)
             let eq : c ≡ code = (let y : Some c ≡ Some code = sym x.report ∙ tells in cc) in
             let y = subst (λ z. Settles Writing (scene g Writing m) o z) eq x in
             let some : Sends g 64 sent made (memory_in m.before.guests g) (Some o) got = subst (λ q. Sends g 64 sent made (memory_in m.before.guests g) q got) y.was t in (
-              write_settles g g 64 sent made (memory_in m.after.guests g) m got (payload_is m.before g ty) size (λ c l. same c) (count_of code) o code y k some,
+              write_settles g g 64 sent made (memory_in m.after.guests g) m got (payload_is m.before g ty) size (λ c l. same c) (count_of_code code) o code y k some,
               y.is,
             )
         by (ByRest x) =
             let none : Sends g 64 sent made (memory_in m.before.guests g) None got = subst (λ q. Sends g 64 sent made (memory_in m.before.guests g) q got) x.was t in
-            let nothing : count_of code ≡ 0 = k ∙ sym (ap (k_of (stream_at m.before g).kind 0) tells) ∙ x.counts in (
+            let nothing : count_of_code code ≡ 0 = k ∙ sym (ap (k_of (stream_at m.before g).kind 0) tells) ∙ x.counts in (
               rw (x.is, x.nothing, append-nil got, nothing) (record {
                 front = none.front ∙ ap (λ n. as_items (take n made)) (omega arith);
                 within = omega (arith, none.within);

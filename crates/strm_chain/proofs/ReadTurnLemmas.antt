@@ -1,7 +1,7 @@
 -- A turn in which a guest reads, or hears of its read, leaves a chain joined.
 use Rattle.std.proofs.Common.{◌≡◌, ◌≢◌, ℕ, ◌+◌, ◌-◌, ◌<◌, ◌≤◌, true, false, List, length, Option, Some, None, refl, sym, ap, ◌∙◌, subst, inl, inr, arith}
 use Rattle.std.proofs.lemmas.Bool.{cases_eq, cases_lt}
-use Rattle.strm_codes.specs.Codes.{count_of}
+use Rattle.strm_codes.specs.Codes.{count_of_code}
 use Rattle.strm_codes.specs.declared.codes.ReturnCode.{ReturnCode}
 use Rattle.strm_codes.specs.declared.codes.ReturnCode.TheVariants as codes
 use Rattle.strm_machine.specs.State.{memory_in, stream_at, is_gone}
@@ -75,7 +75,7 @@ module _ (p : ChainPlay) (ws : List Worker) (g chunk : ℕ) (j : IsJoined p ws) 
   pub record ReadIsOver (mid : ChainPlay) (s : ℕ) (code : ReturnCode) : Type 0 where
     pub passes : Passes (length ws) p mid Each (But s)
     pub arrives : Arrives s w code mid.state (got_on mid.steps s)
-    pub taken : taken_in_bytes p.state s + count_of code ≤ taken_in_bytes mid.state s
+    pub taken : taken_in_bytes p.state s + count_of_code code ≤ taken_in_bytes mid.state s
     pub some : (n : ℕ) → code ≡ codes.Completed n → 1 ≤ n
 
   module _ (mid : ChainPlay) (s : ℕ) (are : AreSteps mid.steps) (b : BeforeIt ws g s) where
@@ -145,7 +145,7 @@ module _ (p : ChainPlay) (ws : List Worker) (g chunk : ℕ) (j : IsJoined p ws) 
             handle = r.handle;
             has = r.has;
             owner = after.steady.owner s ARead ∙ r.owner;
-            arrived = subst (Arrived 0 (count_of code) (work_begun w.work.stage) w.work w.made (memory_in mid.state.guests (s + 1))) (sym (look.got s)) own.arrived;
+            arrived = subst (Arrived 0 (count_of_code code) (work_begun w.work.stage) w.work w.made (memory_in mid.state.guests (s + 1))) (sym (look.got s)) own.arrived;
             none = own.none;
             few = own.few;
             plain = after.steady.plain s r.plain;
@@ -178,7 +178,7 @@ module _ (p : ChainPlay) (ws : List Worker) (g chunk : ℕ) (j : IsJoined p ws) 
             handle = r.handle;
             has = r.has;
             owner = after.steady.owner s ARead ∙ r.owner;
-            arrived = subst (Arrived 0 (count_of code) (work_begun w.work.stage) w.work w.made (memory_in mid.state.guests (s + 1))) (sym (look.got s)) own.arrived;
+            arrived = subst (Arrived 0 (count_of_code code) (work_begun w.work.stage) w.work w.made (memory_in mid.state.guests (s + 1))) (sym (look.got s)) own.arrived;
             none = own.none;
             few = own.few;
             plain = after.steady.plain s r.plain;

@@ -6,7 +6,7 @@ use Rattle.std.proofs.lemmas.List.{take_more, append-nil}
 use Rattle.strm_chain.specs.declared.stages.Stage.{Stage}
 use Rattle.strm_chain.specs.declared.stages.Stage.TheVariants as stages
 use Rattle.strm_chain.specs.declared.stages.Work.{Work}
-use Rattle.strm_chain.specs.Stages.{twice, sums, of, work_begun, put_out, work_after, added, work_done, work_left}
+use Rattle.strm_chain.specs.Stages.{twice, sums, of, work_begun, put_out, work_after, byte_sum, work_done, work_left}
 
 -- ## One piece behind another
 
@@ -49,18 +49,18 @@ work_done-more work bytes i x d l e =
     ∙ ap (λ more. work_done work (take i bytes) ++ more) (work_done-one (work_left work (take i bytes)) x)
 
 -- sums of bytes
-pub added-none : (total : ℕ) → added total [] ≡ total
-unfolding added
-added-none total = refl
+pub byte_sum-none : (total : ℕ) → byte_sum total [] ≡ total
+unfolding byte_sum
+byte_sum-none total = refl
 
-added-one : (total : ℕ) (a : List ℕ) (x : ℕ) → added total (a ++ x ∷ []) ≡ (added total a + x) % 256
-unfolding added
-added-one total [] x = refl
-added-one total (y ∷ a) x = added-one ((total + y) % 256) a x
+byte_sum-one : (total : ℕ) (a : List ℕ) (x : ℕ) → byte_sum total (a ++ x ∷ []) ≡ (byte_sum total a + x) % 256
+unfolding byte_sum
+byte_sum-one total [] x = refl
+byte_sum-one total (y ∷ a) x = byte_sum-one ((total + y) % 256) a x
 
-pub added-more : (total : ℕ) (bytes : List ℕ) (i x d : ℕ) → i < length bytes → x ≡ get_or bytes i d → added total (take (i + 1) bytes) ≡ (added total (take i bytes) + x) % 256
-added-more total bytes i x d l e =
-    ap (added total) (take_more bytes i d l ∙ ap (λ y. take i bytes ++ y ∷ []) (sym e)) ∙ added-one total (take i bytes) x
+pub byte_sum-more : (total : ℕ) (bytes : List ℕ) (i x d : ℕ) → i < length bytes → x ≡ get_or bytes i d → byte_sum total (take (i + 1) bytes) ≡ (byte_sum total (take i bytes) + x) % 256
+byte_sum-more total bytes i x d l e =
+    ap (byte_sum total) (take_more bytes i d l ∙ ap (λ y. take i bytes ++ y ∷ []) (sym e)) ∙ byte_sum-one total (take i bytes) x
 
 -- what was put out for the first bytes of a list, and what is to be done behind them
 pub record Taken (first : Work) (before bytes : List ℕ) (i : ℕ) (w : Work) (o : List ℕ) : Type 0 where
@@ -96,15 +96,15 @@ abbrev pub under_way : Stage → ℕ → ℕ → Work
 under_way stage sum rest = record { stage = stage; sum = sum; left = rest }
 
 -- a list that is taken at once
-left_added : (stage : Stage) (sum rest : ℕ) (bytes : List ℕ) → work_left (under_way stage sum rest) bytes ≡ under_way stage (added sum bytes) (rest - length bytes)
-unfolding work_left added
+left_added : (stage : Stage) (sum rest : ℕ) (bytes : List ℕ) → work_left (under_way stage sum rest) bytes ≡ under_way stage (byte_sum sum bytes) (rest - length bytes)
+unfolding work_left byte_sum
 left_added stage sum rest [] = ap (under_way stage sum) (omega arith)
 left_added stage sum rest (b ∷ bs) =
-    left_added stage ((sum + b) % 256) (rest - 1) bs ∙ ap (under_way stage (added ((sum + b) % 256) bs)) (omega arith)
+    left_added stage ((sum + b) % 256) (rest - 1) bs ∙ ap (under_way stage (byte_sum ((sum + b) % 256) bs)) (omega arith)
 
-pub work_left-at_once : (work : Work) (bytes : List ℕ) (sum rest : ℕ) → sum ≡ added work.sum bytes → rest ≡ work.left - length bytes → under_way work.stage sum rest ≡ work_left work bytes
+pub work_left-at_once : (work : Work) (bytes : List ℕ) (sum rest : ℕ) → sum ≡ byte_sum work.sum bytes → rest ≡ work.left - length bytes → under_way work.stage sum rest ≡ work_left work bytes
 work_left-at_once work bytes sum rest s l =
-    ap (λ n. under_way work.stage n rest) s ∙ ap (under_way work.stage (added work.sum bytes)) l
+    ap (λ n. under_way work.stage n rest) s ∙ ap (under_way work.stage (byte_sum work.sum bytes)) l
     ∙ sym (left_added work.stage work.sum work.left bytes)
 
 work_done-copy : (sum rest : ℕ) (bytes : List ℕ) → work_done (under_way stages.Copy sum rest) bytes ≡ bytes

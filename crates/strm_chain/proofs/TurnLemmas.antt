@@ -1,6 +1,6 @@
 -- A turn leaves a chain joined, whatever its guest did in it.
 use Rattle.std.proofs.Common.{◌≡◌, ◌≢◌, ℕ, ◌+◌, ◌-◌, ◌<◌, ◌≤◌, true, false, List, length, take, drop, Option, Some, None, refl, sym, ap, ◌∙◌, subst, arith}
-use Rattle.strm_codes.specs.Codes.{count_of}
+use Rattle.strm_codes.specs.Codes.{count_of_code}
 use Rattle.strm_codes.specs.declared.codes.ReturnCode.{ReturnCode}
 use Rattle.strm_codes.specs.declared.codes.ReturnCode.TheVariants as codes
 use Rattle.strm_events.specs.Reports.{is_dropped}
@@ -225,8 +225,8 @@ module _ (p : ChainPlay) (ws : List Worker) (g chunk : ℕ) (j : IsJoined p ws) 
           handle = k.writes.handle;
           has = k.writes.has;
           owner = λ n. k.steady.owner g AWrite ∙ k.writes.owner (apart_doing w Nothing Ended x.pokes.rests (λ e. cc));
-          sends = subst (λ c. Sends g 64 (w.sent + c) w.made (memory_in q.state.guests g) (stream_at q.state g).writer.operation (got_on q.steps g)) (ap count_of h.ends)
-              (subst (Sends g 64 (w.sent + count_of code) w.made (memory_in q.state.guests g) (stream_at q.state g).writer.operation) (sym (k.look.got g)) own.0);
+          sends = subst (λ c. Sends g 64 (w.sent + c) w.made (memory_in q.state.guests g) (stream_at q.state g).writer.operation (got_on q.steps g)) (ap count_of_code h.ends)
+              (subst (Sends g 64 (w.sent + count_of_code code) w.made (memory_in q.state.guests g) (stream_at q.state g).writer.operation) (sym (k.look.got g)) own.0);
           idle = λ n. own.1;
           busy = λ e. absurd (let wrong = e in cc);
           gone = λ e. absurd (let wrong = e in cc);
@@ -267,8 +267,8 @@ module _ (p : ChainPlay) (ws : List Worker) (g chunk : ℕ) (j : IsJoined p ws) 
         handle = at.writes.handle;
         has = at.writes.has;
         owner = λ n. after.steady.owner g AWrite ∙ at.writes.owner (apart_doing w Writing Ended x.waits (λ e. cc));
-        sends = subst (λ c. Sends g 64 (w.sent + c) w.made (memory_in q.state.guests g) (stream_at q.state g).writer.operation (got_on q.steps g)) (ap count_of h.ends)
-            (subst (Sends g 64 (w.sent + count_of code) w.made (memory_in q.state.guests g) (stream_at q.state g).writer.operation) (sym (look.got g)) own.0);
+        sends = subst (λ c. Sends g 64 (w.sent + c) w.made (memory_in q.state.guests g) (stream_at q.state g).writer.operation (got_on q.steps g)) (ap count_of_code h.ends)
+            (subst (Sends g 64 (w.sent + count_of_code code) w.made (memory_in q.state.guests g) (stream_at q.state g).writer.operation) (sym (look.got g)) own.0);
         idle = λ n. own.1;
         busy = λ e. absurd (let wrong = e in cc);
         gone = λ e. absurd (let wrong = e in cc);
@@ -322,14 +322,14 @@ module _ (p : ChainPlay) (ws : List Worker) (g chunk : ℕ) (j : IsJoined p ws) 
   turn_joined q ws' turn are one (ReadOpens t x is) = wait_turn p ws g chunk j l run most q ws' are one x is
   turn_joined q ws' turn are one (ReadServes mid code t x y) =
       let step = steps.Read g bytes_type x.handle 0 chunk in
-      let before = are_before mid q (steps.Dump g 0 (count_of code)) (replies.Bytes y.bytes) y.dumps are in
+      let before = are_before mid q (steps.Dump g 0 (count_of_code code)) (replies.Bytes y.bytes) y.dumps are in
       let b = before_it p ws g x.handle j l x.has in
       read_turn p ws g chunk j l run most mid q ws' code x.handle are before (run_before p mid step (replies.Code code) x.adds run before) one x.has
       (apart_doing w Nothing Ended x.rests (λ e. cc)) (apart_doing w Nothing Writing x.rests (λ e. cc)) y b
       (read_serves p ws g chunk j l run most mid (g - 1) before b code (unblocked code y.ends) x)
   turn_joined q ws' turn are one (ReadSettles mid code t x y) =
       let step = steps.Event g x.handle in
-      let before = are_before mid q (steps.Dump g 0 (count_of code)) (replies.Bytes y.bytes) y.dumps are in
+      let before = are_before mid q (steps.Dump g 0 (count_of_code code)) (replies.Bytes y.bytes) y.dumps are in
       let b = before_it p ws g x.handle j l x.has in
       read_turn p ws g chunk j l run most mid q ws' code x.handle are before (run_before p mid step (replies.Event (Some code)) x.adds run before) one x.has
       (apart_doing w Reading Ended x.waits (λ e. cc)) (apart_doing w Reading Writing x.waits (λ e. cc)) y b

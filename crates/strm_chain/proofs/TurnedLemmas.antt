@@ -1,7 +1,7 @@
 -- A turn leaves a chain joined, whatever its guest did in it.
 use Rattle.std.proofs.Common.{◌≡◌, ◌≢◌, ℕ, ◌+◌, ◌≤◌, min, true, false, Bool, List, ◌++◌, take, drop, Option, Some, None, refl, sym, ap, ◌∙◌, subst, arith}
 use Rattle.std.proofs.lemmas.List.{take-append-le, length-append}
-use Rattle.strm_codes.specs.Codes.{count_of}
+use Rattle.strm_codes.specs.Codes.{count_of_code}
 use Rattle.strm_codes.specs.declared.codes.ReturnCode.{ReturnCode}
 use Rattle.strm_codes.specs.declared.codes.ReturnCode.TheVariants as codes
 use Rattle.strm_events.specs.Reports.{is_dropped}
@@ -93,16 +93,16 @@ pub record Arrives (s : ℕ) (w : Worker) (code : ReturnCode) (state : State) (g
   pub handle : ℕ
   pub has : w.read ≡ Some handle
   pub owner : (stream_at state s).reader.owner ≡ Held (s + 1) handle
-  pub arrived : Arrived 0 (count_of code) (work_begun w.work.stage) w.work w.made (memory_in state.guests (s + 1)) got
+  pub arrived : Arrived 0 (count_of_code code) (work_begun w.work.stage) w.work w.made (memory_in state.guests (s + 1)) got
   pub none : (stream_at state s).reader.operation ≡ None
-  pub few : count_of code ≤ 64
+  pub few : count_of_code code ≤ 64
   pub gone : is_dropped code ≡ true → is_gone (stream_at state s).writer.owner ≡ true
   pub plain : ArePlain (stream_at state s)
   pub untold : is_dropped code ≡ false → (stream_at state s).reader.told ≡ false
 
 pub unblocked : (code : ReturnCode) → EndsRead code → code ≢ codes.Blocked
-unblocked code (WithMore e) f = let wrong : codes.Blocked ≡ codes.Completed (count_of code) = sym f ∙ e in cc
-unblocked code (WithLast e) f = let wrong : codes.Blocked ≡ codes.Dropped (count_of code) = sym f ∙ e in cc
+unblocked code (WithMore e) f = let wrong : codes.Blocked ≡ codes.Completed (count_of_code code) = sym f ∙ e in cc
+unblocked code (WithLast e) f = let wrong : codes.Blocked ≡ codes.Dropped (count_of_code code) = sym f ∙ e in cc
 
 -- a guest whose read is over does not read
 after_unread : (write : Option ℕ) (dropped : Bool) → after_read write dropped ≡ Reading → ⊥
@@ -119,13 +119,13 @@ after_unwriting (Some h) dropped e = cc
 module _ (p q : ChainPlay) (count s g : ℕ) (w w' : Worker) (code : ReturnCode) (e : g ≡ s + 1) (run : IsRunOf p) (are : AreSteps q.steps) (frame : Frame count p.state)
     (x : TakesIn g w code p w' q) where
   abbrev dump_step : Step
-  dump_step = steps.Dump g 0 (count_of code)
+  dump_step = steps.Dump g 0 (count_of_code code)
 
   dump_seen : IsSeen (moment_at p q dump_step (replies.Bytes x.bytes)) p.steps q.steps
   dump_seen = seen p q dump_step (replies.Bytes x.bytes) run are x.dumps
 
-  dumped : (q.state ≡ p.state) × (x.bytes ≡ take (min (count_of code) 64) (drop 0 (memory_in p.state.guests g)))
-  dumped = dump_after p.state q.state g 0 (count_of code) x.bytes (performed p.state (act_of dump_step) (replies.Bytes x.bytes) q.state x.dumps.reacts refl)
+  dumped : (q.state ≡ p.state) × (x.bytes ≡ take (min (count_of_code code) 64) (drop 0 (memory_in p.state.guests g)))
+  dumped = dump_after p.state q.state g 0 (count_of_code code) x.bytes (performed p.state (act_of dump_step) (replies.Bytes x.bytes) q.state x.dumps.reacts refl)
 
   pub dump_passes : Passes count p q Each Each
   dump_passes = same_passes count p q dump_step (replies.Bytes x.bytes) dump_seen dumped.0 frame
@@ -133,8 +133,8 @@ module _ (p q : ChainPlay) (count s g : ℕ) (w w' : Worker) (code : ReturnCode)
   pub dump_reads : Arrives s w code p.state (got_on p.steps s) → ReadsFrom s w' q.state (got_on q.steps s)
   dump_reads h =
       let memory = memory_in p.state.guests (s + 1) in
-      let bytes_are : x.bytes ≡ bytes_at memory 0 (count_of code) =
-      dumped.1 ∙ ap (λ n. take (min (count_of code) 64) (drop 0 (memory_in p.state.guests n))) e ∙ ap (λ n. take n (drop 0 memory)) (omega (arith, h.few)) in
+      let bytes_are : x.bytes ≡ bytes_at memory 0 (count_of_code code) =
+      dumped.1 ∙ ap (λ n. take (min (count_of_code code) 64) (drop 0 (memory_in p.state.guests n))) e ∙ ap (λ n. take n (drop 0 memory)) (omega (arith, h.few)) in
       let v : Worker = record w {
         work = work_left w.work x.bytes;
         made = w.made ++ work_done w.work x.bytes;
@@ -143,7 +143,7 @@ module _ (p q : ChainPlay) (count s g : ℕ) (w w' : Worker) (code : ReturnCode)
       } in
       let taken : Takes (s + 1) 0 (work_begun w.work.stage) (work_left w.work x.bytes) (w.made ++ work_done w.work x.bytes) memory None (got_on p.steps s) =
       subst (λ b. Takes (s + 1) 0 (work_begun w.work.stage) (work_left w.work b) (w.made ++ work_done w.work b) memory None (got_on p.steps s)) (sym bytes_are)
-      (takes_arrived (s + 1) 0 (count_of code) (work_begun w.work.stage) w.work w.made memory memory (got_on p.steps s) h.arrived) in
+      (takes_arrived (s + 1) 0 (count_of_code code) (work_begun w.work.stage) w.work w.made memory memory (got_on p.steps s) h.arrived) in
       let there : ReadsFrom s v p.state (got_on p.steps s) = record {
         handle = h.handle;
         has = h.has;

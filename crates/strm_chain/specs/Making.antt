@@ -16,7 +16,7 @@ use Rattle.strm_chain.specs.Playing.{ChainPlay, bytes_type}
 use Rattle.strm_chain.specs.Keeping.{new_worker, worker_at}
 
 -- a table that has given no number back, and so many at most
-pub record IsShort (n : ℕ) (handles : Handles) : Type 0 where
+pub record IsShortTable (n : ℕ) (handles : Handles) : Type 0 where
   pub freed : handles.freed ≡ []
   pub entries : length handles.entries ≤ n
 
@@ -26,7 +26,7 @@ pub record TakesLittle (guests streams : ℕ) (state : State) : Type 0 where
   pub limits : state.limits ≡ run_start.limits
   pub bytes : bytes_in_use state ≡ 8192 * guests
   pub handles : handles_in_use state ≤ 2 * streams
-  pub tables : (g : ℕ) → IsShort (2 * streams) (guest_in state.guests g).handles
+  pub tables : (g : ℕ) → IsShortTable (2 * streams) (guest_in state.guests g).handles
   pub sets : sets_in_use state ≡ 0
   pub contexts : contexts_there state.contexts ≡ 0
 

@@ -63,9 +63,9 @@ work_after work b = record {
 }
 
 -- the sum of a number and bytes, modulo 256
-unfoldable pub added : ℕ → List ℕ → ℕ
-added total [] = total
-added total (b ∷ bs) = added ((total + b) % 256) bs
+unfoldable pub byte_sum : ℕ → List ℕ → ℕ
+byte_sum total [] = total
+byte_sum total (b ∷ bs) = byte_sum ((total + b) % 256) bs
 
 -- what a stage under way puts out for a list of bytes
 unfoldable pub work_done : Work → List ℕ → List ℕ

@@ -1,7 +1,7 @@
 -- What one turn of a guest did, as steps: nothing, an event that answers none, the opening or the end of a
 -- read or a write, or the drop of its write end. Ours.
 use Rattle.std.specs.Prelude.{◌≡◌, ℕ, ◌+◌, ◌≤◌, ◌⊎◌, Bool, true, false, List, ◌++◌, length, take, drop, Option, Some, None}
-use Rattle.strm_codes.specs.Codes.{count_of}
+use Rattle.strm_codes.specs.Codes.{count_of_code}
 use Rattle.strm_codes.specs.declared.codes.ReturnCode.{ReturnCode}
 use Rattle.strm_codes.specs.declared.codes.ReturnCode.TheVariants.{Completed, Dropped, Blocked}
 use Rattle.strm_events.specs.Reports.{is_dropped}
@@ -52,15 +52,15 @@ after_read write dropped = Nothing
 
 -- a code that ends a read: of so many items, perhaps the last ones
 pub data EndsRead (code : ReturnCode) : Type 0 where
-  WithMore : code ≡ Completed (count_of code) → EndsRead code
-  WithLast : code ≡ Dropped (count_of code) → EndsRead code
+  WithMore : code ≡ Completed (count_of_code code) → EndsRead code
+  WithLast : code ≡ Dropped (count_of_code code) → EndsRead code
 
 -- a read of guest g is over with this code: the bytes that it moved are dumped, and its stage takes them
 pub record TakesIn (g : ℕ) (w : Worker) (code : ReturnCode) (play : ChainPlay)
     (w' : Worker) (play' : ChainPlay) : Type 0 where
   pub bytes : List ℕ
   pub ends : EndsRead code
-  pub dumps : Adds play play' (steps.Dump g 0 (count_of code)) (replies.Bytes bytes)
+  pub dumps : Adds play play' (steps.Dump g 0 (count_of_code code)) (replies.Bytes bytes)
   pub is : w' ≡ record w {
     work = work_left w.work bytes;
     made = w.made ++ work_done w.work bytes;

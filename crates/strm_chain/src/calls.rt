@@ -56,7 +56,7 @@ pub(crate) fn operation(side: Side, guest: u32, handle: u32, address: u32, count
     }
 }
 
-// Where the store does not do a step that the machine does, memory is wanting.
+// Where the store does not do a step that the machine does, it is out of memory.
 pub(crate) fn out_of_memory(error: StoreError) -> OutOfMemory
     requires { error ≡ NoMemory }
 {

@@ -32,7 +32,7 @@ pub struct Chain {
     player: Player,
     workers: Vec<Worker>,
     chunk: u32,
-    // Memory was wanting.
+    // Out of memory.
     failed: bool,
 }
 
@@ -345,7 +345,7 @@ pub fn chain_run(
     ensures composed { IfOk result (λ end. end.ended ≡ true →
         end.output ≡ composed stages.now input.items) }
 
-    // A run of which the laws speak: where its play has no room for a turn of the schedule, memory is wanting.
+    // A run of which the laws speak: where its play has no room for a turn of the schedule, it is out of memory.
     ensures within { IfOk result (λ end. length end.steps ≤ 4294967295) }
     ensures err { IfErr result (IsChainFault stages.now (length input.items)) }
 {

@@ -3,7 +3,7 @@
 //! Meaning: `Stages.antt`. Ours.
 
 ghost use Rattle.std.specs.Prelude.{◌≡◌, ◌+◌, ◌%◌, ◌++◌, ◌∷◌, [], OnOk, OnErr, IfOk};
-ghost use Rattle.strm_chain.specs.Stages.{stage_room, work_begun, put_out, work_after, added, work_done, work_left};
+ghost use Rattle.strm_chain.specs.Stages.{stage_room, work_begun, put_out, work_after, byte_sum, work_done, work_left};
 
 use crate::lists::Bytes8;
 use strm_codes::counts::OutOfMemory;
@@ -126,7 +126,7 @@ impl Work {
 // The sum of a number and bytes, modulo 256: a loop of its own, which the compiler does in vectors.
 #[inline(always)]
 fn add_all(sum: u8, bytes: &[u8]) -> u8
-    ensures { result ≡ added sum bytes.now }
+    ensures { result ≡ byte_sum sum bytes.now }
 {
     let mut total = sum;
     for byte in bytes {

@@ -5,7 +5,7 @@
 //! that begins behind those. Ours.
 
 ghost use Rattle.std.specs.Prelude.{◌≡◌, ◌≤◌, ◌+◌, ◌++◌, ◌⊎◌, ℕ, length, take, drop, true, false, None, IfOk, OnOk, IfSome, IsSome};
-ghost use Rattle.strm_codes.specs.Codes.{count_of};
+ghost use Rattle.strm_codes.specs.Codes.{count_of_code};
 ghost use Rattle.strm_codes.specs.declared.codes.ReturnCode.TheVariants as codes;
 ghost use Rattle.strm_machine.specs.declared.steps.Step.TheVariants as steps;
 ghost use Rattle.strm_chain.specs.Playing.{HasRoomForSteps, IsDone};
@@ -259,8 +259,8 @@ fn take_read(
     code: ReturnCode,
 ) -> Result<(), OutOfMemory>
     requires ends { EndsRead code }
-    requires few { count_of code ≤ 64 }
-    requires done { IsDone player.old.state (steps.Dump guest 0 (count_of code)) }
+    requires few { count_of_code code ≤ 64 }
+    requires done { IsDone player.old.state (steps.Dump guest 0 (count_of_code code)) }
     requires room { HasRoomForSteps 1 player.old }
     ensures { OnOk result (TakesIn guest worker.old code player.old worker.new player.new) }
 {
@@ -283,8 +283,8 @@ fn take_read(
 // The guest's write is over with this code: what it says was handed over.
 #[inline(always)]
 fn hand_over(worker: &mut Worker, code: ReturnCode)
-    requires over { code ≡ codes.Completed (count_of code) }
-    requires within { worker.old.sent + count_of code ≤ length worker.old.made }
+    requires over { code ≡ codes.Completed (count_of_code code) }
+    requires within { worker.old.sent + count_of_code code ≤ length worker.old.made }
     ensures { HandsOver worker.old code worker.new }
 {
     let count = match code {

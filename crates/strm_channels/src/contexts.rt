@@ -12,7 +12,7 @@ ghost use Rattle.strm_handles.specs.Lookups.{error_context_rep_of};
 ghost use Rattle.strm_handles.specs.declared.entries.Entry.TheVariants.{ErrorContext};
 ghost use Rattle.strm_memory.specs.Bytes.{bytes_at, put_at};
 ghost use Rattle.strm_memory.specs.Region.{bytes_out_of_bounds};
-ghost use Rattle.strm_error_contexts.specs.Contexts.{is_context_there, message_at, count_at, next_number, inserted as with_message, raised, context_dropped};
+ghost use Rattle.strm_error_contexts.specs.Contexts.{is_context_there, message_at, context_count_at, next_number, inserted as with_message, raised, context_dropped};
 ghost use Rattle.strm_machine.specs.State.{guest_in, memory_in, with_memory};
 ghost use Rattle.strm_machine.specs.ErrorContexts.{message_limit, bytes_of_message};
 ghost use Rattle.strm_channels.specs.Changes.{AddsHandle, GivesHandle, FreesHandle};
@@ -114,7 +114,7 @@ pub fn give_context(
 // Counts a handle more to a context that has fewer than a limit.
 fn count_handle(contexts: &mut ErrorContexts, context: u32, limit: usize)
     requires known { is_context_there contexts.old context ≡ true }
-    requires fits { count_at contexts.old context < limit }
+    requires fits { context_count_at contexts.old context < limit }
     ensures { contexts.new ≡ raised contexts.old context }
 {
     // For the contract: a count below a word rises within one.
@@ -133,7 +133,7 @@ pub fn share_context(
 ) -> Result<u32, OutOfMemory>
     requires there { guest < length guests.old.items }
     requires known { is_context_there contexts.old context ≡ true }
-    requires fits { count_at contexts.old context < counter.old.limit }
+    requires fits { context_count_at contexts.old context < counter.old.limit }
     requires small { next_index (guest_in (guests_of guests.old.items) guest).handles < 2 ^ 28 }
     requires below { counter.old.live < counter.old.limit }
     ensures gives { GivesHandle (guests_of guests.old.items) (guests_of guests.new.items)

@@ -25,11 +25,11 @@ abbrev pub code_of : ℕ → Option ReturnCode
 code_of word = if word == 4294967295 then Some Blocked else code_with (word % 16) (word / 16)
 
 -- the items that a code speaks of
-abbrev pub count_of : ReturnCode → ℕ
-count_of Blocked = 0
-count_of (Completed n) = n
-count_of (Dropped n) = n
-count_of (Cancelled n) = n
+abbrev pub count_of_code : ReturnCode → ℕ
+count_of_code Blocked = 0
+count_of_code (Completed n) = n
+count_of_code (Dropped n) = n
+count_of_code (Cancelled n) = n
 
 -- Completed as it is reported: a future's carries no count
 abbrev pub completed_code : TransmitKind → ℕ → ReturnCode

@@ -5,7 +5,7 @@
 
 ghost use Rattle.std.specs.Prelude.{◌≡◌, ◌≢◌, ℕ, ◌+◌, ◌*◌, ◌%◌, ◌<◌, ◌↔◌, Some, IsNone, IfSome};
 ghost use Rattle.strm_codes.specs.Counts.{count_limit};
-ghost use Rattle.strm_codes.specs.Codes.{word_of, code_of, count_of, completed_code};
+ghost use Rattle.strm_codes.specs.Codes.{word_of, code_of, count_of_code, completed_code};
 ghost use Rattle.strm_codes.specs.declared.codes.ReturnCode.{ReturnCode};
 
 use crate::counts::ItemCount;
@@ -114,8 +114,8 @@ impl ReturnCode {
 
 /// Words tell codes apart: each code is read from its own word, and no other has that word.
 pub fn words_tell_codes()
-    ensures returns { (code : ReturnCode) → count_of code < count_limit →
+    ensures returns { (code : ReturnCode) → count_of_code code < count_limit →
         code_of (word_of code) ≡ Some code }
-    ensures injective { (code other : ReturnCode) → count_of code < count_limit →
-        count_of other < count_limit → word_of code ≡ word_of other → code ≡ other }
+    ensures injective { (code other : ReturnCode) → count_of_code code < count_limit →
+        count_of_code other < count_limit → word_of code ≡ word_of other → code ≡ other }
 {}

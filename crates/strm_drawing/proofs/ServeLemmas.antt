@@ -7,7 +7,7 @@ use Rattle.strm_codes.specs.Counters.{Rose}
 use Rattle.strm_input_output.specs.Faults.{TakesPart}
 use Rattle.strm_input_output.specs.Serving.{Port, Writes}
 use Rattle.strm_input_output.proofs.ServingLemmas.{source_of_input}
-use Rattle.strm_session.specs.Serving.{IsOfLines, IsStopStatus}
+use Rattle.strm_session.specs.Serving.{IsStatusOfLines, IsStopStatus}
 use Rattle.strm_drawing.specs.Serving.{IsOfDrawing}
 
 module _ {rest : Option (List ℕ)} {old new : Tells} {before after status : ℕ} {text : List ℕ} where
@@ -32,7 +32,7 @@ module _ {rest : Option (List ℕ)} {old new : Tells} {before after status : ℕ
   pub told_known : {left : Option (List ℕ)} → IsOfDrawing left rest old new before after status text → (status ≤ 4) ⊎ IsStopStatus status
   told_known h = by h.source.known
     where
-      by : IsOfLines status ⊎ ((status ≡ 3) ⊎ (status ≡ 4)) → (status ≤ 4) ⊎ IsStopStatus status
+      by : IsStatusOfLines status ⊎ ((status ≡ 3) ⊎ (status ≡ 4)) → (status ≤ 4) ⊎ IsStopStatus status
       by (inl (inl e)) = inl (omega (arith, e))
       by (inl (inr (inl e))) = inl (omega (arith, e))
       by (inl (inr (inr s))) = inr s

@@ -5,7 +5,7 @@ use Rattle.strm_input_output.specs.Serving.{IsOfSource}
 use Rattle.strm_lines.specs.Lines.{lines_of, Spells, IsFirstBadLine, IsTooLong}
 use Rattle.strm_lines.specs.Text.{bad_line_text}
 use Rattle.strm_machine.specs.declared.steps.Step.{Step}
-use Rattle.strm_session.specs.Serving.{IsOfLines, IsStopStatus}
+use Rattle.strm_session.specs.Serving.{IsStatusOfLines, IsStopStatus}
 use Rattle.strm_drawing.specs.declared.pictures.Picture.{Picture}
 use Rattle.strm_drawing.specs.Running.{IsPicture}
 use Rattle.strm_drawing.specs.Svg.{IsSvg}
@@ -32,7 +32,7 @@ pub record IsDrawn (old new : Tells) (input : List ℕ) (status : ℕ) (text : L
 -- source's faults before and after
 pub record IsOfDrawing (left rest : Option (List ℕ)) (old new : Tells)
     (before after status : ℕ) (text : List ℕ) : Type 0 where
-  pub source : IsOfSource IsOfLines IsTooLong left rest before after status text
+  pub source : IsOfSource IsStatusOfLines IsTooLong left rest before after status text
   pub drawn : (status ≡ 0) ⊎ IsStopStatus status → IfSome left (λ input. IsDrawn old new input status text)
   pub bad_line : status ≡ 2 → (line : ℕ)
       × IfSome left (λ input. IsFirstBadLine (lines_of input) line) × (text ≡ bad_line_text line)

@@ -10,7 +10,7 @@ use Rattle.strm_resources.specs.Nodes.{node_at, next_node, filled}
 use Rattle.strm_resources.specs.Links as links
 use Rattle.strm_resources.proofs.LinkLemmas as nodes
 use Rattle.strm_resources.proofs.SlotLemmas.{by_eq, slot-set, slot-filled}
-use Rattle.strm_error_contexts.specs.Contexts.{Context, Contexts, no_contexts, context_at, is_context_there, handles_of_context, count_at, len, next_number, new_context, inserted, context_with_handles, context_counted, context_lowered, removed, context_dropped, AreContextsKept}
+use Rattle.strm_error_contexts.specs.Contexts.{Context, Contexts, no_contexts, context_at, is_context_there, handles_of_context, context_count_at, len, next_number, new_context, inserted, context_with_handles, context_counted, context_lowered, removed, context_dropped, AreContextsKept}
 use Rattle.strm_error_contexts.specs.Inside.{lone_nodes}
 use Rattle.strm_error_contexts.proofs.LoneLemmas.{is_some-lone, childless-lone, length-lone, lone-filled, lone-emptied, links-kept, vacant-from_links}
 
@@ -146,8 +146,8 @@ module _ (contexts : Contexts) (number : ℕ) (there : is_context_there contexts
   -- ---- a handle less
 
   pub kept-dropped : AreContextsKept contexts → AreContextsKept (context_dropped contexts number)
-  kept-dropped kept = by (nat_lt 1 (count_at contexts number)) refl
+  kept-dropped kept = by (nat_lt 1 (context_count_at contexts number)) refl
     where
-      by : (t : Bool) → nat_lt 1 (count_at contexts number) ≡ t → AreContextsKept (cond t (context_lowered contexts number) (removed contexts number))
-      by true several = let more = ltb-true 1 (count_at contexts number) several in kept-counted kept (count_at contexts number - 1) (omega arith)
+      by : (t : Bool) → nat_lt 1 (context_count_at contexts number) ≡ t → AreContextsKept (cond t (context_lowered contexts number) (removed contexts number))
+      by true several = let more = ltb-true 1 (context_count_at contexts number) several in kept-counted kept (context_count_at contexts number - 1) (omega arith)
       by false last = kept-removed kept

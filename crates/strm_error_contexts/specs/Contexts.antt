@@ -60,8 +60,8 @@ handles_of_context None = 0
 handles_of_context (Some context) = context.handles
 
 -- the number of handles to the context of a number; none where it has none
-abbrev pub count_at : Contexts → ℕ → ℕ
-count_at contexts number = handles_of_context (context_at contexts number)
+abbrev pub context_count_at : Contexts → ℕ → ℕ
+context_count_at contexts number = handles_of_context (context_at contexts number)
 
 -- how many contexts there are
 abbrev pub len : Contexts → ℕ
@@ -94,11 +94,11 @@ context_counted contexts number handles = record contexts {
 
 -- a handle more to a context
 abbrev pub raised : Contexts → ℕ → Contexts
-raised contexts number = context_counted contexts number (count_at contexts number + 1)
+raised contexts number = context_counted contexts number (context_count_at contexts number + 1)
 
 -- a handle less to a context that has several
 abbrev pub context_lowered : Contexts → ℕ → Contexts
-context_lowered contexts number = context_counted contexts number (count_at contexts number - 1)
+context_lowered contexts number = context_counted contexts number (context_count_at contexts number - 1)
 
 -- without a context, whose number is given first from now on
 abbrev pub removed : Contexts → ℕ → Contexts
@@ -110,12 +110,12 @@ removed contexts number = record {
 -- a handle less to a context, which goes with its last
 abbrev pub context_dropped : Contexts → ℕ → Contexts
 context_dropped contexts number =
-    if nat_lt 1 (count_at contexts number) then context_lowered contexts number else removed contexts number
+    if nat_lt 1 (context_count_at contexts number) then context_lowered contexts number else removed contexts number
 
 -- a context that is there has a handle, and the freed numbers are those below the length that have no
 -- context, each once
 pub record AreContextsKept (contexts : Contexts) : Type 0 where
-  pub handled : (number : ℕ) → is_context_there contexts number ≡ true → 0 < count_at contexts number
+  pub handled : (number : ℕ) → is_context_there contexts number ≡ true → 0 < context_count_at contexts number
   pub vacant : (number : ℕ) → is_among contexts.freed number
       ≡ (nat_lt number (length contexts.slots) && not (is_context_there contexts number))
   pub apart : IsDistinct nat_eq contexts.freed

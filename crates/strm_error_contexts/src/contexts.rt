@@ -7,7 +7,7 @@
 ghost use Rattle.std.specs.Prelude.{◌≡◌, ◌+◌, ◌-◌, ◌<◌, ◌^◌, ◌==◌, nat_lt, not, true, false, is_some, IfOk, OnOk, OnErr, option_copied};
 ghost use Rattle.strm_resources.specs.Nodes.{is_childless};
 ghost use Rattle.strm_resources.specs.Entries.{value_at, children_of, deleted};
-ghost use Rattle.strm_error_contexts.specs.Contexts.{no_contexts, context_at, is_context_there, message_at, handles_of_context, count_at, len, next_number, inserted, raised, context_dropped, AreContextsKept};
+ghost use Rattle.strm_error_contexts.specs.Contexts.{no_contexts, context_at, is_context_there, message_at, handles_of_context, context_count_at, len, next_number, inserted, raised, context_dropped, AreContextsKept};
 ghost use Rattle.strm_error_contexts.specs.Inside.{with_handles_at};
 
 use crate::context::{ContextKey, ErrorContext};
@@ -81,7 +81,7 @@ impl ErrorContexts {
 
     /// The number of handles to a context; 0 where there is none.
     pub fn count(&self, number: u32) -> u64
-        ensures { result ≡ count_at self.now number }
+        ensures { result ≡ context_count_at self.now number }
     {
         match self.context(number) {
             Some(context) => context.handles(),
@@ -91,7 +91,7 @@ impl ErrorContexts {
 
     // Whether more than one handle leads to a context.
     fn has_several(&self, number: u32) -> bool
-        ensures { result ≡ nat_lt 1 (count_at self.now number) }
+        ensures { result ≡ nat_lt 1 (context_count_at self.now number) }
     {
         self.count(number) > 1
     }
@@ -126,7 +126,7 @@ impl ErrorContexts {
     /// Counts a handle more to a context: it was transferred or lowered. No memory is taken.
     pub fn add_handle(&mut self, number: u32)
         requires there { is_context_there self.old number ≡ true }
-        requires fits { count_at self.old number + 1 < 2 ^ 64 }
+        requires fits { context_count_at self.old number + 1 < 2 ^ 64 }
         ensures { self.new ≡ raised self.old number }
     {
         raise_at(&mut self.table, number);
@@ -136,7 +136,7 @@ impl ErrorContexts {
     /// goes, and its number is the one given next. No memory is taken.
     pub fn drop_handle(&mut self, number: u32) -> bool
         requires there { is_context_there self.old number ≡ true }
-        ensures last { result ≡ (count_at self.old number == 1) }
+        ensures last { result ≡ (context_count_at self.old number == 1) }
         ensures gone { is_context_there self.new number ≡ not result }
         ensures dropped { self.new ≡ context_dropped self.old number }
     {

@@ -3,7 +3,7 @@
 //! Meaning: `Contexts.antt`.
 
 ghost use Rattle.std.specs.Prelude.{◌≡◌, ◌≢◌, ℕ, ◌+◌, ◌<◌, true, false, List, Some};
-ghost use Rattle.strm_error_contexts.specs.Contexts.{Contexts, no_contexts, context_at, is_context_there, message_at, count_at, len, next_number, new_context, inserted, raised, context_dropped, AreContextsKept};
+ghost use Rattle.strm_error_contexts.specs.Contexts.{Contexts, no_contexts, context_at, is_context_there, message_at, context_count_at, len, next_number, new_context, inserted, raised, context_dropped, AreContextsKept};
 
 /// What a call does to the context of its number: a new one has one handle, a handle more or less
 /// changes the count and keeps the message, and the last handle takes the context with it.
@@ -12,17 +12,17 @@ pub fn handles_are_counted()
         → context_at (inserted contexts message) (next_number contexts)
         ≡ Some (new_context message) }
     ensures raised { (contexts : Contexts) (number : ℕ) → is_context_there contexts number ≡ true
-        → count_at (raised contexts number) number ≡ count_at contexts number + 1 }
+        → context_count_at (raised contexts number) number ≡ context_count_at contexts number + 1 }
     ensures raised_message { (contexts : Contexts) (number : ℕ)
         → is_context_there contexts number ≡ true
         → message_at (raised contexts number) number ≡ message_at contexts number }
-    ensures dropped { (contexts : Contexts) (number : ℕ) → 1 < count_at contexts number
-        → count_at (context_dropped contexts number) number + 1 ≡ count_at contexts number }
-    ensures dropped_message { (contexts : Contexts) (number : ℕ) → 1 < count_at contexts number
+    ensures dropped { (contexts : Contexts) (number : ℕ) → 1 < context_count_at contexts number
+        → context_count_at (context_dropped contexts number) number + 1 ≡ context_count_at contexts number }
+    ensures dropped_message { (contexts : Contexts) (number : ℕ) → 1 < context_count_at contexts number
         → message_at (context_dropped contexts number) number ≡ message_at contexts number }
-    ensures last { (contexts : Contexts) (number : ℕ) → count_at contexts number ≡ 1
+    ensures last { (contexts : Contexts) (number : ℕ) → context_count_at contexts number ≡ 1
         → is_context_there (context_dropped contexts number) number ≡ false }
-    ensures next { (contexts : Contexts) (number : ℕ) → count_at contexts number ≡ 1
+    ensures next { (contexts : Contexts) (number : ℕ) → context_count_at contexts number ≡ 1
         → next_number (context_dropped contexts number) ≡ number }
 {}
 
@@ -57,8 +57,8 @@ pub fn contexts_are_counted()
         → len (inserted contexts message) ≡ len contexts + 1 }
     ensures raised { (contexts : Contexts) (number : ℕ) → is_context_there contexts number ≡ true
         → len (raised contexts number) ≡ len contexts }
-    ensures dropped { (contexts : Contexts) (number : ℕ) → 1 < count_at contexts number
+    ensures dropped { (contexts : Contexts) (number : ℕ) → 1 < context_count_at contexts number
         → len (context_dropped contexts number) ≡ len contexts }
-    ensures last { (contexts : Contexts) (number : ℕ) → count_at contexts number ≡ 1
+    ensures last { (contexts : Contexts) (number : ℕ) → context_count_at contexts number ≡ 1
         → len (context_dropped contexts number) + 1 ≡ len contexts }
 {}

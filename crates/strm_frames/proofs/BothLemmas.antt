@@ -6,7 +6,7 @@ use Rattle.std.proofs.lemmas.List.Concat.{flat_map-append}
 use Rattle.strm_frames.specs.Frames.{Frame, spelled, encoding, part_for, lane_in}
 use Rattle.strm_frames.specs.Streams.{IsPartOfFrame, place_told}
 use Rattle.strm_frames.specs.Fronts.{Whole, front_of}
-use Rattle.strm_frames.specs.Taking.{flagged, flags_after, AreAllowed, AreEach, IsFlagged, Surveys, SurveysFault, ExtendsLanes, IsHalted, Appends, AppendsSome, Retracts, StopsAtFrame, AreSpelled}
+use Rattle.strm_frames.specs.Taking.{flagged, flags_after, AreAllowed, AreEach, IsFlagged, Surveys, SurveysFault, ExtendsLanes, IsHalted, Appends, AppendsSome, Retracts, StopsAtFrame, AreSpelledFrames}
 use Rattle.strm_frames.specs.declared.errors.Fault.{Fault}
 use Rattle.strm_frames.specs.declared.errors.Fault.TheVariants.{BadKind, EmptyFrame, AfterEnd}
 use Rattle.strm_frames.proofs.FrontLemmas.{front-spelled, front-part}
@@ -27,7 +27,7 @@ first_spelled : (x : List ℕ) (flags after : List Bool) (used : ℕ) (s : Surve
 first_spelled x flags after used s t =
     s.whole ∙ ap (λ (r : List ℕ). encoding s.frames ++ r) (first_whole s.frames flags s.left x s.whole s.allowed s.part t) ∙ append-nil (encoding s.frames)
 
-pub are_spelled : (x : List ℕ) (flags after : List Bool) (used : ℕ) → Surveys x flags after used → StopsAtFrame x → AreSpelled x
+pub are_spelled : (x : List ℕ) (flags after : List Bool) (used : ℕ) → Surveys x flags after used → StopsAtFrame x → AreSpelledFrames x
 are_spelled x flags after used s t = record { frames = s.frames; spelled = first_spelled x flags after used s t; are = each_allowed flags s.frames s.allowed }
 
 flags_both : (flags : List Bool) (fs gs : List Frame) → flags_after flags (fs ++ gs) ≡ flags_after (flags_after flags fs) gs
@@ -105,7 +105,7 @@ pub both_ok : (x y : List ℕ) (flags mid after : List Bool) (u : ℕ) (r : Resu
 both_ok x y flags mid after u (Ok v) s t r = surveys_both x y flags mid after u v s t r
 both_ok x y flags mid after u (Err fault) s t r = r
 
-pub both_whole : (x : List ℕ) (flags mid : List Bool) (u : ℕ) (r : Result ℕ Fault) → Surveys x flags mid u → StopsAtFrame x → OnOk r (AreSpelled x)
+pub both_whole : (x : List ℕ) (flags mid : List Bool) (u : ℕ) (r : Result ℕ Fault) → Surveys x flags mid u → StopsAtFrame x → OnOk r (AreSpelledFrames x)
 both_whole x flags mid u (Ok v) s t = are_spelled x flags mid u s t
 both_whole x flags mid u (Err fault) s t = tt
 
@@ -127,7 +127,7 @@ unfolding AreEach
 each_both [] gs a b = b
 each_both (f ∷ fs) gs a b = (a.0, a.1, each_both fs gs a.2 b)
 
-pub appends_both : (x y : List ℕ) (old mid new : List (List ℕ)) → AreSpelled x → Appends x old mid → Appends y mid new → Appends (x ++ y) old new
+pub appends_both : (x y : List ℕ) (old mid new : List (List ℕ)) → AreSpelledFrames x → Appends x old mid → Appends y mid new → Appends (x ++ y) old new
 appends_both x y old mid new w a b =
     let same : w.frames ≡ a.frames = same_spelled w.frames a.frames x a.left w.spelled a.whole w.are a.are a.halts in
     let xs : x ≡ encoding a.frames = w.spelled ∙ ap encoding same in

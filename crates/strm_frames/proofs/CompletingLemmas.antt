@@ -6,7 +6,7 @@ use Rattle.std.proofs.lemmas.List.{append-nil, append_assoc, take_at, take-take,
 use Rattle.strm_frames.specs.Frames.{Frame, Data, End, spelled, IsFrame}
 use Rattle.strm_frames.specs.Streams.{IsPartOfFrame}
 use Rattle.strm_frames.specs.Fronts.{Whole, Part, Other, Empty, front_of}
-use Rattle.strm_frames.specs.Taking.{StopsAtFrame, IsCompleted, IsShort}
+use Rattle.strm_frames.specs.Taking.{StopsAtFrame, IsCompleted, IsShortOfFrame}
 use Rattle.strm_frames.proofs.FrontLemmas.{IsBytes, front-spelled, front-part, whole_sound}
 
 -- less than a frame has at most 257 bytes
@@ -129,7 +129,7 @@ completed_some old front piece buffer new len used p f b s n u =
       stops = rw n s.stops;
     }
 
-pub short : (old front piece buffer : List ℕ) → length old ≢ 0 → front ≡ take (min (length piece) 257) piece → buffer ≡ old ++ front → IsPartOfFrame buffer → IsShort old buffer piece
+pub short : (old front piece buffer : List ℕ) → length old ≢ 0 → front ≡ take (min (length piece) 257) piece → buffer ≡ old ++ front → IsPartOfFrame buffer → IsShortOfFrame old buffer piece
 short old front piece buffer z f b p =
     let long : length front ≡ min (min (length piece) 257) (length piece) = ap length f ∙ length-take (min (length piece) 257) piece in
     let all : min (length piece) 257 ≡ length piece = omega (arith, part_few buffer p, ap length b, length-append old front) in

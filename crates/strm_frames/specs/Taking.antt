@@ -56,17 +56,17 @@ pub record IsCompleted (old new piece : List ℕ) (used : ℕ) : Type 0 where
   pub stops : StopsAtFrame new
 
 -- all of it was added, and less than a frame has come
-pub record IsShort (old new piece : List ℕ) : Type 0 where
+pub record IsShortOfFrame (old new piece : List ℕ) : Type 0 where
   pub added : new ≡ old ++ piece
   pub part : IsPartOfFrame new
 
 -- the one where it is told how much that was, the other where not
 abbrev pub IsFrameBegun : List ℕ → List ℕ → List ℕ → Option ℕ → Type 0
-IsFrameBegun old new piece None = IsShort old new piece
+IsFrameBegun old new piece None = IsShortOfFrame old new piece
 IsFrameBegun old new piece (Some used) = IsCompleted old new piece used
 
 -- the bytes are whole frames of lanes that are bytes
-pub record AreSpelled (bytes : List ℕ) : Type 0 where
+pub record AreSpelledFrames (bytes : List ℕ) : Type 0 where
   pub frames : List Frame
   pub spelled : bytes ≡ encoding frames
   pub are : AreEach frames

@@ -2,13 +2,13 @@
 //!
 //! A frame of which some bytes came before is completed where they lie; all other frames are taken where the
 //! piece lies. They are gone over twice: first to see that all of the piece may be taken, then to put the bytes
-//! of data frames into the lanes. Where memory is wanting, what was put is taken out again.
+//! of data frames into the lanes. Out of memory, what was put is taken out again.
 //!
 //! Meaning: `Taking.antt`. Ours.
 
 ghost use Rattle.std.specs.Prelude.{◌≡◌, ◌-◌, ◌+◌, ◌<◌, ◌≤◌, ◌++◌, [], ℕ, None, false, length, map, slice_set, slice_index_or, take, drop, IfOk, IfErr, OnOk, OnErr, IfSome, IsTrue, if◌then◌else◌};
 ghost use Rattle.strm_frames.specs.Streams.{IsPartOfFrame};
-ghost use Rattle.strm_frames.specs.Taking.{Surveys, SurveysFault, Appends, AppendsSome, Counts, Retracts, StopsAtFrame, IsFrameBegun, AreSpelled};
+ghost use Rattle.strm_frames.specs.Taking.{Surveys, SurveysFault, Appends, AppendsSome, Counts, Retracts, StopsAtFrame, IsFrameBegun, AreSpelledFrames};
 
 use crate::errors::{Fault, MuxError};
 use crate::fronts::{Front, next_front};
@@ -115,7 +115,7 @@ pub(crate) fn survey_both(
     ensures ok { IfOk result (λ used.
         Surveys (first.now ++ second.now) ended.old ended.new (length first.now + used)) }
     ensures within { IfOk result (λ used. used ≤ length second.now) }
-    ensures whole { OnOk result (AreSpelled first.now) }
+    ensures whole { OnOk result (AreSpelledFrames first.now) }
     ensures fault { IfErr result (λ fault.
         SurveysFault (first.now ++ second.now) ended.old place fault) }
 {
@@ -140,7 +140,7 @@ fn keep_in(lanes: &mut [Vec<u8>; 256], lane: u8, bytes: &[u8]) -> bool
     keep(&mut lanes[lane as usize], bytes)
 }
 
-// Puts the bytes of each data frame into its lane. Where memory is wanting it answers how many bytes the
+// Puts the bytes of each data frame into its lane. Out of memory it answers how many bytes the
 // frames before have.
 pub(crate) fn append(lanes: &mut [Vec<u8>; 256], bytes: &[u8]) -> Result<(), usize>
     ensures ok { OnOk result (Appends bytes.now
@@ -225,7 +225,7 @@ pub(crate) fn retract(lanes: &mut [Vec<u8>; 256], bytes: &[u8])
 
 // Puts the frames of two pieces into lanes; where memory has run out, none.
 fn append_both(lanes: &mut [Vec<u8>; 256], first: &[u8], second: &[u8]) -> bool
-    requires { AreSpelled first.now }
+    requires { AreSpelledFrames first.now }
     ensures ok { IsTrue result → Appends (first.now ++ second.now)
         (map (λ v. v.items) lanes.old) (map (λ v. v.items) lanes.new) }
     ensures err { result ≡ false → map (λ v. v.items) lanes.new ≡ map (λ v. v.items) lanes.old }
@@ -260,7 +260,7 @@ pub(crate) fn put_both(
     piece: &[u8],
     used: usize,
 ) -> bool
-    requires whole { AreSpelled rest.old.items }
+    requires whole { AreSpelledFrames rest.old.items }
     requires within { used ≤ length piece.now }
     ensures ok { IsTrue result →
         Appends (take (length rest.old.items + used) (rest.old.items ++ piece.now))

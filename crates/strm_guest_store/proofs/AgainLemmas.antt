@@ -17,7 +17,7 @@ use Rattle.strm_machine.proofs.BaseLemmas.{reaction-bases}
 use Rattle.strm_machine.proofs.HeldLemmas.{StateIsHeld}
 use Rattle.strm_machine.proofs.ReactionLemmas.{reaction-performs}
 use Rattle.strm_machine.proofs.TableLemmas.{set-keeps}
-use Rattle.strm_places.specs.Again.{with_stream_in, reaction_at, reacts_at}
+use Rattle.strm_places.specs.Again.{with_pair_at, reaction_at, reacts_at}
 use Rattle.strm_places.proofs.AgainLemmas.{reaction_at-by, performs_at-by, reaction_at-held}
 use Rattle.strm_transmit.specs.Again.{MeetsAt, GrowsFull}
 use Rattle.strm_transmit.specs.Guests.{AreUnhosted, AreOfOwners, nobody}
@@ -39,8 +39,8 @@ ends-bases guests writer reader ty n k =
     set-keeps (λ (x : Guest). x.base) held writer k (record (guest_in held writer) { handles = inserted (guest_in held writer).handles (write_entry ty n) }) no_guest refl
     ∙ set-keeps (λ (x : Guest). x.base) guests reader k (record (guest_in guests reader) { handles = inserted (guest_in guests reader).handles (read_entry ty n) }) no_guest refl
 
-in-bases : (state : State) (n writer reader : ℕ) (ty : TransmitIndex) → BasesStay state.guests (with_stream_in state n writer reader ty).guests
-unfolding with_stream_in
+in-bases : (state : State) (n writer reader : ℕ) (ty : TransmitIndex) → BasesStay state.guests (with_pair_at state n writer reader ty).guests
+unfolding with_pair_at
 in-bases state n writer reader ty = ends-bases state.guests writer reader ty n
 
 making-bases : (n : ℕ) (state : State) (act : Act) → IsSound state → BasesStay state.guests (reaction_at n state act).state.guests

@@ -23,7 +23,7 @@ use Rattle.strm_machine.specs.declared.replies.Reply.TheVariants as replies
 use Rattle.strm_machine.specs.declared.streams.Stream.{Stream}
 use Rattle.strm_machine.proofs.Shapes.{turn_on, Shape, ByTurn, BySetting, ByOwner, ByTable, ByPair, ByGuest, ByPut, ByRest}
 use Rattle.strm_machine.proofs.ShapeLemmas.{reaction-shape}
-use Rattle.strm_places.specs.Again.{put, with_stream_in, performs_at, reaction_at}
+use Rattle.strm_places.specs.Again.{put, with_pair_at, performs_at, reaction_at}
 use Rattle.strm_places.proofs.AgainLemmas.{reaction_at-by}
 use Rattle.strm_transmit.specs.Again.{GrowsFull}
 use Rattle.strm_transmit.proofs.AgainLemmas.{pair_places}
@@ -94,7 +94,7 @@ put-most streams n x =
 
 performed-grown : (n : ℕ) (state : State) (writer reader : ℕ) (ty : TransmitIndex) → refusal state (Make (Between writer reader ty)) ≡ None
     → Grown state (Make (Between writer reader ty)) (performs_at n state (Make (Between writer reader ty))).state
-unfolding performs_at with_stream_in
+unfolding performs_at with_pair_at
 performed-grown n state writer reader ty e = record { limits = refl; most = put-most state.streams n _; may = λ more. e }
 
 pub making-grown : (n : ℕ) (state : State) (writer reader : ℕ) (ty : TransmitIndex) → Grown state (Make (Between writer reader ty)) (reaction_at n state (Make (Between writer reader ty))).state

@@ -35,7 +35,7 @@ use Rattle.strm_machine.proofs.TableLemmas.{handles-more, handles-with_same, han
 use Rattle.strm_waitable_sets.specs.Sets.{handle_left}
 use Rattle.strm_guest_store.specs.declared.guest_limits.Gain.{Gain}
 use Rattle.strm_guest_store.specs.declared.guest_limits.GuestLimits.{GuestLimits}
-use Rattle.strm_guest_store.specs.Limits.{counts_in, limits_of, passes, is_past, is_pair_past, is_move_past, is_step_past}
+use Rattle.strm_guest_store.specs.Limits.{counts_in, limits_of, passes_limits, is_past, is_pair_past, is_move_past, is_step_past}
 use Rattle.strm_guest_store.specs.declared.guest_limits.Gain.TheVariants.{Ends, Set, Context}
 use Rattle.std.proofs.Common.{Result}
 use Rattle.strm_codes.specs.declared.refusals.Refusal.{Refusal}
@@ -45,7 +45,7 @@ use Rattle.strm_machine.specs.declared.acts.Act.{Act}
 use Rattle.strm_machine.specs.declared.replies.Reply.{Reply}
 use Rattle.strm_machine.specs.declared.replies.Reply.TheVariants as replies
 use Rattle.strm_machine.proofs.ReactionLemmas.{reaction-by}
-use Rattle.strm_places.specs.Again.{with_stream_in, performs_at, reaction_at, reacts_at}
+use Rattle.strm_places.specs.Again.{with_pair_at, performs_at, reaction_at, reacts_at}
 use Rattle.strm_places.proofs.AgainLemmas.{reaction_at-by}
 use Rattle.strm_transmit.specs.Meets.{Meets}
 use Rattle.strm_transmit.specs.declared.errors.StoreError.{StoreError}
@@ -88,10 +88,10 @@ module _ (limits : List GuestLimits) (state : State) (g : ℕ) where
   Kept h = NoMore mine (table state.guests g) h
 
   -- what was tested of a guest, if it is this one
-  tested : (k : ℕ) (gain : Gain) → is_past state limits k gain ≡ false → g ≡ k → k < length state.guests → passes mine (counts_in state k) gain ≡ false
+  tested : (k : ℕ) (gain : Gain) → is_past state limits k gain ≡ false → g ≡ k → k < length state.guests → passes_limits mine (counts_in state k) gain ≡ false
   tested k gain past e l =
       let known : is_unknown_guest state k ≡ false = grind (arith, nat_tests) in
-      rw e (test_of (is_unknown_guest state k) (passes (limits_of limits k) (counts_in state k) gain) known past)
+      rw e (test_of (is_unknown_guest state k) (passes_limits (limits_of limits k) (counts_in state k) gain) known past)
 
   -- a set, an error context, or an end more of a guest
   pub set-no_more : (k number : ℕ) (sets : Sets) → is_past state limits k Set ≡ false → Kept (table (with_table state.guests k (inserted (table state.guests k) (entries.WaitableSet number)) sets) g)
@@ -133,7 +133,7 @@ module _ (limits : List GuestLimits) (state : State) (g : ℕ) where
           (λ e l.
           let there : reader < length state.guests = subst (λ k. k < length state.guests) alike l in
           let first : table held writer ≡ inserted (table state.guests reader) (read_entry ty s) = ap (table held) alike ∙ handles-with_same state.guests reader (inserted (table state.guests reader) (read_entry ty s)) (sets_in state.guests reader) there in
-          let test = subst (λ k. passes mine (counts_in state k) (Ends 2) ≡ false) alike (tested writer (Ends 2) past e l) in
+          let test = subst (λ k. passes_limits mine (counts_in state k) (Ends 2) ≡ false) alike (tested writer (Ends 2) past e l) in
           subst (λ k. NoMore mine (table state.guests k) (inserted (table held writer) (write_entry ty s))) (sym (e ∙ alike))
           (rw first (ends-no_more mine (table state.guests reader) (read_entry ty s) (write_entry ty s) read.0 read.1 write.0 write.1 test)))
           (end-no_more 2 reader Reading ty s (sets_in state.guests reader) (omega arith) (subst (λ k. is_past state limits k (Ends 2) ≡ false) alike past))
@@ -212,7 +212,7 @@ module _ (limits : List GuestLimits) (state : State) (g : ℕ) where
   both kept = (kept, kept)
 
   performed-no_more : (n : ℕ) (step : Step) → is_step_past state limits step ≡ false → refusal state (act_of step) ≡ None → Performed n (act_of step)
-  unfolding performs performs_at with_stream with_stream_in refusal
+  unfolding performs performs_at with_stream with_pair_at refusal
   performed-no_more n (steps.Guest size) past e = both (keeps-no_more mine state.guests _ g (handles-more state.guests _ g refl))
   performed-no_more n (steps.New k ty) past e = (pair-no_more k k ty n (pair_of_one k past), pair-no_more k k ty (length state.streams) (pair_of_one k past))
   performed-no_more n (steps.Between writer reader ty) past e = (pair-no_more writer reader ty n past, pair-no_more writer reader ty (length state.streams) past)

@@ -7,7 +7,7 @@ use Rattle.strm_handles.specs.Kinds.{ends_held}
 use Rattle.strm_handles.proofs.KindLemmas.{ends-most}
 use Rattle.strm_machine.specs.State.{State, guest_in}
 use Rattle.strm_machine.specs.Tests.{is_unknown_guest}
-use Rattle.strm_transmit.specs.Counts.{counts_of}
+use Rattle.strm_transmit.specs.Counts.{handle_counts}
 use Rattle.strm_guest_store.specs.Among.{IsAmongGuests}
 use Rattle.strm_guest_store.specs.Limits.{unbounded, passes_by_ends, is_past, is_pair_past}
 use Rattle.strm_guest_store.specs.declared.guest_limits.Gain.TheVariants.{Ends}
@@ -15,7 +15,7 @@ use Rattle.strm_guest_store.specs.declared.guest_limits.Gain.TheVariants.{Ends}
 below : (n : ℕ) → n ≤ 4294967295 → nat_lt 4294967295 n ≡ false
 below n l = grind (arith, nat_tests)
 
-none_passes : (handles : Handles) (more : ℕ) → IsTable handles → more ≤ 2 → passes_by_ends unbounded (counts_of handles) more ≡ false
+none_passes : (handles : Handles) (more : ℕ) → IsTable handles → more ≤ 2 → passes_by_ends unbounded (handle_counts handles) more ≡ false
 none_passes handles more t few =
     let by_handles = below (occupied handles + more) (omega (arith, t.all, t.small, few)) in
     let by_ends = below (ends_held handles + more) (omega (arith, t.all, t.small, few, ends-most handles)) in

@@ -20,7 +20,7 @@ use Rattle.strm_machine.specs.declared.streams.Owner.TheVariants.{Held}
 use Rattle.strm_machine.specs.declared.streams.Side.{Side}
 use Rattle.strm_machine.proofs.AskedLemmas.{bad-traps, reply-bad, told-trapped, react-by}
 use Rattle.strm_machine.proofs.HeldLemmas.{reaction-held}
-use Rattle.strm_transmit.specs.BadItems.{MeetsOrStays, step_of, IsFirstBad, IsBadItem}
+use Rattle.strm_transmit.specs.BadItems.{MeetsOrStays, operation_step, IsFirstBad, IsBadItem}
 use Rattle.strm_transmit.specs.Guests.{nobody}
 use Rattle.strm_transmit.specs.Hosted.{StillFits}
 use Rattle.strm_transmit.specs.declared.errors.StoreError.{StoreError}
@@ -29,7 +29,7 @@ use Rattle.strm_transmit.specs.declared.store.bad_items.BadItem.{BadItem}
 use Rattle.strm_transmit.proofs.BadItemLemmas.{IsOpenAcross, is_across, act-of-step, mine_of, item-has_bad, first_once}
 use Rattle.strm_transmit.proofs.GuestLemmas.{reaction-unhosted}
 use Rattle.strm_guest_store.specs.Among.{IsAmongGuests}
-use Rattle.strm_guest_store.specs.Operations.{StopsAt, MeetsOrTells}
+use Rattle.strm_guest_store.specs.Operations.{StopsAtItem, MeetsOrTells}
 use Rattle.strm_guest_store.specs.declared.operations.OperateError.{OperateError}
 use Rattle.strm_guest_store.specs.declared.operations.OperateError.TheVariants as operate_errors
 use Rattle.strm_guest_store.proofs.AmongLemmas.{LeavesGuests, after-done}
@@ -52,7 +52,7 @@ module _ (old new : State) (side : Side) (end : NamedEnd) (address count : ℕ) 
   act = OnEnd side end (Operate address count)
 
   abbrev step : Step
-  step = step_of side end address count
+  step = operation_step side end address count
 
   reacted : reaction old act ≡ react old step
   reacted = ap (reaction old) (sym (act-of-step side end address count))
@@ -108,7 +108,7 @@ module _ (state : State) (step : Step) (untrapped : state.trapped ≡ false) whe
   stops_somewhere stream m none = none stream (reply-bad state step stream untrapped (ap (λ (r : Reaction). r.reply) m.0))
 
   -- and it is the one that was found
-  pub stops_there : (item : BadItem) → IsBadItem state step item → StopsAt state step item
+  pub stops_there : (item : BadItem) → IsBadItem state step item → StopsAtItem state step item
   stops_there item found = record {
     found = found;
     answer = ap (λ (r : Reaction). r.reply) (bad-traps state step found.stream untrapped (item-has_bad state step item found));

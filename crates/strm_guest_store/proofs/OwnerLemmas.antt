@@ -42,7 +42,7 @@ use Rattle.strm_machine.proofs.ReactionLemmas.{reaction-by, refusal-on_end}
 use Rattle.strm_machine.proofs.RefusalLemmas.{LeaveFits, drop_fits, lift_fits, move_fits, lower_fits, close_fits}
 use Rattle.strm_machine.proofs.Shapes.{Operates}
 use Rattle.strm_machine.proofs.ShapeLemmas.{operate-fits}
-use Rattle.strm_places.specs.Again.{put, with_stream_in, performs_at, reaction_at}
+use Rattle.strm_places.specs.Again.{put, with_pair_at, performs_at, reaction_at}
 use Rattle.strm_places.proofs.AgainLemmas.{performs_at-by, reaction_at-by}
 use Rattle.strm_transmit.specs.Guests.{IsOfOwner, AreOfOwners}
 use Rattle.strm_guest_store.specs.Among.{HandlesAgree}
@@ -293,8 +293,8 @@ module _ (state : State) (sound : IsSound state) (held : StateIsHeld state) (all
   pub reaction-owned : (act : Act) → Keeps (reaction state act)
   reaction-owned act = reaction-by Keeps state act (λ t. all) (λ r e. all) (performs-owned act)
 
-  in-owned : (n writer reader : ℕ) (ty : TransmitIndex) → AreOfOwners (with_stream_in state n writer reader ty).streams
-  unfolding with_stream_in
+  in-owned : (n writer reader : ℕ) (ty : TransmitIndex) → AreOfOwners (with_pair_at state n writer reader ty).streams
+  unfolding with_pair_at
   in-owned n writer reader ty =
       let pair = made_pair state writer reader ty in
       put-owned state.streams n (made_stream ty writer pair.write reader pair.read) all (made-owned ty writer pair.write reader pair.read)
@@ -370,8 +370,8 @@ module _ (state : State) where
   pub reaction-stays : (act : Act) → copies_none act ≡ true → StaysSo (reaction state act)
   reaction-stays act k = reaction-by StaysSo state act (λ t. refl) (λ r e. refl) (λ e. performs-stays act k)
 
-  in-stays : (n writer reader : ℕ) (ty : TransmitIndex) → (with_stream_in state n writer reader ty).trapped ≡ state.trapped
-  unfolding with_stream_in
+  in-stays : (n writer reader : ℕ) (ty : TransmitIndex) → (with_pair_at state n writer reader ty).trapped ≡ state.trapped
+  unfolding with_pair_at
   in-stays n writer reader ty = refl
 
   pub making-stays : (n : ℕ) (act : Act) → copies_none act ≡ true → StaysSo (reaction_at n state act)

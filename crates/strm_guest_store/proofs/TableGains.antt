@@ -41,8 +41,8 @@ use Rattle.strm_machine.proofs.Shapes.{stream_on, begun_on, turn_on}
 use Rattle.strm_waitable_sets.specs.Sets.{Sets}
 use Rattle.strm_machine.proofs.TableLemmas.{set-keeps}
 use Rattle.strm_guest_store.specs.declared.guest_limits.GuestLimits.{GuestLimits}
-use Rattle.strm_transmit.specs.Counts.{counts_of}
-use Rattle.strm_guest_store.specs.Limits.{bytes_for, GetsNoMore, passes}
+use Rattle.strm_transmit.specs.Counts.{handle_counts}
+use Rattle.strm_guest_store.specs.Limits.{bytes_for, GetsNoMore, passes_limits}
 use Rattle.strm_guest_store.specs.declared.guest_limits.Gain.TheVariants.{Ends, Set, Context}
 
 -- ## A sum over the entries of a table
@@ -71,7 +71,7 @@ module _ (f : Option Entry → ℕ) (none : f None ≡ 0) where
 
 -- of each it has no more than it had, or than the limits allow
 abbrev pub NoMore : GuestLimits → Handles → Handles → Type 0
-NoMore limits old new = GetsNoMore limits (counts_of old) (counts_of new)
+NoMore limits old new = GetsNoMore limits (handle_counts old) (handle_counts new)
 
 pub same-no_more : (limits : GuestLimits) (h : Handles) → NoMore limits h h
 same-no_more limits h = record { handles = omega arith; ends = omega arith; bytes = omega arith }
@@ -126,7 +126,7 @@ within limit count e = grind (arith, nat_tests)
 
 module _ (limits : GuestLimits) (h : Handles) where
   -- an end, where so many may come
-  pub end-fits : (e : Entry) (count : ℕ) → end_in (Some e) ≡ 1 → context_in (Some e) ≡ 0 → 1 ≤ count → passes limits (counts_of h) (Ends count) ≡ false → Fits limits h e
+  pub end-fits : (e : Entry) (count : ℕ) → end_in (Some e) ≡ 1 → context_in (Some e) ≡ 0 → 1 ≤ count → passes_limits limits (handle_counts h) (Ends count) ≡ false → Fits limits h e
   end-fits e count one none some t =
       let tests = neither (nat_lt limits.handles (occupied h + count)) (nat_lt limits.ends (ends_held h + count)) t in
       record {
@@ -136,7 +136,7 @@ module _ (limits : GuestLimits) (h : Handles) where
       }
 
   -- a set
-  pub set-fits : (e : Entry) → end_in (Some e) ≡ 0 → context_in (Some e) ≡ 0 → passes limits (counts_of h) Set ≡ false → Fits limits h e
+  pub set-fits : (e : Entry) → end_in (Some e) ≡ 0 → context_in (Some e) ≡ 0 → passes_limits limits (handle_counts h) Set ≡ false → Fits limits h e
   set-fits e one none t = record {
     handles = within limits.handles (occupied h + 1) t;
     ends = omega (arith, one);
@@ -144,7 +144,7 @@ module _ (limits : GuestLimits) (h : Handles) where
   }
 
   -- an error context
-  pub context-fits : (e : Entry) → end_in (Some e) ≡ 0 → context_in (Some e) ≡ 1 → passes limits (counts_of h) Context ≡ false → Fits limits h e
+  pub context-fits : (e : Entry) → end_in (Some e) ≡ 0 → context_in (Some e) ≡ 1 → passes_limits limits (handle_counts h) Context ≡ false → Fits limits h e
   context-fits e none one t =
       let tests = neither (nat_lt limits.handles (occupied h + 1)) (nat_lt limits.bytes (bytes_for (contexts_held h + 1))) t in
       record {
@@ -154,7 +154,7 @@ module _ (limits : GuestLimits) (h : Handles) where
       }
 
   -- and two ends
-  pub ends-no_more : (a b : Entry) → end_in (Some a) ≡ 1 → context_in (Some a) ≡ 0 → end_in (Some b) ≡ 1 → context_in (Some b) ≡ 0 → passes limits (counts_of h) (Ends 2) ≡ false → NoMore limits h (inserted (inserted h a) b)
+  pub ends-no_more : (a b : Entry) → end_in (Some a) ≡ 1 → context_in (Some a) ≡ 0 → end_in (Some b) ≡ 1 → context_in (Some b) ≡ 0 → passes_limits limits (handle_counts h) (Ends 2) ≡ false → NoMore limits h (inserted (inserted h a) b)
   ends-no_more a b one none one_too none_too t =
       let tests = neither (nat_lt limits.handles (occupied h + 2)) (nat_lt limits.ends (ends_held h + 2)) t in
       let most = λ (f : Option Entry → ℕ) (n : f None ≡ 0). inserted-most f n (inserted h a) b in

@@ -9,7 +9,7 @@ use Rattle.strm_machine.specs.Tests.{is_unknown_guest}
 use Rattle.strm_machine.specs.ErrorContexts.{message_limit, bytes_of_message}
 use Rattle.strm_machine.specs.declared.steps.Step.{Step}
 use Rattle.strm_machine.specs.declared.steps.Step.TheVariants as steps
-use Rattle.strm_transmit.specs.Counts.{counts_of}
+use Rattle.strm_transmit.specs.Counts.{handle_counts}
 use Rattle.strm_transmit.specs.Queries.{of_guest}
 use Rattle.strm_transmit.specs.declared.store.counts.GuestCounts.{GuestCounts}
 use Rattle.strm_guest_store.specs.declared.guest_limits.Gain.{Gain}
@@ -51,7 +51,7 @@ pub record GetsNoMore (limits : GuestLimits) (old new : GuestCounts) : Type 0 wh
 
 -- how much a guest has
 abbrev pub counts_in : State → ℕ → GuestCounts
-counts_in state g = counts_of (guest_in state.guests g).handles
+counts_in state g = handle_counts (guest_in state.guests g).handles
 
 -- WHAT A CALL WOULD GIVE IT
 
@@ -70,16 +70,16 @@ passes_by_context limits counts =
     nat_lt limits.handles (counts.handles + 1) || nat_lt limits.bytes (bytes_for (counts.contexts + 1))
 
 -- what a call would give would pass a limit
-abbrev pub passes : GuestLimits → GuestCounts → Gain → Bool
-passes limits counts (Ends count) = passes_by_ends limits counts count
-passes limits counts Set = passes_by_set limits counts
-passes limits counts Context = passes_by_context limits counts
+abbrev pub passes_limits : GuestLimits → GuestCounts → Gain → Bool
+passes_limits limits counts (Ends count) = passes_by_ends limits counts count
+passes_limits limits counts Set = passes_by_set limits counts
+passes_limits limits counts Context = passes_by_context limits counts
 
 -- a call would give a guest more than its limits allow. Of a guest that is not there the store's own answer
 -- tells
 abbrev pub is_past : State → List GuestLimits → ℕ → Gain → Bool
 is_past state limits g gain =
-    not (is_unknown_guest state g) && passes (limits_of limits g) (counts_in state g) gain
+    not (is_unknown_guest state g) && passes_limits (limits_of limits g) (counts_in state g) gain
 
 -- the making of a stream between two guests, which may be one, would give one of them more than that
 abbrev pub is_pair_past : State → List GuestLimits → ℕ → ℕ → Bool

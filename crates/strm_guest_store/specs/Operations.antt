@@ -12,7 +12,7 @@ use Rattle.strm_guest_store.specs.declared.operations.OperateError.{OperateError
 use Rattle.strm_guest_store.specs.declared.operations.OperateError.TheVariants as errors
 
 -- the machine stops this step at an item that is none, and this is the item: who writes it, and its place
-pub record StopsAt (state : State) (step : Step) (item : BadItem) : Type 0 where
+pub record StopsAtItem (state : State) (step : Step) (item : BadItem) : Type 0 where
   pub found : IsBadItem state step item
   pub answer : (react state step).reply ≡ replies.BadItem found.stream
 
@@ -21,4 +21,4 @@ pub record StopsAt (state : State) (step : Step) (item : BadItem) : Type 0 where
 abbrev pub MeetsOrTells : State → State → Result ReturnCode OperateError → Step → Type 0
 MeetsOrTells old new (Ok code) step = react old step ≡ goes (replies.Code code) new
 MeetsOrTells old new (Err (errors.Refused refusal)) step = (react old step ≡ goes (replies.Refused refusal) new) × (new ≡ old)
-MeetsOrTells old new (Err (errors.BadItem item)) step = StopsAt old step item × (new ≡ old)
+MeetsOrTells old new (Err (errors.BadItem item)) step = StopsAtItem old step item × (new ≡ old)

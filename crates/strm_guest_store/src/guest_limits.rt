@@ -4,7 +4,7 @@
 
 ghost use Rattle.std.specs.Prelude.{◌≡◌, ◌≢◌, ◌<◌, ◌+◌, ◌*◌, ℕ, true, [], length, nat_lt, OnOk, OnErr};
 ghost use Rattle.strm_machine.specs.ErrorContexts.{message_limit};
-ghost use Rattle.strm_guest_store.specs.Limits.{unbounded, limits_of, passes};
+ghost use Rattle.strm_guest_store.specs.Limits.{unbounded, limits_of, passes_limits};
 
 use std::alloc::Global;
 use std::marker::Model;
@@ -38,7 +38,7 @@ impl GuestLimits {
 
     // Whether a guest that has so much would pass its limits by what a call would give.
     pub(crate) fn passes(&self, counts: &GuestCounts, gain: Gain) -> bool
-        ensures { result ≡ passes self.now counts.now gain }
+        ensures { result ≡ passes_limits self.now counts.now gain }
     {
         match gain {
             Gain::Ends { count } => {

@@ -35,3 +35,9 @@ module _ {E : Type 0} where
     pub live : OnOk result (after ≡ uncounted before)
     pub err : OnErr result (new ≡ old)
     pub kept : OnErr result (after ≡ before)
+
+  -- an entry is changed where it stands, or nothing changes: the room stays
+  pub record ChangesInPlace {A : Type 0} (old new : TableOf E) (before after : Counter) (result : Result A HandleError) : Type 0 where
+    pub room : new.room ≡ old.room
+    pub err : OnErr result (new ≡ old)
+    pub kept : OnErr result (after ≡ before)

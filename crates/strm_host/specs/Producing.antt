@@ -17,7 +17,7 @@ pub record IsFreshWindow (item : Payload) (window : Lent) : Type 0 where
 
 -- what was produced in all, of this payload: those that there was room for are marked, and the others
 -- are held
-pub record IsFetched (item : Payload) (room : Option ℕ) (marked : List Item) (items held : TypedItems) : Type 0 where
+pub record IsProducedInRoom (item : Payload) (room : Option ℕ) (marked : List Item) (items held : TypedItems) : Type 0 where
   pub of : items.payload ≡ item
   pub fit : AreItems (scalars_of item) items.items
   pub marked_is : marked ≡ in_room room items.items

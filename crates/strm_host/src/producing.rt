@@ -5,7 +5,7 @@
 ghost use Rattle.std.specs.Prelude.{◌≡◌, ◌+◌, ◌<◌, ◌≤◌, ◌++◌, length, take, drop, map, IfOk, IfSome};
 ghost use Rattle.strm_buffers.specs.Windows.{room_of};
 ghost use Rattle.strm_buffers.specs.Tells.{Fills, RisesOnFailed};
-ghost use Rattle.strm_host.specs.Producing.{IsFreshWindow, IsFetched};
+ghost use Rattle.strm_host.specs.Producing.{IsFreshWindow, IsProducedInRoom};
 
 use crate::destinations::{Destination, Produced};
 use crate::producers::StreamProducer;
@@ -36,7 +36,7 @@ pub(crate) fn fetch<P: StreamProducer>(
     finish: bool,
 ) -> Result<Fetched, OutOfMemory>
     requires fresh { IsFreshWindow P.Item.payload window.old }
-    ensures fetched { IfOk result (λ f. IsFetched P.Item.payload (room_of window.old.place)
+    ensures fetched { IfOk result (λ f. IsProducedInRoom P.Item.payload (room_of window.old.place)
         window.new.marked f.items f.held) }
     ensures failed { IfOk result
         (λ f. RisesOnFailed f.answer (P.faults producer.old) (P.faults producer.new)) }

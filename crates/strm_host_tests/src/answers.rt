@@ -9,7 +9,7 @@ use std::fmt::Debug;
 use std::process::Abort;
 
 /// Later calls of a test may rest on the answer.
-pub fn is<T: Copy + Debug + PartialEq>(rt: &impl Abort, answer: T, wanted: T)
+pub(crate) fn is<T: Copy + Debug + PartialEq>(rt: &impl Abort, answer: T, wanted: T)
     ensures { T.eq answer wanted ≡ true }
 {
     assert_eq!(rt; answer, wanted);

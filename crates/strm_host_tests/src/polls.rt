@@ -27,7 +27,7 @@ pub const COMPLETED: HostTurn = Turn::Ready(StreamResult::Completed);
 pub const DROPPED: HostTurn = Turn::Ready(StreamResult::Dropped);
 
 /// A memory of so many bytes.
-pub fn memory(rt: &impl Abort, alloc: Global, size: u32) -> GuestMemory
+pub(crate) fn memory(rt: &impl Abort, alloc: Global, size: u32) -> GuestMemory
     ensures { length result.bytes ≡ size }
 {
     GuestMemory::new(alloc, size).expect(rt, "memory")
@@ -42,7 +42,7 @@ fn are_numbers(rt: &impl Abort, items: &Items, numbers: &[i128]) {
 }
 
 /// What a writer holds is given to another host end: its items.
-pub fn give_rest(
+pub(crate) fn give_rest(
     rt: &impl Abort,
     alloc: Global,
     writer: &mut Box<dyn HostWriter>,
@@ -55,7 +55,7 @@ pub fn give_rest(
 }
 
 /// A writer gives what it holds, and is polled for another host end: its turn, and its items.
-pub fn poll(
+pub(crate) fn poll(
     rt: &impl Abort,
     alloc: Global,
     writer: &mut Box<dyn HostWriter>,
@@ -73,7 +73,7 @@ pub fn poll(
 
 /// A writer of bytes gives what it holds, and is polled through a window over a memory: its turn,
 /// how many items it marked, and the memory afterwards.
-pub fn poll_over(
+pub(crate) fn poll_over(
     rt: &impl Abort,
     alloc: Global,
     writer: &mut Box<dyn HostWriter>,

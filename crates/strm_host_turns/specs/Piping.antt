@@ -185,7 +185,7 @@ pub record Ungathered (old new : Offering) : Type 0 where
   pub writer : HoldsStill old.writer new.writer
   pub reader : new.reader ≡ old.reader
 
--- it was wanting behind that: the writer gave all that it held, and the reader has no record more
+-- it had run out behind that: the writer gave all that it held, and the reader has no record more
 pub record Unoffered (old new : Offering) : Type 0 where
   pub writer : new.writer ≡ writer_given old.writer None
   pub reader : KeepsReader old.reader new.reader

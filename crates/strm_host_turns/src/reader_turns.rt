@@ -26,7 +26,7 @@ pub enum ReaderStops {
     /// The host reader failed.
     #[error("the host reader failed")]
     Failed,
-    /// Memory was wanting. No record was added.
+    /// Out of memory. No record was added.
     #[error("out of memory")]
     OutOfMemory,
     /// The host reader asked for an item that is no Unicode scalar value.

@@ -32,7 +32,7 @@ pub enum WriterStops {
     /// The host writer failed.
     #[error("the host writer failed")]
     Failed,
-    /// Memory was wanting. No record was added.
+    /// Out of memory. No record was added.
     #[error("out of memory")]
     OutOfMemory,
     /// The host writer broke its rules.

@@ -5,7 +5,7 @@ use Rattle.strm_codes.specs.Layout.{scalars_of, item_size}
 use Rattle.strm_codes.specs.declared.codes.TransmitKind.{TransmitKind}
 use Rattle.strm_codes.specs.declared.payloads.Payload.{Payload}
 use Rattle.strm_waitable_sets.specs.Sets.{is_set_there, is_member}
-use Rattle.strm_error_contexts.specs.Contexts.{count_at}
+use Rattle.strm_error_contexts.specs.Contexts.{context_count_at}
 use Rattle.strm_error_contexts.specs.Contexts as contexts
 use Rattle.strm_machine.specs.State.{State, sets_in, stream_at, is_held}
 use Rattle.strm_machine.specs.WaitableSets.{set_named}
@@ -139,7 +139,7 @@ pub record MembersAreLive (state : State) : Type 0 where
 -- one that is not has none; what a handle names is there, and keeps a message
 pub record ContextsCount (state : State) : Type 0 where
   pub counted : (number : ℕ) →
-      count_at state.contexts number ≡ all_handles_to number state.guests
+      context_count_at state.contexts number ≡ all_handles_to number state.guests
   pub some : (number : ℕ) →
       contexts.is_context_there state.contexts number ≡ true → 0 < all_handles_to number state.guests
   pub none : (number : ℕ) →

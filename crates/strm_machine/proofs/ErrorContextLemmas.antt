@@ -12,7 +12,7 @@ use Rattle.strm_handles.specs.Lookups.{end_rep_in, waitable_set_rep_in, error_co
 use Rattle.strm_handles.specs.declared.entries.Entry.TheVariants as entries
 use Rattle.strm_handles.proofs.HandleLemmas.{given, inserted_sum, sum_by-entries_with}
 use Rattle.strm_resources.proofs.SlotLemmas.{by_eq}
-use Rattle.strm_error_contexts.specs.Contexts.{Context, Contexts, no_contexts, context_at, is_context_there, handles_of_context as context_handles, count_at, next_number, new_context, inserted as with_message, context_with_handles as with_count, context_counted, raised, context_lowered, context_dropped, removed as without, AreContextsKept}
+use Rattle.strm_error_contexts.specs.Contexts.{Context, Contexts, no_contexts, context_at, is_context_there, handles_of_context as context_handles, context_count_at, next_number, new_context, inserted as with_message, context_with_handles as with_count, context_counted, raised, context_lowered, context_dropped, removed as without, AreContextsKept}
 use Rattle.strm_error_contexts.proofs.KeptLemmas.{kept-none, next_is_free, context_at-inserted, kept-inserted, context_at-counted, kept-counted, context_at-removed, kept-dropped}
 use Rattle.strm_machine.specs.Words.{Guest, Handles, Entry, Sets, State, no_guest, no_handles, guest_in, with_table, removed}
 use Rattle.strm_machine.specs.State.{handles_in_use}
@@ -119,44 +119,44 @@ count_of-with n None e = cc
 count_of-with n (Some c) e = refl
 
 module _ (contexts : Contexts) (kept : AreContextsKept contexts) where
-  pub count-inserted : (message : List ℕ) (number : ℕ) → count_at (with_message contexts message) number ≡ count_at contexts number + one_if (nat_eq number (next_number contexts))
+  pub count-inserted : (message : List ℕ) (number : ℕ) → context_count_at (with_message contexts message) number ≡ context_count_at contexts number + one_if (nat_eq number (next_number contexts))
   count-inserted message number =
       ap context_handles (context_at-inserted contexts kept message number)
-      ∙ by_eq number (next_number contexts) (λ t. context_handles (cond t (Some (new_context message)) (context_at contexts number)) ≡ count_at contexts number + one_if t)
-      (λ same. let none : count_at contexts number ≡ 0 = none_counted (context_at contexts number) (ap (is_context_there contexts) same ∙ next_is_free contexts kept) in omega (arith, none))
+      ∙ by_eq number (next_number contexts) (λ t. context_handles (cond t (Some (new_context message)) (context_at contexts number)) ≡ context_count_at contexts number + one_if t)
+      (λ same. let none : context_count_at contexts number ≡ 0 = none_counted (context_at contexts number) (ap (is_context_there contexts) same ∙ next_is_free contexts kept) in omega (arith, none))
       (λ apart. omega arith)
 
 module _ (contexts : Contexts) (number : ℕ) (there : is_context_there contexts number ≡ true) where
-  count-counted : (n other : ℕ) → count_at (context_counted contexts number n) other ≡ cond (nat_eq other number) n (count_at contexts other)
+  count-counted : (n other : ℕ) → context_count_at (context_counted contexts number n) other ≡ cond (nat_eq other number) n (context_count_at contexts other)
   count-counted n other =
       ap context_handles (context_at-counted contexts number there n other)
-      ∙ by_eq other number (λ t. context_handles (cond t (option_map (with_count n) (context_at contexts number)) (context_at contexts other)) ≡ cond t n (count_at contexts other))
+      ∙ by_eq other number (λ t. context_handles (cond t (option_map (with_count n) (context_at contexts number)) (context_at contexts other)) ≡ cond t n (context_count_at contexts other))
       (λ same. count_of-with n (context_at contexts number) there)
       (λ apart. refl)
 
-  pub count-raised : (other : ℕ) → count_at (raised contexts number) other ≡ count_at contexts other + one_if (nat_eq other number)
+  pub count-raised : (other : ℕ) → context_count_at (raised contexts number) other ≡ context_count_at contexts other + one_if (nat_eq other number)
   count-raised other =
-      count-counted (count_at contexts number + 1) other
-      ∙ by_eq other number (λ t. cond t (count_at contexts number + 1) (count_at contexts other) ≡ count_at contexts other + one_if t)
-      (λ same. ap (λ k. count_at contexts k + 1) (sym same))
+      count-counted (context_count_at contexts number + 1) other
+      ∙ by_eq other number (λ t. cond t (context_count_at contexts number + 1) (context_count_at contexts other) ≡ context_count_at contexts other + one_if t)
+      (λ same. ap (λ k. context_count_at contexts k + 1) (sym same))
       (λ apart. omega arith)
 
-  pub count-dropped : AreContextsKept contexts → (other : ℕ) → count_at (context_dropped contexts number) other + one_if (nat_eq other number) ≡ count_at contexts other
-  count-dropped kept other = by (nat_lt 1 (count_at contexts number)) refl
+  pub count-dropped : AreContextsKept contexts → (other : ℕ) → context_count_at (context_dropped contexts number) other + one_if (nat_eq other number) ≡ context_count_at contexts other
+  count-dropped kept other = by (nat_lt 1 (context_count_at contexts number)) refl
     where
-      some : 0 < count_at contexts number
+      some : 0 < context_count_at contexts number
       some = kept.handled number there
 
-      by : (t : Bool) → nat_lt 1 (count_at contexts number) ≡ t → count_at (cond t (context_lowered contexts number) (without contexts number)) other + one_if (nat_eq other number) ≡ count_at contexts other
+      by : (t : Bool) → nat_lt 1 (context_count_at contexts number) ≡ t → context_count_at (cond t (context_lowered contexts number) (without contexts number)) other + one_if (nat_eq other number) ≡ context_count_at contexts other
       by true several =
-          ap (λ k. k + one_if (nat_eq other number)) (count-counted (count_at contexts number - 1) other)
-          ∙ by_eq other number (λ t. cond t (count_at contexts number - 1) (count_at contexts other) + one_if t ≡ count_at contexts other)
-          (λ same. let here : count_at contexts other ≡ count_at contexts number = ap (count_at contexts) same in omega (arith, here, some))
+          ap (λ k. k + one_if (nat_eq other number)) (count-counted (context_count_at contexts number - 1) other)
+          ∙ by_eq other number (λ t. cond t (context_count_at contexts number - 1) (context_count_at contexts other) + one_if t ≡ context_count_at contexts other)
+          (λ same. let here : context_count_at contexts other ≡ context_count_at contexts number = ap (context_count_at contexts) same in omega (arith, here, some))
           (λ apart. omega arith)
       by false last =
           ap (λ o. context_handles o + one_if (nat_eq other number)) (context_at-removed contexts number there other)
-          ∙ by_eq other number (λ t. context_handles (cond t None (context_at contexts other)) + one_if t ≡ count_at contexts other)
-          (λ same. let here : count_at contexts other ≡ count_at contexts number = ap (count_at contexts) same in let one = ltb-false 1 (count_at contexts number) last in omega (arith, here, some, one))
+          ∙ by_eq other number (λ t. context_handles (cond t None (context_at contexts other)) + one_if t ≡ context_count_at contexts other)
+          (λ same. let here : context_count_at contexts other ≡ context_count_at contexts number = ap (context_count_at contexts) same in let one = ltb-false 1 (context_count_at contexts number) last in omega (arith, here, some, one))
           (λ apart. omega arith)
 
 -- ## Messages after a change
@@ -186,10 +186,10 @@ module _ (contexts : Contexts) (number : ℕ) (there : is_context_there contexts
       (by_eq other number (λ t. KeepsMessage (cond t (option_map (with_count n) (context_at contexts number)) (context_at contexts other))) (λ same. message-with n (context_at contexts number) (h number)) (λ apart. h other))
 
   messages-dropped : AreMessages (context_dropped contexts number)
-  messages-dropped = by (nat_lt 1 (count_at contexts number))
+  messages-dropped = by (nat_lt 1 (context_count_at contexts number))
     where
       by : (t : Bool) → AreMessages (cond t (context_lowered contexts number) (without contexts number))
-      by true other = messages-counted (count_at contexts number - 1) other
+      by true other = messages-counted (context_count_at contexts number - 1) other
       by false other =
           subst KeepsMessage (sym (context_at-removed contexts number there other))
           (by_eq other number (λ t. KeepsMessage (cond t None (context_at contexts other))) (λ same. no_message) (λ apart. h other))
@@ -256,10 +256,10 @@ module _ (guests : List Guest) (contexts : Contexts) (g : ℕ) (sets : Sets) (h 
     HoldsContexts-shared number is sound =
         let e = entries.ErrorContext number in
         record {
-          kept = kept-counted contexts number is h.kept (count_at contexts number + 1) (omega arith);
+          kept = kept-counted contexts number is h.kept (context_count_at contexts number + 1) (omega arith);
           counted = λ other.
               omega (arith, count-raised contexts number is other, h.counted other, all_handles-with other guests g (inserted table e) sets there, handles_to-inserted other table e sound);
-          messages = messages-counted contexts number is h.messages (count_at contexts number + 1);
+          messages = messages-counted contexts number is h.messages (context_count_at contexts number + 1);
         }
 
     -- and one less
@@ -280,6 +280,6 @@ module _ (guests : List Guest) (contexts : Contexts) (g : ℕ) (sets : Sets) (h 
         counted_there (context_at contexts number) (omega (arith, h.counted number, itself, least, most))
 
 -- no error context has more handles than are live
-pub count-live : (state : State) (number : ℕ) → HoldsContexts state.guests state.contexts → count_at state.contexts number ≤ handles_in_use state
+pub count-live : (state : State) (number : ℕ) → HoldsContexts state.guests state.contexts → context_count_at state.contexts number ≤ handles_in_use state
 count-live state number h =
     omega (arith, h.counted number, sum_by-le-sum_by (λ (g : Guest). handles_to number g.handles) (λ (g : Guest). live_of g.handles) state.guests (λ g. handles_to-live number g.handles))

@@ -15,7 +15,7 @@ use Rattle.strm_machine.specs.declared.steps.Step.{Step}
 use Rattle.strm_machine.specs.declared.steps.Step.TheVariants as steps
 use Rattle.strm_laws.specs.Conservation.{state_after_steps, moments, replies_of}
 use Rattle.strm_transmit.specs.Guests.{is_of_guests}
-use Rattle.strm_session.specs.Runs.{AreOfGuests, counts_of, StopsAt, StopsBy}
+use Rattle.strm_session.specs.Runs.{AreOfGuests, received_counts, StopsAt, StopsBy}
 use Rattle.strm_session.specs.declared.runs.RunCause.{RunCause}
 use Rattle.strm_session.specs.declared.runs.RunCause.TheVariants as causes
 use Rattle.strm_session.proofs.PlayLemmas.{play-goes}
@@ -147,7 +147,7 @@ first_received : (streams : List Stream) → get_or (map (λ s. s.received) stre
 first_received [] = refl
 first_received (s ∷ more) = refl
 
-pub received_first : (state : State) (n : ℕ) → n ∷ [] ≡ counts_of state → n ≡ received 0 state
+pub received_first : (state : State) (n : ℕ) → n ∷ [] ≡ received_counts state → n ≡ received 0 state
 received_first state n e = ap (λ (all : List ℕ). get_or all 0 0) e ∙ first_received state.streams
 
 pub same_count : (n m : ℕ) → n ∷ [] ≡ m ∷ [] → n ≡ m

@@ -13,7 +13,7 @@ ghost use Rattle.strm_laws.specs.Starts.{run_start};
 ghost use Rattle.strm_memory.specs.Bytes.{IsBytes};
 ghost use Rattle.strm_mux.specs.Carrying.{AreCarried, DeliversFrames, IsOneCount};
 ghost use Rattle.strm_carry_laws.specs.OneStream.{AreSettled};
-ghost use Rattle.strm_session.specs.Runs.{AreOfGuests, counts_of};
+ghost use Rattle.strm_session.specs.Runs.{AreOfGuests, received_counts};
 
 use crate::hearing::heard;
 use crate::scripts::script;
@@ -111,12 +111,12 @@ fn play_all(alloc: Global, steps: &[Step]) -> Result<Played, MuxError>
     requires few { length steps.now ≤ 4294967295 }
     requires guests { AreOfGuests steps.now }
     requires settled { AreSettled (replies_of (moments run_start steps.now)) }
-    requires one { IsOneCount (counts_of (state_after_steps run_start steps.now)) }
+    requires one { IsOneCount (received_counts (state_after_steps run_start steps.now)) }
     ensures played { IfOk result (λ p.
         play [] run_start steps.now ≡ Ends p.replies (state_after_steps run_start steps.now)) }
     ensures told { IfOk result (λ p. p.replies ≡ replies_of (moments run_start steps.now)) }
     ensures moved { IfOk result (λ p.
-        p.moved ∷ [] ≡ counts_of (state_after_steps run_start steps.now)) }
+        p.moved ∷ [] ≡ received_counts (state_after_steps run_start steps.now)) }
     ensures err { IfErr result (λ error. error ≡ MuxError.OutOfMemory) }
 {
     let mut hosts = Hosts {

@@ -17,7 +17,7 @@ use Rattle.strm_machine.proofs.RefusalLemmas.{PairFits}
 use Rattle.strm_machine.proofs.ShapeLemmas.{reaction-producers, reaction-consumers, reaction-kept_items}
 use Rattle.strm_host_laws.proofs.Standing.{Holds-empty}
 use Rattle.strm_host_laws.proofs.TurnsStand.{LooseIsIdle, IsIdleIfLoose, Holds, Holds-reaction}
-use Rattle.strm_places.specs.Again.{IsFree, with_stream_in, reaction_at}
+use Rattle.strm_places.specs.Again.{IsFree, with_pair_at, reaction_at}
 use Rattle.strm_places.proofs.AgainLemmas.{stream_made}
 use Rattle.strm_place_laws.specs.Shares.{HasNoHost}
 use Rattle.strm_place_laws.proofs.LifeSteps.{Goes, Makes, Rests, reaction_goes, of_each}
@@ -73,7 +73,7 @@ unhosted_stays old new was is = record {
 
 module _ (n : ℕ) (state : State) (h : IsLawful state) (held : StateIsHeld state) (free : IsFree state.streams n) (writer reader : ℕ) (ty : TransmitIndex) (fits : PairFits state writer reader ty) (a : IsAmong state) where
   abbrev then_ : State
-  then_ = with_stream_in state n writer reader ty
+  then_ = with_pair_at state n writer reader ty
 
   none_made : HasNoHost then_
   none_made s side = of_each n state h held free writer reader ty fits (λ x. is_host (end_of side x).owner ≡ false) (guest_has side) (λ k. a.none k side) s
@@ -83,7 +83,7 @@ module _ (n : ℕ) (state : State) (h : IsLawful state) (held : StateIsHeld stat
       guest_has Reading = refl
 
   made_among : IsAmong then_
-  unfolding with_stream_in
+  unfolding with_pair_at
   made_among = record {
     none = none_made;
     hosts =

@@ -42,7 +42,7 @@ use Rattle.strm_host_laws.proofs.RestSteps.{rest-formed}
 use Rattle.strm_host_laws.proofs.SingleSteps.{stays-itself, refused-happening, Formed, called-formed, cancel-formed, lift-formed, drop-formed, transfer-formed, event-formed, lower-formed, close-formed}
 use Rattle.strm_host_laws.proofs.Tracing.{held_for, over_for, seen, course_of}
 use Rattle.strm_host_laws.proofs.TurnsStand.{Holds}
-use Rattle.strm_places.specs.Again.{IsFree, with_stream_in, reacts_at}
+use Rattle.strm_places.specs.Again.{IsFree, with_pair_at, reacts_at}
 use Rattle.strm_place_laws.specs.Isolation.{without_hosts, among_guests, LeavesIt}
 use Rattle.strm_place_laws.specs.Lives.{is_made_in}
 use Rattle.strm_place_laws.specs.Shares.{HasNoHost}
@@ -190,7 +190,7 @@ module _ (n : ℕ) (state : State) (h : IsLawful state) (held : StateIsHeld stat
 
   -- other streams
   made-apart : (s : ℕ) → is_made_in s (as_moment state making then_) ≡ false → IsApart s (as_moment state making then_)
-  unfolding with_stream_in
+  unfolding with_pair_at
   made-apart s u =
       let p = puts n state h held free writer reader ty fits in
       let ne = apart_from n state h held free writer reader ty fits s u in

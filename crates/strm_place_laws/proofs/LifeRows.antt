@@ -21,7 +21,7 @@ use Rattle.strm_machine.specs.declared.streams.Side.TheVariants.{Writing, Readin
 use Rattle.strm_host_machine.specs.Courses.{StreamEvent, Calls, Hears, course_by, codes_of}
 use Rattle.strm_host_laws.specs.HostMoments.{HostMoment}
 use Rattle.strm_host_laws.specs.StreamEvents.{events, codes_answered}
-use Rattle.strm_places.specs.Again.{put, with_stream_in, performs_at, reaction_at}
+use Rattle.strm_places.specs.Again.{put, with_pair_at, performs_at, reaction_at}
 use Rattle.strm_place_laws.specs.Isolation.{among_guests}
 use Rattle.strm_place_laws.specs.Lives.{life, run_of, end_of_run}
 use Rattle.strm_place_laws.specs.Runs.{Choice}
@@ -90,5 +90,5 @@ expected = record {
 }
 
 given_again : found ≡ expected
-unfolding course_by reaction_at performs_at with_stream_in put refusal performs operate delivered dropped cancelled decode_from encode_from items stored decoded
+unfolding course_by reaction_at performs_at with_pair_at put refusal performs operate delivered dropped cancelled decode_from encode_from items stored decoded
 given_again = refl

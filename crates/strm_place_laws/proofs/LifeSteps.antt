@@ -37,7 +37,7 @@ use Rattle.strm_machine.proofs.ReactionLemmas.{reaction-trapped, reaction-refuse
 use Rattle.strm_machine.proofs.RefusalLemmas.{PairFits, pair_fits}
 use Rattle.strm_machine.proofs.TableLemmas.{set-keeps}
 use Rattle.strm_machine.proofs.UntouchedLemmas.{reaction-stays}
-use Rattle.strm_places.specs.Again.{IsFree, made_pair_at, with_stream_in, is_making, performs_at, reaction_at, reacts_at}
+use Rattle.strm_places.specs.Again.{IsFree, made_pair_at, with_pair_at, is_making, performs_at, reaction_at, reacts_at}
 use Rattle.strm_places.proofs.AgainLemmas.{stream_made, reaction_at-by, performs_at-other, reaction_at-other, IsSound-put_at}
 use Rattle.strm_place_laws.specs.Lives.{tells_made, is_made_in}
 use Rattle.strm_place_laws.proofs.RenamedStreams.{PutsOne, PutsOne-put}
@@ -46,7 +46,7 @@ use Rattle.strm_place_laws.proofs.RenamedRuns.{performs_many}
 -- ## A step makes a stream of its number, or is the machine's and makes none
 
 pub data Goes (n : ℕ) (state : State) (act : Act) (r : Reaction) : Type 0 where
-  Makes : (writer reader : ℕ) (ty : TransmitIndex) → act ≡ Make (makings.Between writer reader ty) → PairFits state writer reader ty → r ≡ goes (replies.Pair (made_pair_at state n writer reader ty)) (with_stream_in state n writer reader ty) → Goes n state act r
+  Makes : (writer reader : ℕ) (ty : TransmitIndex) → act ≡ Make (makings.Between writer reader ty) → PairFits state writer reader ty → r ≡ goes (replies.Pair (made_pair_at state n writer reader ty)) (with_pair_at state n writer reader ty) → Goes n state act r
   Rests : r ≡ reaction state act → length r.state.streams ≡ length state.streams → ((s : ℕ) → is_made_in s (as_moment state act r) ≡ false) → Goes n state act r
 
 made_goes : (n : ℕ) (state : State) (act : Act) → is_making act ≡ true → refusal state act ≡ None → Goes n state act (performs_at n state act)
@@ -133,10 +133,10 @@ module _ (n : ℕ) (state : State) (h : IsLawful state) (held : StateIsHeld stat
   made = stream_made state writer reader ty
 
   abbrev pub goes_then : Reaction
-  goes_then = goes (replies.Pair (made_pair_at state n writer reader ty)) (with_stream_in state n writer reader ty)
+  goes_then = goes (replies.Pair (made_pair_at state n writer reader ty)) (with_pair_at state n writer reader ty)
 
   pub puts : PutsOne state.streams n made goes_then.state.streams
-  unfolding with_stream_in
+  unfolding with_pair_at
   puts = PutsOne-put state.streams n made free refl
 
   pub here : stream_at goes_then.state n ≡ made
@@ -190,7 +190,7 @@ module _ (n : ℕ) (state : State) (h : IsLawful state) (held : StateIsHeld stat
   bytes_set guests g handles b = All-set (λ (k : Guest). IsBytes k.memory) guests g (record (guest_in guests g) { handles = handles }) (memory_bytes guests g b) b
 
   bytes_made : AreBytes goes_then.state.guests
-  unfolding with_stream_in
+  unfolding with_pair_at
   bytes_made = bytes_set (with_read_end state.guests reader ty n) writer _ (bytes_set state.guests reader _ h.bytes)
 
   lawful_made : IsLawful goes_then.state
@@ -216,11 +216,11 @@ module _ (n : ℕ) (state : State) (h : IsLawful state) (held : StateIsHeld stat
   memory_set guests g handles k = set-keeps (λ (x : Guest). x.memory) guests g k (record (guest_in guests g) { handles = handles }) no_guest refl
 
   memory_made : (k : ℕ) → memory_in goes_then.state.guests k ≡ memory_in state.guests k
-  unfolding with_stream_in
+  unfolding with_pair_at
   memory_made k = memory_set (with_read_end state.guests reader ty n) writer _ k ∙ memory_set state.guests reader _ k
 
   guests_made : length state.guests ≤ length goes_then.state.guests
-  unfolding with_stream_in
+  unfolding with_pair_at
   guests_made = omega (arith, length-set state.guests reader (record (guest_in state.guests reader) { handles = inserted (guest_in state.guests reader).handles (read_entry ty n) }), length-set (with_read_end state.guests reader ty n) writer (record (guest_in (with_read_end state.guests reader ty n) writer) { handles = inserted (guest_in (with_read_end state.guests reader ty n) writer).handles (write_entry ty n) }))
 
   aside_made : StaysAside (as_moment state making goes_then)

@@ -29,7 +29,7 @@ use Rattle.strm_machine.proofs.SideLemmas.{same_side-itself}
 use Rattle.strm_machine.proofs.HeldLemmas.{StateIsHeld}
 use Rattle.strm_machine.proofs.ReactionLemmas.{reaction-trapped, reaction-refused, reaction-performs}
 use Rattle.strm_laws.specs.Laws.{HandlesHold}
-use Rattle.strm_places.specs.Again.{IsFree, is_making, made_pair_at, with_stream_in, performs_at, reaction_at, reacts_at}
+use Rattle.strm_places.specs.Again.{IsFree, is_making, made_pair_at, with_pair_at, performs_at, reaction_at, reacts_at}
 use Rattle.strm_places.proofs.AgainLemmas.{unnamed, stream_made, reaction_at-by}
 use Rattle.strm_place_laws.specs.Renaming.{entry_as, guest_as, guests_as, state_as, AreRenamed, number_as, act_as, step_as, with_number, CanAct, ComesOut}
 use Rattle.strm_place_laws.proofs.RenamedStreams.{number-here, number-other, free_gone, PutsOne-put, AreRenamed-made}
@@ -104,19 +104,19 @@ module _ (f : ℕ → ℕ) (state : State) (streams : List Stream) (r : AreRenam
         λ i. with_ends (guests_same f state n last (free_gone state.streams n free) held i) writer reader ty (sym (number-here f n last) i) in
         first ∙ ap (λ (st : State). st.guests) both_given
 
-    state_made : with_stream there writer reader ty ≡ state_as after (with_stream_in state n writer reader ty) (streams ++ made ∷ [])
-    unfolding with_stream with_stream_in
+    state_made : with_stream there writer reader ty ≡ state_as after (with_pair_at state n writer reader ty) (streams ++ made ∷ [])
+    unfolding with_stream with_pair_at
     state_made =
         λ i. record there {
           guests = guests_made i;
           streams = streams ++ made_stream ty writer (writer_index-as f state streams r sound writer reader ty i) reader (next_in-as f state streams reader i) ∷ [];
         }
 
-    streams_made : AreRenamed after (with_stream_in state n writer reader ty).streams (streams ++ made ∷ [])
-    unfolding with_stream_in
+    streams_made : AreRenamed after (with_pair_at state n writer reader ty).streams (streams ++ made ∷ [])
+    unfolding with_pair_at
     streams_made = AreRenamed-made f state.streams streams r n made refl _ (PutsOne-put state.streams n made free refl)
 
-    made-as : ComesOut f n there (Make (makings.Between writer reader ty)) (goes (replies.Pair (made_pair_at state n writer reader ty)) (with_stream_in state n writer reader ty)) (goes (replies.Pair (made_pair there writer reader ty)) (with_stream there writer reader ty))
+    made-as : ComesOut f n there (Make (makings.Between writer reader ty)) (goes (replies.Pair (made_pair_at state n writer reader ty)) (with_pair_at state n writer reader ty)) (goes (replies.Pair (made_pair there writer reader ty)) (with_stream there writer reader ty))
     made-as = record {
       reply =
           λ i. replies.Pair (record {

@@ -40,7 +40,7 @@ use Rattle.strm_machine.proofs.SoundLemmas.{type_with-of, end_entry-ok, IsSound-
 use Rattle.strm_machine.proofs.SoundStepLemmas.{reaction-sound}
 use Rattle.strm_machine.proofs.HeldLemmas.{IsHeld, StateIsHeld, names_in, IsHeld-same, IsHeld-inserted, between_held, reaction-held}
 use Rattle.strm_machine.proofs.ReactionLemmas.{reaction-performs}
-use Rattle.strm_places.specs.Again.{IsFree, Behind, Again, put, made_pair_at, with_stream_in, is_making, performs_at, unless_refused_at, reaction_at}
+use Rattle.strm_places.specs.Again.{IsFree, Behind, Again, put, made_pair_at, with_pair_at, is_making, performs_at, unless_refused_at, reaction_at}
 
 -- ## What `put` does
 
@@ -60,8 +60,8 @@ put-again streams n x l = ap (λ b. cond b (set streams n x) (streams ++ x ∷ [
 
 -- ## Behind the last, a step is the machine's
 
-pub with_stream_in-behind : (state : State) (writer reader : ℕ) (ty : TransmitIndex) → with_stream_in state (length state.streams) writer reader ty ≡ with_stream state writer reader ty
-unfolding with_stream_in with_stream
+pub with_stream_in-behind : (state : State) (writer reader : ℕ) (ty : TransmitIndex) → with_pair_at state (length state.streams) writer reader ty ≡ with_stream state writer reader ty
+unfolding with_pair_at with_stream
 with_stream_in-behind state writer reader ty =
     let pair = made_pair state writer reader ty in
     ap (λ (streams : List Stream). record (with_stream state writer reader ty) { streams = streams })
@@ -193,9 +193,9 @@ abbrev pub stream_made : State → ℕ → ℕ → TransmitIndex → Stream
 stream_made state writer reader ty =
     let pair = made_pair state writer reader ty in made_stream ty writer pair.write reader pair.read
 
-pub with_stream_in-again : (state : State) (n writer reader : ℕ) (ty : TransmitIndex) → n < length state.streams → with_stream_in state n writer reader ty ≡ with_stream_at (with_ends_at state n writer reader ty) n (stream_made state writer reader ty)
-unfolding with_stream_in
-with_stream_in-again state n writer reader ty l =
+pub with_pair_at-again : (state : State) (n writer reader : ℕ) (ty : TransmitIndex) → n < length state.streams → with_pair_at state n writer reader ty ≡ with_stream_at (with_ends_at state n writer reader ty) n (stream_made state writer reader ty)
+unfolding with_pair_at
+with_pair_at-again state n writer reader ty l =
     let made = stream_made state writer reader ty in
     ap (λ (streams : List Stream). record (with_ends_at state n writer reader ty) { streams = streams })
     (put-again state.streams n made l ∙ sym (set-set state.streams n (blank ty) made))
@@ -293,11 +293,11 @@ module _ (state : State) (n : ℕ) (gone : is_live (stream_at state n) ≡ false
         IsSound-given (handle_given (blanked state n ty) reader Reading ty n) writer (end_entry Writing ty n) (entry_in_types Writing) (end_entry-ok Writing ty n) writes
         (IsSound-given (blanked state n ty) reader (end_entry Reading ty n) (entry_in_types Reading) (end_entry-ok Reading ty n) fits.read (IsSound-blanked ty sound))
 
-    IsSound-again : IsSound state → IsSound (with_stream_in state n writer reader ty)
+    IsSound-again : IsSound state → IsSound (with_pair_at state n writer reader ty)
     IsSound-again sound =
         let made = stream_made state writer reader ty in
         let here : get_or (set state.streams n (blank ty)) n no_stream ≡ blank ty = get_or-set_same state.streams n (blank ty) no_stream there in
-        subst IsSound (sym (with_stream_in-again state n writer reader ty there))
+        subst IsSound (sym (with_pair_at-again state n writer reader ty there))
         (IsSound-stream (with_ends_at state n writer reader ty) n made (sym (ap type_of here)) (record { writer = tt; reader = tt }) (IsSound-ends_at sound))
 
 end_is : (n : ℕ) (side : Side) (ty : TransmitIndex) → is_end n side (end_rep_in (Some (end_entry side ty n))) ≡ true
@@ -349,18 +349,18 @@ module _ (state : State) (n writer reader : ℕ) (ty : TransmitIndex) (there : n
       (end_entry Writing ty n) (rw next fits.write) (end_is n Writing ty) (ap is_held (owner_at blanks n l half Writing))
       (owner_at blanks n l whole Writing ∙ ap (Held writer) (sym next))
 
-  IsHeld-again : StateIsHeld (with_stream_in state n writer reader ty)
-  IsHeld-again = subst StateIsHeld (sym (with_stream_in-again state n writer reader ty there)) held_again
+  IsHeld-again : StateIsHeld (with_pair_at state n writer reader ty)
+  IsHeld-again = subst StateIsHeld (sym (with_pair_at-again state n writer reader ty there)) held_again
 
 -- ## The making in a free place
 
 module _ (state : State) (n writer reader : ℕ) (ty : TransmitIndex) where
-  pub IsSound-put_at : IsFree state.streams n → StateIsHeld state → PairFits state writer reader ty → IsSound state → IsSound (with_stream_in state n writer reader ty)
+  pub IsSound-put_at : IsFree state.streams n → StateIsHeld state → PairFits state writer reader ty → IsSound state → IsSound (with_pair_at state n writer reader ty)
   IsSound-put_at (Behind e) h fits sound =
       rw (e, with_stream_in-behind state writer reader ty) (IsSound-with_stream state writer reader ty fits.read fits.write sound)
   IsSound-put_at (Again there gone) h fits sound = IsSound-again state n gone h writer reader ty there fits sound
 
-  pub StateIsHeld-put_at : IsFree state.streams n → PairFits state writer reader ty → StateIsHeld state → StateIsHeld (with_stream_in state n writer reader ty)
+  pub StateIsHeld-put_at : IsFree state.streams n → PairFits state writer reader ty → StateIsHeld state → StateIsHeld (with_pair_at state n writer reader ty)
   StateIsHeld-put_at (Behind e) fits h =
       rw (e, with_stream_in-behind state writer reader ty) (between_held state writer reader ty fits h)
   StateIsHeld-put_at (Again there gone) fits h = IsHeld-again state n writer reader ty there gone h fits
@@ -372,7 +372,7 @@ module _ (P : Reaction → Type 0) (n : ℕ) (state : State) where
   -- it holds of this act where that makes a stream
   abbrev pub OfMaking : Act → Type 0
   OfMaking act = (writer reader : ℕ) (ty : TransmitIndex) → act ≡ Make (makings.Between writer reader ty) →
-      P (goes (replies.Pair (made_pair_at state n writer reader ty)) (with_stream_in state n writer reader ty))
+      P (goes (replies.Pair (made_pair_at state n writer reader ty)) (with_pair_at state n writer reader ty))
 
   pub performs_at-by : (act : Act) → OfMaking act → P (performs state act) → P (performs_at n state act)
   unfolding performs_at performs

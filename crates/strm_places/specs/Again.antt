@@ -33,8 +33,8 @@ abbrev pub made_pair_at : State → ℕ → ℕ → ℕ → TransmitIndex → Pa
 made_pair_at state n writer reader ty = record (made_pair state writer reader ty) { stream = n }
 
 -- the state with a stream of this number between two guests
-unfoldable pub with_stream_in : State → ℕ → ℕ → ℕ → TransmitIndex → State
-with_stream_in state n writer reader ty =
+unfoldable pub with_pair_at : State → ℕ → ℕ → ℕ → TransmitIndex → State
+with_pair_at state n writer reader ty =
     let pair = made_pair state writer reader ty in
     record state {
       guests = with_ends state.guests writer reader ty n;
@@ -49,7 +49,7 @@ is_making act = false
 -- what a step does where nothing refuses it, a stream that it makes getting this number
 unfoldable pub performs_at : ℕ → State → Act → Reaction
 performs_at n state (Make (Between writer reader ty)) =
-    goes (replies.Pair (made_pair_at state n writer reader ty)) (with_stream_in state n writer reader ty)
+    goes (replies.Pair (made_pair_at state n writer reader ty)) (with_pair_at state n writer reader ty)
 performs_at n state act = performs state act
 
 -- a refused step changes nothing

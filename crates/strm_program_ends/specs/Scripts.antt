@@ -21,9 +21,9 @@ next_items [] = []
 next_items (turn ∷ turns) = turn.items.items
 
 -- and what it answers
-abbrev pub next_answer : List WriterTurn → Answer
-next_answer [] = Pending
-next_answer (turn ∷ turns) = turn.answer
+abbrev pub next_turn_answer : List WriterTurn → Answer
+next_turn_answer [] = Pending
+next_turn_answer (turn ∷ turns) = turn.answer
 
 -- the turn that produces these bytes, and answers so
 abbrev pub turn_of_bytes : List ℕ → Answer → WriterTurn
@@ -61,7 +61,7 @@ unpolled_writer kind payload =
 
 -- it does its next turn: what it marks, and what it holds since there was no room, are all that this produces
 pub record DoesNextTurn (old new : ScriptedWriter) (after : Lent) (answer : Answer) : Type 0 where
-  pub answers : answer ≡ next_answer old.turns.items
+  pub answers : answer ≡ next_turn_answer old.turns.items
   pub items : after.marked ++ new.held.items ≡ next_items old.turns.items
   pub turns : new.turns.items ≡ drop 1 old.turns.items
 
@@ -73,12 +73,12 @@ turn_record window finish turns =
       finish = finish;
       payload = window.payload;
       items = next_items turns;
-      answer = next_answer turns;
+      answer = next_turn_answer turns;
     }
 
 -- the next turn was played: what there is room for is marked, the rest is held, and it is recorded
 pub record PlaysTurn (old new : ScriptedWriter) (before after : Lent) (finish : Bool) (answer : Answer) : Type 0 where
-  pub answers : answer ≡ next_answer old.turns.items
+  pub answers : answer ≡ next_turn_answer old.turns.items
   pub marked : after.marked ≡ in_room (room_of before.place) (next_items old.turns.items)
   pub held : new.held.items ≡ past_room (room_of before.place) (next_items old.turns.items)
   pub said : new.said.items ≡ old.said.items ++ turn_record before finish old.turns.items ∷ []

@@ -185,7 +185,7 @@ impl ScriptedWriter {
     ghost use Rattle.strm_buffers.specs.Windows.{room_of};
     ghost use Rattle.strm_buffers.specs.Said.{in_room, past_room};
     ghost use Rattle.strm_buffers.specs.Tells.{Fills};
-    ghost use Rattle.strm_program_ends.specs.Scripts.{scripted_tells, next_items, next_answer, PlaysTurn, PlaysNone, SameType};
+    ghost use Rattle.strm_program_ends.specs.Scripts.{scripted_tells, next_items, next_turn_answer, PlaysTurn, PlaysNone, SameType};
 
     /// How many turns it has yet to do.
     pub fn turns_left(&self) -> usize
@@ -264,7 +264,7 @@ impl ScriptedWriter {
         ensures typed { All (λ turn. turn.items.payload ≡ payload) turns.new.items }
         ensures payload { result.items.payload ≡ payload }
         ensures items { result.items.items ≡ next_items turns.old.items }
-        ensures answer { result.answer ≡ next_answer turns.old.items }
+        ensures answer { result.answer ≡ next_turn_answer turns.old.items }
         ensures behind { turns.new.items ≡ drop 1 turns.old.items }
     {
         if turns.is_empty() {

@@ -173,7 +173,7 @@ module _ (old now new : Tells) (steps : List Step) (k : ℕ) (step : Step) (told
       }
   asking gone _ n t d = tt
 
-  -- in a step that wants memory guests do not meet at a bad item
+  -- in a step that runs out of memory guests do not meet at a bad item
   unmet_there : (cause : RunCause) → length told ≡ k → (cause ≡ causes.OutOfMemory → (s : ℕ) → GuestAsksBad (lone state) step s → ⊥) → RunsOutUnmet before_it steps told cause
   unmet_there causes.OutOfMemory n m = λ other s next g.
       let here : slice_get steps (length told) ≡ Some step = ap (slice_get steps) n ∙ slice_get-get_or steps k step at.inside ∙ ap Some at.is in
@@ -185,7 +185,7 @@ module _ (old now new : Tells) (steps : List Step) (k : ℕ) (step : Step) (told
   unmet_there (causes.HostFailed end) n m = tt
   unmet_there (causes.HostBroke end) n m = tt
 
-  -- where memory was wanted, guests did not meet at a bad item
+  -- where memory had run out, guests did not meet at a bad item
   abbrev pub NoneMet : RunCause → Type 0
   NoneMet cause = cause ≡ causes.OutOfMemory → (s : ℕ) → GuestAsksBad (lone state) step s → ⊥
 

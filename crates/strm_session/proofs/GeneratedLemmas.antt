@@ -152,7 +152,7 @@ sound_after first steps told world k e =
 step_drawn : (steps : List Step) (k : ℕ) (step : Step) → All IsDrawn steps → slice_get steps k ≡ Some step → IsDrawn step
 step_drawn steps k step h e = subst IsDrawn (get_or_from_slice_get steps k step step e) (All-get_or IsDrawn steps k step (slice_get_within steps k step e) h)
 
--- where a run of the generator's steps stops, memory was wanted
+-- where a run of the generator's steps stops, memory had run out
 module _ (old new : Tells) (n seed : ℕ) (told : List Reply) where
   pub generated_stops : (cause : RunCause) → StopsAmong old new (generated n seed) told cause → IsKeptBefore (start_among old new) (generated n seed) told → StopsBy (generated n seed) told cause → cause ≡ causes.OutOfMemory
   generated_stops (causes.BadItem stream) s k b =

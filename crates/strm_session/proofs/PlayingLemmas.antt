@@ -24,7 +24,7 @@ use Rattle.strm_session.specs.declared.playing.Ended.{Ended}
 use Rattle.strm_session.specs.declared.runs.RunCause.{RunCause}
 use Rattle.strm_session.specs.declared.runs.RunCause.TheVariants as causes
 use Rattle.strm_session.specs.Records.{StopsByRecord, StopRules}
-use Rattle.strm_session.specs.Runs.{start_among, AreOfGuests, counts_of, stop_of, StopsAmong, StopsOutOfMemory, LeavesOutOfMemory, Before, StopsStep, StopsAt, HasStopped}
+use Rattle.strm_session.specs.Runs.{start_among, AreOfGuests, received_counts, stop_of, StopsAmong, StopsOutOfMemory, LeavesOutOfMemory, Before, StopsStep, StopsAt, HasStopped}
 use Rattle.strm_session.specs.Playing.{IsRunPlayed, HasRun}
 use Rattle.strm_session.proofs.PlayLemmas.{IsAt, stops, stopped_before}
 use Rattle.strm_host_machine.proofs.DoesLemmas.{extends_self}
@@ -232,7 +232,7 @@ module _ (laws : LawsHold) (aside : StepHolds StaysAside) (put : StepHolds LieTh
       count = p.count;
     }
 
-    pub run_ended : All HoldsItems old.writers → (r : Result Ended RunCause) → IfOk r (λ e. (e.store ≡ state) × (e.moved ≡ counts_of state)) → IfErr r (λ cause. cause ≡ causes.OutOfMemory) → HasRun old new steps told r
+    pub run_ended : All HoldsItems old.writers → (r : Result Ended RunCause) → IfOk r (λ e. (e.store ≡ state) × (e.moved ≡ received_counts state)) → IfErr r (λ cause. cause ≡ causes.OutOfMemory) → HasRun old new steps told r
     run_ended held (Err cause) o e = subst (λ c. HasRun old new steps told (Err c)) (sym e) unkept
     run_ended held (Ok ended) o e =
         let kept = kept_among (start_among old new) (among old new) (leads old new) steps told _ (record { few = few; bytes = bytes }) p.ok in

@@ -9,7 +9,7 @@ use Rattle.strm_lines.specs.Grammar.{IsU32}
 use Rattle.strm_lines.specs.Lines.{lines_of, Spells, IsFirstBadLine, IsTooLong}
 use Rattle.strm_input_output.specs.Serving.{IsOfSource}
 use Rattle.strm_input_output.proofs.ServingLemmas.{source_of_input, is_read}
-use Rattle.strm_session.specs.Serving.{TellsToRun, IsGen, IsStopStatus, IsOfLines, IsStatusOf, PlaysOn, HaltsWith, StandsFor, IsOfInput, IsRunOutput, IsComplete, EndsOrStops, InputWasRun, LeavesUnwritten}
+use Rattle.strm_session.specs.Serving.{TellsToRun, IsGen, IsStopStatus, IsStatusOfLines, IsStatusOf, PlaysOn, HaltsWith, StandsFor, IsOfInput, IsRunOutput, IsComplete, EndsOrStops, InputWasRun, LeavesUnwritten}
 use Rattle.strm_host_machine.specs.Ends.{Writer, Reader}
 use Rattle.strm_host_machine.specs.World.{World}
 use Rattle.strm_host_machine.specs.HostPlays.{HostPlayed, host_play, Ends, Halts}
@@ -42,17 +42,17 @@ abbrev pub Known : ℕ → Type 0
 Known status = (status ≤ 4) ⊎ IsStopStatus status
 
 -- those of lines that are neither of the other two
-zero_of : {status : ℕ} → IsOfLines status → status ≢ 2 → (IsStopStatus status → ⊥) → status ≡ 0
+zero_of : {status : ℕ} → IsStatusOfLines status → status ≢ 2 → (IsStopStatus status → ⊥) → status ≡ 0
 zero_of (inl e) bad stop = e
 zero_of (inr (inl e)) bad stop = absurd (bad e)
 zero_of (inr (inr s)) bad stop = absurd (stop s)
 
-two_of : {status : ℕ} → IsOfLines status → status ≢ 0 → (IsStopStatus status → ⊥) → status ≡ 2
+two_of : {status : ℕ} → IsStatusOfLines status → status ≢ 0 → (IsStopStatus status → ⊥) → status ≡ 2
 two_of (inl e) done stop = absurd (done e)
 two_of (inr (inl e)) done stop = e
 two_of (inr (inr s)) done stop = absurd (stop s)
 
-stop_of_lines : {status : ℕ} → IsOfLines status → status ≢ 0 → status ≢ 2 → IsStopStatus status
+stop_of_lines : {status : ℕ} → IsStatusOfLines status → status ≢ 0 → status ≢ 2 → IsStopStatus status
 stop_of_lines (inl e) done bad = absurd (done e)
 stop_of_lines (inr (inl e)) done bad = absurd (bad e)
 stop_of_lines (inr (inr s)) done bad = s
@@ -136,7 +136,7 @@ module _ {rest : Option (List ℕ)} {old new : Tells} {before after status : ℕ
     not_fault q = calm (h.source.read_fault q).0
 
     module _ (long : IsTooLong input → ⊥) where
-      lines : IsOfLines status
+      lines : IsStatusOfLines status
       lines = is_read h.source (λ q. long (h.source.too_long q).0) not_fault
 
       module _ (steps : List Step) (s : Spells (lines_of input) steps) where
@@ -218,7 +218,7 @@ module _ {rest : Option (List ℕ)} {old new : Tells} {before after status : ℕ
 -- COMPLETENESS
 
 module _ (words : List (List ℕ)) (left rest : Option (List ℕ)) (sb sa kb ka : ℕ) (old new : Tells) where
-  -- nothing is owed where memory was wanted
+  -- nothing is owed where memory had run out
   pub complete_memory : IsComplete words left sb sa kb ka old new 9
   complete_memory = record {
     complete = λ steps r none obey items. inr refl;

@@ -91,7 +91,7 @@ leaves_out_of_memory old new tells told step error _ e l = tt
 pub does_answering : {old new : State} {tells told : Tells} {machine : World → Outcome} (a b : Answered) → a ≡ b → Does old new tells told a machine → Does old new tells told b machine
 does_answering {old} {new} {tells} {told} {machine} a b e d = subst (λ r. Does old new tells told r machine) e d
 
--- of guests alone, a step that stops a run asks for a bad item, or memory was wanted
+-- of guests alone, a step that stops a run asks for a bad item, or memory had run out
 pub meets_stops : (told : List Reply) (old new : State) (step : Step) (error : StoreError) (cause : RunCause) → ◌≡◌ {A = Answered} (call_answered (Err error)) (Err (stop_of cause)) → Meets old new (Err error) (react old step) → StopsStep told old step cause
 meets_stops told old new step (errors.Refused refusal) cause e m = cc
 meets_stops told old new step (errors.HostFailed end) cause e m = absurd m

@@ -93,7 +93,7 @@ module _ (old new : Tells) (steps : List Step) where
   abbrev LedTo : List Reply → World → Type 0
   LedTo replies world = host_play [] first (take (length replies) steps) ≡ Ends replies world
 
-  -- guests meet at a bad item where memory was not wanted
+  -- guests meet at a bad item where memory had not run out
   met-before : (replies told : List Reply) (s : ℕ) (a : AsksBad first steps told s) (g : GuestAsksBad a.world a.step s) (world : World) → LedTo replies world → RunsOutUnmet world steps replies causes.OutOfMemory → length replies ≤ length told → length replies < length told
   met-before replies told s a g world before unmet l =
       ⊎_elim
@@ -110,7 +110,7 @@ module _ (old new : Tells) (steps : List Step) where
   wants-by replies told s a (InCall c) world before unmet l = l
   wants-by replies told s a (InDrive d) world before unmet l = l
 
-  -- a bad item stops a run there, or memory was wanted there or before
+  -- a bad item stops a run there, or memory had run out there or before
   pub stops-in : (replies : List Reply) (cause : RunCause) (told : List Reply) (s : ℕ) (a : AsksBad first steps told s) → StopsAmong old new steps replies cause → StopsIn first steps told s a replies cause
   stops-in replies (causes.BadItem stream) told s a b =
       let e = sym b.halts ∙ asks-halts first refl steps told s a in
@@ -135,7 +135,7 @@ module _ (old new : Tells) (steps : List Step) where
   answers-in (Ok t) ok stop told s a = absurd (halts-ends told t.replies (BadItem s) _ _ _ (sym (asks-halts first refl steps told s a) ∙ ok))
   answers-in (Err e) ok stop told s a = (refl, stops-in e.replies e.cause told s a stop)
 
--- a run that stops where no host end failed, each obeyed its rules, and each item asked for is one, wanted memory
+-- a run that stops where no host end failed, each obeyed its rules, and each item asked for is one, ran out of memory
 pub only_memory : (old new : Tells) (steps : List Step) (told : List Reply) (cause : RunCause) → HasStopped old new steps told cause → NoneRose old new → ObeyRules old new → AsksItems (start_among old new) steps → cause ≡ causes.OutOfMemory
 only_memory old new steps told (causes.HostFailed end) h none obey items = absurd (none end h.stops.raised)
 only_memory old new steps told (causes.HostBroke (ends.Writer n)) h none obey items =

@@ -16,7 +16,7 @@ use Rattle.strm_session.specs.declared.playing.Ended.{Ended}
 use Rattle.strm_session.specs.declared.runs.RunCause.{RunCause}
 use Rattle.strm_session.specs.declared.runs.RunCause.TheVariants as causes
 use Rattle.strm_session.specs.Records.{StopsByRecord, RulesKept, StopRules, HostsGoOn}
-use Rattle.strm_session.specs.Runs.{start_among, AreOfGuests, counts_of, stop_of, StopsAmong, StopsOutOfMemory, StopsAt, StopsStep, LeavesOutOfMemory, IsWhole, HasStopped}
+use Rattle.strm_session.specs.Runs.{start_among, AreOfGuests, received_counts, stop_of, StopsAmong, StopsOutOfMemory, StopsAt, StopsStep, LeavesOutOfMemory, IsWhole, HasStopped}
 
 -- a step was done from this state, and from what host ends told before, or it stopped the run: it is the machine's
 -- among host ends, and after it the store fits what they tell
@@ -24,7 +24,7 @@ pub record IsStepped (old new : State) (tells told : Tells) (step : Step) (resul
   pub ok : IfOk result (λ reply. Does old new tells told (Ok reply) (λ world. outcome_of_step world step))
   pub stop : IfErr result (λ cause. Does old new tells told (Err (stop_of cause)) (λ world. outcome_of_step world step))
   pub out_of_memory : IfErr result (LeavesOutOfMemory old new tells told step)
-  -- where guests meet at a bad item no memory is wanted
+  -- where guests meet at a bad item memory does not run out
   pub unmet : IfErr result (λ cause. cause ≡ causes.OutOfMemory → (s : ℕ) → ¬ GuestAsksBad (lone old) step s)
   pub fits : Fits new told
   pub goes_on : OnOk result (new.trapped ≡ false)
@@ -60,7 +60,7 @@ pub record IsRunPlayed (old new : Tells) (steps : List Step) (told : List Reply)
 -- before and tell after
 pub record HasRun (old new : Tells) (steps : List Step) (told : List Reply) (result : Result Ended RunCause) : Type 0 where
   pub ok : IfOk result (λ e. IsWhole old new steps told e.store)
-  pub received : IfOk result (λ e. e.moved ≡ counts_of e.store)
+  pub received : IfOk result (λ e. e.moved ≡ received_counts e.store)
   pub stop : IfErr result (λ cause. HasStopped old new steps told cause)
   pub hosts : AreOfGuests steps → new ≡ old
   pub goes_on : HostsGoOn old new

@@ -65,7 +65,7 @@ pub record RulesKeptBut (stop : Stop) (old new : Tells) : Type 0 where
   pub writers : (n : ℕ) → WriterKeeps old new n ⊎ WriterTellsWhy stop old new n
   pub readers : (r : ℕ) → ReaderKeeps old new r ⊎ ReaderTellsWhy stop old new r
 
--- the same of a run that stops, which may want memory
+-- the same of a run that stops, which may be out of memory
 abbrev pub StopRules : Option Stop → Tells → Tells → Type 0
 StopRules None old new = Unit {0}
 StopRules (Some stop) old new = RulesKeptBut stop old new

@@ -55,8 +55,8 @@ abbrev pub AreOfGuests : List Step → Type 0
 AreOfGuests steps = All (λ step. is_of_guests (act_of step) ≡ true) steps
 
 -- what was received on each stream, in items
-abbrev pub counts_of : State → List ℕ
-counts_of state = map (λ s. s.received) state.streams
+abbrev pub received_counts : State → List ℕ
+received_counts state = map (λ s. s.received) state.streams
 
 -- the number of the step behind those that were answered, from 1, and not above the last number
 abbrev pub next_step : List Reply → ℕ
@@ -232,7 +232,7 @@ abbrev pub StopsAsking : World → List Step → List Reply → Tells → RunCau
 StopsAsking first steps told new (causes.BadItem s) = StopsBad first steps told new s
 StopsAsking first steps told new _ = Unit {0}
 
--- behind so many replies memory is wanted before the step that asks, or in it where it polls a host reader: a
+-- behind so many replies memory runs out before the step that asks, or in it where it polls a host reader: a
 -- step in which guests meet takes none
 abbrev pub RunsOutBy : (world : World) (step : Step) (s : ℕ) → AsksBadItem world step s → ℕ → ℕ → Type 0
 RunsOutBy world step s (ByGuest asks) wanted asked = wanted < asked
@@ -248,7 +248,7 @@ StopsIn first steps told s asks replies causes.OutOfMemory =
 StopsIn first steps told s asks replies (causes.HostFailed end) = ⊥
 StopsIn first steps told s asks replies (causes.HostBroke end) = ⊥
 
--- where memory was wanted, guests do not meet at a bad item in the next step, if there is one
+-- where memory had run out, guests do not meet at a bad item in the next step, if there is one
 abbrev pub RunsOutUnmet : World → List Step → List Reply → RunCause → Type 0
 RunsOutUnmet world steps told causes.OutOfMemory =
     (step : Step) (s : ℕ) → slice_get steps (length told) ≡ Some step → ¬ GuestAsksBad world step s
@@ -271,7 +271,7 @@ StopUses first steps new (Some stop) =
     ((n : ℕ) → WriterHalts (writer_at state_after_steps n) (writer_at (world_spent state_after_steps.state new) n))
     × ((r : ℕ) → ReaderHalts (reader_at state_after_steps r) (reader_at (world_spent state_after_steps.state new) r))
 
--- the step behind these replies is a drive round, in which memory was wanted before items that a host writer holds
+-- the step behind these replies is a drive round, in which memory ran out before items that a host writer holds
 -- itself were offered along a pipe: host ends tell what they told then
 pub record RunsOutOffer (old new : Tells) (steps : List Step) (told : List Reply) : Type 0 where
   pub world : World
@@ -286,7 +286,7 @@ pub record RunsOutOffer (old new : Tells) (steps : List Step) (told : List Reply
   pub behind : up_to_offer stream writer reader world ≡ Goes replies.Done (world_spent state new)
   pub holds : HoldsBefore stream writer reader state new
 
--- what host ends tell where memory was wanted: what they told behind these replies, or behind one more, which was
+-- what host ends tell where memory had run out: what they told behind these replies, or behind one more, which was
 -- not kept; or what they would tell had one that was polled failed in that poll, with no items, so that the machine
 -- halted behind these replies, but for its record of it; or what they told in a drive round before an offer
 pub data RunsOutThere (old new : Tells) (steps : List Step) (told : List Reply) : Type 0 where
@@ -331,7 +331,7 @@ pub record StopsAmong (old new : Tells) (steps : List Step) (told : List Reply) 
 
 -- OF GUESTS ALONE
 
--- why a step of guests alone stops a run: it asks for a bad item; or memory was wanted, where the
+-- why a step of guests alone stops a run: it asks for a bad item; or memory had run out, where the
 -- machine goes on from it
 abbrev pub StopsStep : List Reply → State → Step → RunCause → Type 0
 StopsStep told state step (causes.BadItem s) = (react state step).reply ≡ replies.BadItem s
@@ -380,7 +380,7 @@ pub record IsWhole (old new : Tells) (steps : List Step) (replies : List Reply) 
 -- which keep the laws, as do the turns of a drive round before the one that stopped. A host end that failed, or
 -- broke the rules of its kind, says so by its last record, which it made in this run, and no other record that was
 -- added does; and a bad item was asked for. Exactly the host ends that became gone were closed, and they used and
--- heard no more than what the laws say but for the records of the step that stopped. Where memory was wanted, they
+-- heard no more than what the laws say but for the records of the step that stopped. Where memory had run out, they
 -- tell what they did before it, or had one of them failed there. Of guests alone it stops as without host ends
 pub record HasStopped (old new : Tells) (steps : List Step) (replies : List Reply) (cause : RunCause) : Type 0 where
   pub stops : StopsAmong old new steps replies cause
@@ -393,7 +393,7 @@ pub record HasStopped (old new : Tells) (steps : List Step) (replies : List Repl
   pub kept_until : (count : ℕ) → HasLawsFirst count (start_among old new) (take (length replies + 1) steps)
   pub alone : AreOfGuests steps → StopsBy steps replies cause
 
--- how a run of these steps comes out, by causes that a caller sees: memory is all that it may want where no
+-- how a run of these steps comes out, by causes that a caller sees: out of memory is its one error where no
 -- host end fails, each record that one added obeys the rules, and each item asked for is one; and it stops
 -- at a bad item that is asked for
 pub record IsDecided (old new : Tells) (steps : List Step) (result : Result Transcript RunStop) : Type 0 where

@@ -19,7 +19,7 @@ use Rattle.strm_lines.specs.Lines.{lines_of, Spells, IsFirstBadLine, IsTooLong}
 use Rattle.strm_session.specs.declared.runs.RunCause.{RunCause}
 use Rattle.strm_session.specs.declared.runs.RunCause.TheVariants as causes
 use Rattle.strm_session.specs.Records.{NoneRose, ObeyRules}
-use Rattle.strm_session.specs.Runs.{start_among, AreOfGuests, counts_of, AsksBad, AsksItems, IsWhole, HasStopped}
+use Rattle.strm_session.specs.Runs.{start_among, AreOfGuests, received_counts, AsksBad, AsksItems, IsWhole, HasStopped}
 use Rattle.strm_lines.specs.Text.{transcript_text, summary_text, stopped_text, usage_text, bad_line_text, too_long_text, read_fault_text}
 
 -- the words behind the program's name tell it to run an input
@@ -43,7 +43,7 @@ pub record IsTranscript (old new : Tells) (input text : List ℕ) : Type 0 where
   pub replies : List Reply
   pub state : State
   pub run : IsWhole old new steps replies state
-  pub text_is : text ≡ transcript_text replies (counts_of state)
+  pub text_is : text ≡ transcript_text replies (received_counts state)
 
 -- the summary of a run of these steps, which are of guests alone
 pub record IsSummary (old new : Tells) (steps : List Step) (text : List ℕ) : Type 0 where
@@ -51,7 +51,7 @@ pub record IsSummary (old new : Tells) (steps : List Step) (text : List ℕ) : T
   pub replies : List Reply
   pub state : State
   pub run : IsWhole old new steps replies state
-  pub text_is : text ≡ summary_text replies (counts_of state)
+  pub text_is : text ≡ summary_text replies (received_counts state)
 
 -- the status by which a run stops, and the cause that it stands for
 abbrev pub IsStatusOf : ℕ → RunCause → Stop → Type 0
@@ -95,15 +95,15 @@ abbrev pub IsStopStatus : ℕ → Type 0
 IsStopStatus status = (6 ≤ status) × (status ≤ 8)
 
 -- the statuses of an input that was read and is within the limits
-abbrev pub IsOfLines : ℕ → Type 0
-IsOfLines status = (status ≡ 0) ⊎ ((status ≡ 2) ⊎ IsStopStatus status)
+abbrev pub IsStatusOfLines : ℕ → Type 0
+IsStatusOfLines status = (status ≡ 0) ⊎ ((status ≡ 2) ⊎ IsStopStatus status)
 
 -- a status but 5 and 9, and its text, of a program that runs an input, by why they come: from the bytes that
 -- the source had left before and has left after, where these are told, what the host ends told before
 -- and tell after, and the source's faults before and after
 pub record IsOfInput (left rest : Option (List ℕ)) (old new : Tells)
     (before after status : ℕ) (text : List ℕ) : Type 0 where
-  pub source : IsOfSource IsOfLines IsTooLong left rest before after status text
+  pub source : IsOfSource IsStatusOfLines IsTooLong left rest before after status text
   pub done : status ≡ 0 → IfSome left (λ input. IsTranscript old new input text)
   pub bad_line : status ≡ 2 → (line : ℕ)
       × IfSome left (λ input. IsFirstBadLine (lines_of input) line) × (text ≡ bad_line_text line)

@@ -11,7 +11,7 @@ ghost use Rattle.strm_host_machine.specs.Steps.{touches};
 ghost use Rattle.strm_host_machine.specs.Does.{Fits};
 ghost use Rattle.strm_transmit.specs.Hosted.{call_answered, lone};
 ghost use Rattle.strm_laws.specs.Starts.{run_start};
-ghost use Rattle.strm_session.specs.Runs.{counts_of, stop_of, HaveRoom};
+ghost use Rattle.strm_session.specs.Runs.{received_counts, stop_of, HaveRoom};
 ghost use Rattle.strm_session.specs.Playing.{IsStepped, IsSteppedAlone, IsRunPlayed, HasRun};
 
 use crate::laws::{laws_hold, laws_hold_among};
@@ -61,7 +61,7 @@ pub(crate) fn play_all<L: GivesSteps, R: KeepsReplies, H: HostEnds>(
 
 // A run that came to its end, with what it received.
 fn finished(alloc: Global, store: Store) -> Result<Ended, RunCause>
-    ensures ok { IfOk result (λ e. (e.store ≡ store) × (e.moved ≡ counts_of store)) }
+    ensures ok { IfOk result (λ e. (e.store ≡ store) × (e.moved ≡ received_counts store)) }
     ensures stop { IfErr result (λ cause. cause ≡ RunCause.OutOfMemory) }
 {
     match counts(alloc, &store) {
@@ -72,7 +72,7 @@ fn finished(alloc: Global, store: Store) -> Result<Ended, RunCause>
 
 // What was received on each stream.
 fn counts(alloc: Global, store: &Store) -> Result<Counts, OutOfMemory>
-    ensures { IfOk result (λ counts. counts ≡ counts_of store.now) }
+    ensures { IfOk result (λ counts. counts ≡ received_counts store.now) }
 {
     let mut counts = Counts::new(alloc);
     for stream in 0..store.streams() {

@@ -4,7 +4,7 @@
 
 ghost use Rattle.std.specs.Prelude.{◌≡◌, ◌≤◌, length, IfOk, IfErr};
 ghost use Rattle.strm_session.specs.Records.{HostsGoOn};
-ghost use Rattle.strm_session.specs.Runs.{HaveRoom, AreOfGuests, counts_of, next_step, IsWhole, HasStopped, IsDecided};
+ghost use Rattle.strm_session.specs.Runs.{HaveRoom, AreOfGuests, received_counts, next_step, IsWhole, HasStopped, IsDecided};
 
 use crate::playing::{Ended, play_all};
 use std::alloc::Global;
@@ -66,7 +66,7 @@ pub fn run<H: HostEnds>(alloc: Global, steps: &[Step], hosts: &mut H) -> Result<
     // laws of every run hold after each of its steps.
     ensures ok { IfOk result (λ t.
         IsWhole (H.tells hosts.old) (H.tells hosts.new) steps.now t.replies t.store) }
-    ensures received { IfOk result (λ t. t.moved ≡ counts_of t.store) }
+    ensures received { IfOk result (λ t. t.moved ≡ received_counts t.store) }
     ensures stop { IfErr result (λ stop.
         HasStopped (H.tells hosts.old) (H.tells hosts.new) steps.now stop.replies stop.cause) }
     ensures at { IfErr result (λ stop. stop.at ≡ next_step stop.replies) }

@@ -5,7 +5,7 @@ use mathlib.Core.List.{IsPrefix}
 use Rattle.strm_shared.specs.declared.store.Closed.{Closed}
 use Rattle.strm_shared.specs.declared.view.View.{View}
 use Rattle.strm_shared.specs.Accounts.{Account}
-use Rattle.strm_shared.specs.Causes.{Ends}
+use Rattle.strm_shared.specs.Causes.{StoreEnds}
 use Rattle.strm_shared.specs.Histories.{IsLegal, state_after, calls_by}
 use Rattle.strm_shared.specs.Plays.{Enters}
 use Rattle.strm_shared.specs.Tokens.{Token, token, last_number, Rests}
@@ -14,9 +14,9 @@ module _ (seat : Token) (table : TableId) (number : ℕ) (view : View) (desk : A
   -- it found this store and this history in its last turn
   pub closes : (ticket : ℕ) → token table number view ≡ seat → Rests number view → Enters view desk →
       ticket < last_number → view.top_ticket ≤ ticket → IsLegal desk.limits desk.log →
-      closed.store ≡ state_after desk.limits desk.log → closed.history.items ≡ desk.log → Ends seat closed
+      closed.store ≡ state_after desk.limits desk.log → closed.history.items ≡ desk.log → StoreEnds seat closed
   closes ticket is rests enters before top legal store_is log_is =
-      subst (λ s. Ends s closed) is (
+      subst (λ s. StoreEnds s closed) is (
         subst (λ l. IsLegal view.limits l) (sym log_is) (subst (λ m. IsLegal m desk.log) enters.of_limits legal),
         store_is ∙ ap (λ m. state_after m desk.log) enters.of_limits ∙ ap (state_after view.limits) (sym log_is),
         subst (IsPrefix view.seen) (sym log_is) enters.grew,

@@ -5,7 +5,7 @@ use mathlib.Core.List.{IsPrefix}
 use lib.ListN.{get_elem?}
 use Rattle.strm_shared.specs.declared.entry.Entry.{Entry}
 use Rattle.strm_shared.specs.declared.view.View.{View}
-use Rattle.strm_shared.specs.Histories.{calls_by, numbers_of, NoneIs, Differ, AreCallsIn}
+use Rattle.strm_shared.specs.Histories.{calls_by, numbers_of_seats, NoneIs, Differ, AreCallsIn}
 use Rattle.strm_shared.specs.Plays.{own_ended, longer, seats_joined, RecallsAll}
 use Rattle.strm_shared.specs.Rules.{total_by, is}
 use Rattle.strm_shared.proofs.FrontLemmas.{calls_between, fronts}
@@ -66,10 +66,10 @@ last_there (x ∷ xs) p = last_there xs p
 pub calls_of_last : (l m : List (ℕ × List Entry)) (p : ℕ × List Entry) (log : List Entry) → AreCallsIn (l ++ (m ++ p ∷ [])) log → calls_by p.0 log ≡ p.1
 calls_of_last l m p log over = (subst (λ e. AreCallsIn e log) (sym (append_assoc l m (p ∷ []))) over) (length (l ++ m)) p (last_there (l ++ m) p)
 
-last_apart : (n : ℕ) (l : List (ℕ × List Entry)) (p : ℕ × List Entry) → NoneIs n (numbers_of (l ++ p ∷ [])) → p.0 ≢ n
+last_apart : (n : ℕ) (l : List (ℕ × List Entry)) (p : ℕ × List Entry) → NoneIs n (numbers_of_seats (l ++ p ∷ [])) → p.0 ≢ n
 last_apart n [] p h = h.0
 last_apart n (x ∷ xs) p h = last_apart n xs p h.1
 
 -- its number
-pub last_differs : (n : ℕ) (l m : List (ℕ × List Entry)) (p : ℕ × List Entry) → Differ (n ∷ numbers_of (l ++ (m ++ p ∷ []))) → p.0 ≢ n
-last_differs n l m p h = last_apart n (l ++ m) p (subst (λ e. NoneIs n (numbers_of e)) (sym (append_assoc l m (p ∷ []))) h.0)
+pub last_differs : (n : ℕ) (l m : List (ℕ × List Entry)) (p : ℕ × List Entry) → Differ (n ∷ numbers_of_seats (l ++ (m ++ p ∷ []))) → p.0 ≢ n
+last_differs n l m p h = last_apart n (l ++ m) p (subst (λ e. NoneIs n (numbers_of_seats e)) (sym (append_assoc l m (p ∷ []))) h.0)

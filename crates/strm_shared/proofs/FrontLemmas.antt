@@ -4,7 +4,7 @@ use Rattle.std.proofs.lemmas.Bool.Decides.{nat_tests}
 use Rattle.std.proofs.lemmas.List.{append-nil}
 use mathlib.Core.List.{IsPrefix}
 use Rattle.strm_shared.specs.declared.entry.Entry.{Entry}
-use Rattle.strm_shared.specs.Histories.{calls_by, numbers_of, NoneIs, Differ}
+use Rattle.strm_shared.specs.Histories.{calls_by, numbers_of_seats, NoneIs, Differ}
 use Rattle.strm_shared.specs.Plays.{longer, shorter}
 use Rattle.strm_shared.specs.Rules.{total_by, is}
 use Rattle.strm_shared.proofs.HistoryLemmas.{calls_by-append}
@@ -90,16 +90,16 @@ module _ (xs ys : List Entry) where
 abbrev pub had : ℕ → List (ℕ × List Entry) → ℕ
 had x ended = total_by (λ (one : ℕ × List Entry). is x (Some one.0)) ended
 
-none_is : (x : ℕ) (ended : List (ℕ × List Entry)) → had x ended ≤ 0 → NoneIs x (numbers_of ended)
+none_is : (x : ℕ) (ended : List (ℕ × List Entry)) → had x ended ≤ 0 → NoneIs x (numbers_of_seats ended)
 none_is x [] h = tt
 none_is x (one ∷ more) h =
     ((λ (e : one.0 ≡ x). omega (arith, h, is-yes x (Some one.0) (ap Some e))), none_is x more (omega (arith, h)))
 
-differ : (ended : List (ℕ × List Entry)) → ((x : ℕ) → had x ended ≤ 1) → Differ (numbers_of ended)
+differ : (ended : List (ℕ × List Entry)) → ((x : ℕ) → had x ended ≤ 1) → Differ (numbers_of_seats ended)
 differ [] once = tt
 differ (one ∷ more) once =
     (none_is one.0 more (omega (arith, once one.0, is-yes one.0 (Some one.0) refl)), differ more (λ x. omega (arith, once x)))
 
-pub differ_with : (n : ℕ) (ended : List (ℕ × List Entry)) → ((x : ℕ) → is x (Some n) + had x ended ≤ 1) → Differ (n ∷ numbers_of ended)
+pub differ_with : (n : ℕ) (ended : List (ℕ × List Entry)) → ((x : ℕ) → is x (Some n) + had x ended ≤ 1) → Differ (n ∷ numbers_of_seats ended)
 differ_with n ended once =
     (none_is n ended (omega (arith, once n, is-yes n (Some n) refl)), differ ended (λ x. omega (arith, once x)))

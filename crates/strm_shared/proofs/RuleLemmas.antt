@@ -17,7 +17,7 @@ use Rattle.strm_shared.specs.Histories.{calls_by}
 use Rattle.strm_shared.specs.Waits.{waits_by}
 use Rattle.strm_shared.specs.Accounts.{Account, account, opened}
 use Rattle.strm_shared.specs.Rules.{total_by, is, has_ticket, has_number, SeatFits, IsSlotOut, Orderly}
-use Rattle.strm_shared.specs.Plays.{Seated, first_view, looked, queued, holding, turn_passed, own, own_waits, own_ended, looked_seats, seat_numbered, old_half, new_half, seats_joined, seat_spent, RecallsAll, looks, draws, seat_waits, passes, recalls, looks_seats, numbers, IsTurn}
+use Rattle.strm_shared.specs.Plays.{Seated, first_view, looked, queued, holding, turn_passed, own, own_waits, own_ended, looked_seats, seat_numbered, old_half, new_half, seats_joined, seat_spent, RecallsAll, looks, draws, seat_waits, passes_turn, recalls, looks_seats, numbers, IsTurn}
 use Rattle.strm_shared.proofs.HistoryLemmas.{calls_by-other}
 use Rattle.strm_shared.proofs.FrontLemmas.{front_self, front_trans, none_before, differ_with}
 use Rattle.strm_shared.proofs.EndedLemmas.{nothing_over, in_append, own_total, own_over, longer_has, join_recalls}
@@ -374,7 +374,7 @@ record HasTurned (limit : Limits) (v : View) (a : Account) (more : List Entry) :
   apart : (k : ℕ) → v.number ≢ Some k → waits_by k a.waits ≡ waits_by k v.found
 
 passes_at : (limit : Limits) (n id : ℕ) (v : View) (a : Account) (more : List Entry) → n ≡ 1 → HasTurned limit v a more
-    → Allows (Orderly limit) n id (v, (0, Some a) ∷ []) 1 (λ y. (y + 1) % 18446744073709551616) (passes (step n 1 1 0 none) (v, (0, Some a) ∷ []))
+    → Allows (Orderly limit) n id (v, (0, Some a) ∷ []) 1 (λ y. (y + 1) % 18446744073709551616) (passes_turn (step n 1 1 0 none) (v, (0, Some a) ∷ []))
 passes_at limit n id v a more one turned s o wide me _ =
     let of_limits = turned.of_limits in let holds = turned.holds in let lim = turned.lim in let grew = turned.grew in let how = turned.how in let idled = turned.idled in let apart = turned.apart in
     let x : ℕ = get_or s.words 1 0 in let found : x ≡ o.serving = ap (λ l. get_or l 1 0) o.words in
@@ -438,10 +438,10 @@ passes_at limit n id v a more one turned s o wide me _ =
     )
 
 pub pass_keeps : (limit : Limits) (n id : ℕ) (m : Seated) (a : Account) → n ≡ 1 → m.0.limits ≡ limit → m.0.holds ≡ true → m.1 ≡ (0, Some a) ∷ [] → IsTurn m.0 a
-    → Allows (Orderly limit) n id m 1 (λ y. (y + 1) % 18446744073709551616) (passes (step n 1 1 0 none) m)
+    → Allows (Orderly limit) n id m 1 (λ y. (y + 1) % 18446744073709551616) (passes_turn (step n 1 1 0 none) m)
 pass_keeps limit n id m a one of_limits holds has turn =
     let v : View = m.0 in
-    let P : List (ℕ × Option Account) → Type 0 = λ c. Allows (Orderly limit) n id (v, c) 1 (λ y. (y + 1) % 18446744073709551616) (passes (step n 1 1 0 none) (v, c)) in
+    let P : List (ℕ × Option Account) → Type 0 = λ c. Allows (Orderly limit) n id (v, c) 1 (λ y. (y + 1) % 18446744073709551616) (passes_turn (step n 1 1 0 none) (v, c)) in
     subst P (sym has) (⊎_elim
     (λ (q : (e : Entry) × (v.number ≡ Some e.seat) × (a.log ≡ v.seen ++ e ∷ []) × (a.idle ≡ v.idle)).
     passes_at limit n id v a (q.0 ∷ []) one (record { of_limits = of_limits; holds = holds; lim = turn.0; grew = q.2; how = inr (q.0, q.1, refl); idled = omega (arith, q.3); apart = turn.2 }))

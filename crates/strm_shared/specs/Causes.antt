@@ -169,8 +169,8 @@ Joined old from new =
 
 -- what a store ends with: a legal history, of which the seat has seen a front, with its entries and those of
 -- the seats that ended in it, and the store that the machine comes to by it; and a ticket was left
-abbrev pub Ends : Token → Closed → Type 0
-Ends seat closed =
+abbrev pub StoreEnds : Token → Closed → Type 0
+StoreEnds seat closed =
     IsLegal seat.limits closed.history.items × (closed.store ≡ state_after seat.limits closed.history.items)
     × IsPrefix seat.seen closed.history.items × (calls_by seat.number closed.history.items ≡ seat.mine)
     × AreCallsIn seat.ended closed.history.items × (seat.top_ticket < last_number)

@@ -47,8 +47,8 @@ calls_by number (first ∷ more) =
 -- SEATS THAT ENDED, EACH BY ITS NUMBER AND ITS CALLS
 
 -- their numbers
-abbrev pub numbers_of : List (ℕ × List Entry) → List ℕ
-numbers_of ended = map (λ (one : ℕ × List Entry). one.0) ended
+abbrev pub numbers_of_seats : List (ℕ × List Entry) → List ℕ
+numbers_of_seats ended = map (λ (one : ℕ × List Entry). one.0) ended
 
 -- the calls of each in a history are these
 abbrev pub AreCallsIn : List (ℕ × List Entry) → List Entry → Type 0

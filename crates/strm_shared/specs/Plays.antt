@@ -9,7 +9,7 @@ use Rattle.strm_shared.specs.declared.entry.Entry.{Entry}
 use Rattle.strm_shared.specs.declared.entry.Place.{Place}
 use Rattle.strm_shared.specs.declared.entry.Wait.{Wait}
 use Rattle.strm_shared.specs.declared.view.View.{View}
-use Rattle.strm_shared.specs.Histories.{calls_by, numbers_of, AreCallsIn, Differ}
+use Rattle.strm_shared.specs.Histories.{calls_by, numbers_of_seats, AreCallsIn, Differ}
 use Rattle.strm_shared.specs.Waits.{waits_by}
 use Rattle.strm_shared.specs.Accounts.{Account}
 
@@ -74,7 +74,7 @@ RecallsAll view = Recalls view.number view.seen view.mine view.behind view.ended
 
 -- the seat and those that ended in it have different numbers
 abbrev pub IsSeatApart : View → Type 0
-IsSeatApart view = (n : ℕ) → view.number ≡ Some n → Differ (n ∷ numbers_of view.ended)
+IsSeatApart view = (n : ℕ) → view.number ≡ Some n → Differ (n ∷ numbers_of_seats view.ended)
 
 -- a look that changes nothing: it tells that what the seat has seen is one history
 abbrev pub recalls : SeatPlay
@@ -96,8 +96,8 @@ seat_waits step me found new =
     × (me.0.ticket ≢ Some found → new ≡ me)
 
 -- the turn is passed, once the value lies in the slot again
-abbrev pub passes : SeatPlay
-passes step me found new =
+abbrev pub passes_turn : SeatPlay
+passes_turn step me found new =
     (value : Account) → me.1 ≡ (0, Some value) ∷ [] → (new ≡ (turn_passed me.0 value, [])) × RecallsAll new.0
 
 -- what a turn may do: one entry of the seat, or an idle turn; and the waits of others stay

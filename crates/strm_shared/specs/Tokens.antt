@@ -8,7 +8,7 @@ use Rattle.strm_shared.specs.declared.entry.Entry.{Entry}
 use Rattle.strm_shared.specs.declared.entry.Place.{Place}
 use Rattle.strm_shared.specs.declared.entry.Wait.{Wait}
 use Rattle.strm_shared.specs.declared.view.View.{View}
-use Rattle.strm_shared.specs.Histories.{IsLegal, state_after, calls_by, numbers_of, AreCallsIn, Differ}
+use Rattle.strm_shared.specs.Histories.{IsLegal, state_after, calls_by, numbers_of_seats, AreCallsIn, Differ}
 use Rattle.strm_shared.specs.Plays.{Seated, RecallsAll, IsSeatApart}
 use Rattle.strm_shared.specs.Waits.{wait, waits_by, without, waits_begun, waits_for, IsClear, AreWaits}
 
@@ -76,7 +76,7 @@ pub record IsOneHistory (seat : Token) : Type 0 where
   pub legal : IsLegal seat.limits seat.seen
   pub own : calls_by seat.number seat.seen ≡ seat.mine
   pub over : Over seat
-  pub apart : Differ (seat.number ∷ numbers_of seat.ended)
+  pub apart : Differ (seat.number ∷ numbers_of_seats seat.ended)
 
 -- whatever a call answers: what a seat had seen is a front of what it has seen, which is one legal history, and
 -- the same seats have ended in it

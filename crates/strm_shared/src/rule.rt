@@ -3,7 +3,7 @@
 //! Meaning: `Rules.antt` and `Plays.antt`. Ours.
 
 ghost use Rattle.strm_shared.specs.Rules.{Orderly};
-ghost use Rattle.strm_shared.specs.Plays.{first_view, looks, draws, seat_waits, passes, recalls, looks_seats, numbers, old_half, new_half, seats_joined, seat_spent};
+ghost use Rattle.strm_shared.specs.Plays.{first_view, looks, draws, seat_waits, passes_turn, recalls, looks_seats, numbers, old_half, new_half, seats_joined, seat_spent};
 
 use crate::desk::Desk;
 use crate::view::View;
@@ -44,7 +44,7 @@ impl Play<Option<Desk>, View> for Await {
 pub struct Pass;
 
 impl Play<Option<Desk>, View> for Pass {
-    ghost then = { passes };
+    ghost then = { passes_turn };
 }
 
 /// A look that changes nothing.

@@ -54,7 +54,7 @@ pub struct SharedStore {
 impl SharedStore {
     ghost use Rattle.strm_shared.specs.declared.errors.SharedError.TheVariants.{OutOfMemory};
     ghost use Rattle.strm_shared.specs.Tokens.{token, last_number, Same, HistoryStays};
-    ghost use Rattle.strm_shared.specs.Causes.{Ends, IsOf};
+    ghost use Rattle.strm_shared.specs.Causes.{StoreEnds, IsOf};
 
     /// A store without guests, and its first seat, of number 0. No error comes but OutOfMemory.
     pub fn open(alloc: Global, limits: Limits) -> Result<(SharedStore, Seat), SharedError>
@@ -87,7 +87,7 @@ impl SharedStore {
     /// it has the store alone; the other seats are of no use any more.
     pub fn close<R: Wait>(self, rt: &R, seat: Seat) -> Result<Closed, Unclosed>
         requires { IsOf self seat }
-        ensures ok { IfOk result (λ closed. Ends seat closed) }
+        ensures ok { IfOk result (λ closed. StoreEnds seat closed) }
         ensures err { IfErr result (λ kept. (kept.store ≡ self) × (kept.ticket ≡ last_number)
             × HistoryStays seat kept.seat × Same seat kept.seat) }
     {

@@ -11,7 +11,7 @@ use Rattle.strm_buffers.specs.Said.{WriterSaid}
 use Rattle.strm_lines.proofs.CutLemmas.{option_map_some}
 use Rattle.strm_tape.specs.Spelling.{writer_record_bytes, IsWriterRecord}
 use Rattle.strm_tape.specs.Reading.{Found, many, read_writer_record}
-use Rattle.strm_tape.specs.Spelled.{Recorded, recorded_in, things_of, records_in, AreSpelled}
+use Rattle.strm_tape.specs.Spelled.{Recorded, recorded_in, things_of, records_in, AreSpelledRecords}
 use Rattle.strm_tape.proofs.ReadingLemmas.{IsReading}
 use Rattle.strm_tape.proofs.RecordLemmas.{IsReading-many}
 use Rattle.strm_tape.proofs.TapeLemmas.{IsReading-writer_record}
@@ -53,14 +53,14 @@ module _ {A : Type 0} (read : List ℕ → Found A) where
 -- the bytes up to what follows so many records
 pub record Front (payload : Payload) (n : ℕ) (bytes rest : List ℕ) : Type 0 where
   pub short : length rest ≤ length bytes
-  pub spelled : AreSpelled payload n (take (length bytes - length rest) bytes)
+  pub spelled : AreSpelledRecords payload n (take (length bytes - length rest) bytes)
   pub is : Some (records_in payload n (take (length bytes - length rest) bytes), rest) ≡ many (read_writer_record payload) n bytes
 
 -- what is left behind the first record, in the bytes that are lent
 pub record Taken (payload : Payload) (n : ℕ) (bytes slice rest : List ℕ) (said : List WriterSaid) (first : WriterSaid) : Type 0 where
   pub short : length rest ≤ length slice
   pub some : 1 ≤ n
-  pub behind : AreSpelled payload (n - 1) (drop (length slice - length rest) bytes)
+  pub behind : AreSpelledRecords payload (n - 1) (drop (length slice - length rest) bytes)
   pub is : said ≡ first ∷ records_in payload (n - 1) (drop (length slice - length rest) bytes)
 
 -- these records are spelled by these bytes
@@ -73,24 +73,24 @@ module _ (payload : Payload) where
   reading : (n : ℕ) → IsReading (many (read_writer_record payload) n) (flat_map writer_record_bytes) (λ xs. (length xs ≡ n) × All (IsWriterRecord payload) xs)
   reading n = IsReading-many (IsReading-writer_record payload) n
 
-  pub spelling_of : (n : ℕ) (bytes : List ℕ) → IsBytes bytes → AreSpelled payload n bytes → IsSpelling payload (records_in payload n bytes) n bytes
+  pub spelling_of : (n : ℕ) (bytes : List ℕ) → IsBytes bytes → AreSpelledRecords payload n bytes → IsSpelling payload (records_in payload n bytes) n bytes
   spelling_of n bytes f s =
       let said = records_in payload n bytes in
       let r : (flat_map writer_record_bytes said ++ [] ≡ bytes) × ((length said ≡ n) × All (IsWriterRecord payload) said) = (reading n).sound bytes [] said f s.are in
       record { are = sym (append-nil (flat_map writer_record_bytes said)) ∙ r.0; count = r.1.0; each = r.1.1 }
 
-  kept_of : (n : ℕ) (bytes : List ℕ) (said : List WriterSaid) → many (read_writer_record payload) n bytes ≡ Some (said, []) → (records_in payload n bytes ≡ said) × AreSpelled payload n bytes
+  kept_of : (n : ℕ) (bytes : List ℕ) (said : List WriterSaid) → many (read_writer_record payload) n bytes ≡ Some (said, []) → (records_in payload n bytes ≡ said) × AreSpelledRecords payload n bytes
   kept_of n bytes said e =
       let is : records_in payload n bytes ≡ said = ap things_of e in
       (is, record { are = e ∙ ap (λ xs. Some (xs, [])) (sym is) })
 
-  pub spelled_by : (n : ℕ) (bytes : List ℕ) (said : List WriterSaid) → IsSpelling payload said n bytes → (records_in payload n bytes ≡ said) × AreSpelled payload n bytes
+  pub spelled_by : (n : ℕ) (bytes : List ℕ) (said : List WriterSaid) → IsSpelling payload said n bytes → (records_in payload n bytes ≡ said) × AreSpelledRecords payload n bytes
   spelled_by n bytes said s =
       kept_of n bytes said
       (ap (many (read_writer_record payload) n) (sym s.are ∙ sym (append-nil (flat_map writer_record_bytes said))) ∙ (reading n).complete said [] (s.count, s.each))
 
   -- what is spelled, seen in the bytes that are lent
-  pub seen : (n : ℕ) (bytes slice : List ℕ) (v : Recorded) → IsBytes slice → slice ≡ bytes → AreSpelled payload n bytes → record { payload = payload; said = records_in payload n bytes } ≡ v → IsSpelling v.payload v.said n slice
+  pub seen : (n : ℕ) (bytes slice : List ℕ) (v : Recorded) → IsBytes slice → slice ≡ bytes → AreSpelledRecords payload n bytes → record { payload = payload; said = records_in payload n bytes } ≡ v → IsSpelling v.payload v.said n slice
   seen n bytes slice v f e s is =
       subst (λ (u : Recorded). IsSpelling u.payload u.said n slice) is
       (subst (IsSpelling payload (records_in payload n bytes) n) (sym e) (spelling_of n bytes (subst IsBytes e f) s))
@@ -113,7 +113,7 @@ module _ (payload : Payload) where
       })
 
   -- the first of some is there
-  pub first_there : (n : ℕ) (bytes : List ℕ) → IsBytes bytes → AreSpelled payload n bytes → 0 < length (records_in payload n bytes) → None ≡ read_writer_record payload bytes → ⊥
+  pub first_there : (n : ℕ) (bytes : List ℕ) → IsBytes bytes → AreSpelledRecords payload n bytes → 0 < length (records_in payload n bytes) → None ≡ read_writer_record payload bytes → ⊥
   first_there n bytes f s some e =
       let some_left : 0 < n = omega (arith, some, (spelling_of n bytes f s).count) in
       none-some (records_in payload n bytes, []) (after_none-many n bytes some_left (sym e) ∙ s.are)
@@ -126,7 +126,7 @@ module _ (payload : Payload) where
           by (Some p) g = absurd (none-some ([] ++ p.0, p.1) (sym g))
 
   -- the others stand behind it
-  pub behind_first : (n : ℕ) (bytes rest : List ℕ) (first : WriterSaid) → IsBytes bytes → AreSpelled payload n bytes → 0 < length (records_in payload n bytes) → Some (first, rest) ≡ read_writer_record payload bytes → let behind = drop (length bytes - length rest) bytes in AreSpelled payload (n - 1) behind × (records_in payload n bytes ≡ first ∷ records_in payload (n - 1) behind)
+  pub behind_first : (n : ℕ) (bytes rest : List ℕ) (first : WriterSaid) → IsBytes bytes → AreSpelledRecords payload n bytes → 0 < length (records_in payload n bytes) → Some (first, rest) ≡ read_writer_record payload bytes → let behind = drop (length bytes - length rest) bytes in AreSpelledRecords payload (n - 1) behind × (records_in payload n bytes ≡ first ∷ records_in payload (n - 1) behind)
   behind_first n bytes rest first f s some e =
       let more : n ≡ suc (n - 1) = omega (arith, some, (spelling_of n bytes f s).count) in
       let r = (IsReading-writer_record payload).sound bytes rest first f (sym e) in
@@ -138,10 +138,10 @@ module _ (payload : Payload) where
       option_map_some (λ (p : List WriterSaid × List ℕ). ((first ∷ []) ++ p.0, p.1)) (many (read_writer_record payload) (n - 1) rest) (records_in payload n bytes, []) found (λ p g is.
       let none : p.1 ≡ [] = ap (λ q. q.1) is in
       let kept = kept_of (n - 1) rest p.0 (g ∙ ap (λ l. Some (p.0, l)) none) in
-      (subst (AreSpelled payload (n - 1)) (sym behind) kept.1, sym (ap (λ q. q.0) is) ∙ ap (λ xs. first ∷ xs) (sym kept.0 ∙ ap (records_in payload (n - 1)) (sym behind))))
+      (subst (AreSpelledRecords payload (n - 1)) (sym behind) kept.1, sym (ap (λ q. q.0) is) ∙ ap (λ xs. first ∷ xs) (sym kept.0 ∙ ap (records_in payload (n - 1)) (sym behind))))
 
   -- the same by the bytes that are lent
-  module _ (n : ℕ) (bytes slice : List ℕ) (v : Recorded) (f : IsBytes slice) (e : slice ≡ bytes) (s : AreSpelled payload n bytes) (is : recorded_in payload n bytes ≡ v) (some : 0 < length v.said) where
+  module _ (n : ℕ) (bytes slice : List ℕ) (v : Recorded) (f : IsBytes slice) (e : slice ≡ bytes) (s : AreSpelledRecords payload n bytes) (is : recorded_in payload n bytes ≡ v) (some : 0 < length v.said) where
     some_there : 0 < length (records_in payload n bytes)
     some_there = omega (arith, some, ap (λ (u : Recorded). length u.said) is)
 

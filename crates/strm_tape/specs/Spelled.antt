@@ -23,5 +23,5 @@ abbrev pub recorded_in : Payload → ℕ → List ℕ → Recorded
 recorded_in payload n bytes = record { payload = payload; said = records_in payload n bytes }
 
 -- the bytes are so many records, one behind the other, and nothing more
-pub record AreSpelled (payload : Payload) (n : ℕ) (bytes : List ℕ) : Type 0 where
+pub record AreSpelledRecords (payload : Payload) (n : ℕ) (bytes : List ℕ) : Type 0 where
   pub are : many (read_writer_record payload) n bytes ≡ Some (records_in payload n bytes, [])

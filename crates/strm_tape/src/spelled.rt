@@ -29,13 +29,13 @@ pub(crate) struct SpelledRecords {
 }
 
 impl Model for SpelledRecords {
-    ghost use Rattle.strm_tape.specs.Spelled.{Recorded, recorded_in, AreSpelled};
+    ghost use Rattle.strm_tape.specs.Spelled.{Recorded, recorded_in, AreSpelledRecords};
 
     ghost Value = { Recorded };
 
     ghost view = { λ r. recorded_in r.payload r.count r.bytes };
 
-    ghost invariant = { λ r. AreSpelled r.payload r.count r.bytes };
+    ghost invariant = { λ r. AreSpelledRecords r.payload r.count r.bytes };
 }
 
 impl SpelledRecords {

@@ -12,7 +12,7 @@ use Rattle.strm_lines.proofs.LineLemmas.{spelled_not_bad}
 use Rattle.strm_tape_runs.specs.Taking.{NoneHolds, HoldsNone, IsFirstHolding}
 use Rattle.strm_input_output.specs.Serving.{IsOfSource}
 use Rattle.strm_input_output.proofs.ServingLemmas.{source_of_input, is_read}
-use Rattle.strm_tape_program.specs.Taking.{IsOfLines, IsOfScript, IsTakeStatus}
+use Rattle.strm_tape_program.specs.Taking.{IsStatusOfScript, IsOfScript, IsTakeStatus}
 
 -- where no host writer holds items, none is the first that does
 pub none_first : (n : ℕ) (tells : Tells) → NoneHolds tells → IsFirstHolding n tells → ⊥
@@ -43,7 +43,7 @@ module _ {rest : Option (List ℕ)} {old new : Tells} {before after status : ℕ
 
   module _ (input : List ℕ) (h : IsOfScript (Some input) rest old new before after status text) (calm : Rose before after → ⊥) (short : IsTooLong input → ⊥) where
     -- of an input within the limits, that nothing else is told
-    done_or_bad : IsOfLines status
+    done_or_bad : IsStatusOfScript status
     done_or_bad = is_read h.source (λ q. short (h.source.too_long q).0) (λ q. calm (h.source.read_fault q).0)
 
     pub done_of : (steps : List Step) → Spells (lines_of input) steps → status ≡ 0
@@ -64,7 +64,7 @@ module _ {left rest : Option (List ℕ)} {old new : Tells} {before after status 
   pub unfailed : (status ≢ 5) × (status ≢ 9)
   unfailed = by h.source.known
     where
-      by : IsOfLines status ⊎ ((status ≡ 3) ⊎ (status ≡ 4)) → (status ≢ 5) × (status ≢ 9)
+      by : IsStatusOfScript status ⊎ ((status ≡ 3) ⊎ (status ≡ 4)) → (status ≢ 5) × (status ≢ 9)
       by (inl (inl e)) = (λ q. omega (arith, e, q), λ q. omega (arith, e, q))
       by (inl (inr e)) = (λ q. omega (arith, e, q), λ q. omega (arith, e, q))
       by (inr (inl e)) = (λ q. omega (arith, e, q), λ q. omega (arith, e, q))
@@ -74,7 +74,7 @@ module _ {left rest : Option (List ℕ)} {old new : Tells} {before after status 
   pub written_known : (answered : ℕ) {Taken : Type 0} → (answered ≢ 5 → (answered ≡ status) × Taken) → IsTakeStatus answered
   written_known answered told = by (cases_eq answered 5)
     where
-      of : IsOfLines status ⊎ ((status ≡ 3) ⊎ (status ≡ 4)) → answered ≡ status → IsTakeStatus answered
+      of : IsStatusOfScript status ⊎ ((status ≡ 3) ⊎ (status ≡ 4)) → answered ≡ status → IsTakeStatus answered
       of (inl (inl e)) q = inl (q ∙ e)
       of (inl (inr e)) q = inr (inl (q ∙ e))
       of (inr (inl e)) q = inr (inr (inl (q ∙ e)))
@@ -88,8 +88,8 @@ module _ {left rest : Option (List ℕ)} {old new : Tells} {before after status 
   pub told_too_long : (input : List ℕ) → left ≡ Some input → (Rose before after → ⊥) → IsTooLong input → status ≡ 3
   told_too_long input e calm long = by (cases_eq status 3)
     where
-      source : IsOfSource IsOfLines IsTooLong (Some input) rest before after status text
-      source = subst (λ l. IsOfSource IsOfLines IsTooLong l rest before after status text) e h.source
+      source : IsOfSource IsStatusOfScript IsTooLong (Some input) rest before after status text
+      source = subst (λ l. IsOfSource IsStatusOfScript IsTooLong l rest before after status text) e h.source
 
       by : (status ≡ 3) ⊎ (status ≢ 3) → status ≡ 3
       by (inl q) = q

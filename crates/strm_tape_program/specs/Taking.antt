@@ -30,15 +30,15 @@ pub record IsTaken (old new : Tells) (input text : List ℕ) : Type 0 where
   pub text_is : text ≡ tape_spelling (tape_of_run steps old new)
 
 -- the statuses of a script that was read and is within the limits
-abbrev pub IsOfLines : ℕ → Type 0
-IsOfLines status = (status ≡ 0) ⊎ (status ≡ 2)
+abbrev pub IsStatusOfScript : ℕ → Type 0
+IsStatusOfScript status = (status ≡ 0) ⊎ (status ≡ 2)
 
 -- a status but 5 and 9, and what is written with it, by why they come: from the bytes that the source had left
 -- before and has left after, where these are told, what the host ends told before and tell after, and the
 -- source's faults before and after
 pub record IsOfScript (left rest : Option (List ℕ)) (old new : Tells)
     (before after status : ℕ) (text : List ℕ) : Type 0 where
-  pub source : IsOfSource IsOfLines IsTooLong left rest before after status text
+  pub source : IsOfSource IsStatusOfScript IsTooLong left rest before after status text
   pub done : status ≡ 0 → IfSome left (λ input. IsTaken old new input text)
   pub bad_line : status ≡ 2 → (line : ℕ)
       × IfSome left (λ input. IsFirstBadLine (lines_of input) line) × (text ≡ bad_line_text line)

@@ -9,7 +9,7 @@ use Rattle.strm_session.specs.declared.runs.RunCause.{RunCause}
 use Rattle.strm_session.specs.declared.runs.RunCause.TheVariants as causes
 use Rattle.strm_session.specs.declared.runs.RunStop.{RunStop}
 use Rattle.strm_session.specs.declared.runs.Transcript.{Transcript}
-use Rattle.strm_session.specs.Runs.{stop_of, counts_of, next_step}
+use Rattle.strm_session.specs.Runs.{stop_of, received_counts, next_step}
 use Rattle.strm_tape.specs.Spelling.{TapeOf}
 use Rattle.strm_tape_runs.specs.Playing.{PlaysToEnd, PlaysToStop, IsPlayOf}
 
@@ -54,7 +54,7 @@ module _ (tape : TapeOf) where
   one_end t u p q =
       let same = sym p.plays ∙ q.plays in
       let state = p.state ∙ ap (λ (o : HostPlayed). (ended_at p.end o).state) same ∙ sym q.state in
-      let counts = p.counts ∙ ap (λ (o : HostPlayed). counts_of (ended_at p.end o).state) same ∙ sym q.counts in
+      let counts = p.counts ∙ ap (λ (o : HostPlayed). received_counts (ended_at p.end o).state) same ∙ sym q.counts in
       let replies = ap told_in same in
       λ i. record { replies = replies i; moved = counts i; store = state i }
 

@@ -31,7 +31,7 @@ use Rattle.strm_session.specs.declared.runs.RunStop.{RunStop}
 use Rattle.strm_session.specs.declared.runs.Transcript.{Transcript}
 use Rattle.strm_session.specs.Records.{HostsGoOn}
 use Rattle.strm_laws.specs.Starts.{run_start}
-use Rattle.strm_session.specs.Runs.{start_among, stop_of, counts_of, halted_in, HaltsBy}
+use Rattle.strm_session.specs.Runs.{start_among, stop_of, received_counts, halted_in, HaltsBy}
 use Rattle.strm_host_machine.proofs.DoesLemmas.{extends_self}
 use Rattle.strm_tape.specs.Spelling.{WriterTape, ReaderTape}
 use Rattle.strm_codes.specs.declared.codes.TransmitIndex.{TransmitIndex}
@@ -194,7 +194,7 @@ run_plays alike steps old new (Ok t) held r m =
     let tape = tape_of_run steps old new in
     let out = subst (λ (p : HostPlayed). ComeOutAlike p (host_play [] (taped_world tape) steps)) r.ok.played (alike (start_among old new) (taped_world tape) steps (alike_tape steps old new held r.goes_on)) in
     let ends = ends_too t.replies (world_spent t.store new) (host_play [] (taped_world tape) steps) out in
-    record { end = ends.end; plays = ends.ends; state = ends.state; counts = r.received ∙ ap counts_of ends.state }
+    record { end = ends.end; plays = ends.ends; state = ends.state; counts = r.received ∙ ap received_counts ends.state }
 run_plays alike steps old new (Err s) held r m =
     let tape = tape_of_run steps old new in
     let why = stop_found s.cause m in

@@ -12,7 +12,7 @@ use Rattle.strm_session.specs.declared.runs.RunStop.{RunStop}
 use Rattle.strm_session.specs.declared.runs.Transcript.{Transcript}
 use Rattle.strm_session.specs.Records.{HostsGoOn}
 use Rattle.strm_laws.specs.Starts.{run_start}
-use Rattle.strm_session.specs.Runs.{counts_of, next_step, stop_of, AreOfGuests, IsWhole, HasStopped, IsDecided}
+use Rattle.strm_session.specs.Runs.{received_counts, next_step, stop_of, AreOfGuests, IsWhole, HasStopped, IsDecided}
 use Rattle.strm_tape.specs.Spelling.{WriterTape, ReaderTape, TapeOf}
 use Rattle.strm_tape_runs.specs.Taking.{NoneHolds, writer_type, reader_type, tape_of_run}
 
@@ -20,7 +20,7 @@ use Rattle.strm_tape_runs.specs.Taking.{NoneHolds, writer_type, reader_type, tap
 -- says of it
 pub record IsRunOfSteps (old new : Tells) (steps : List Step) (end : Result Transcript RunStop) : Type 0 where
   pub ok : IfOk end (λ t. IsWhole old new steps t.replies t.store)
-  pub received : IfOk end (λ t. t.moved ≡ counts_of t.store)
+  pub received : IfOk end (λ t. t.moved ≡ received_counts t.store)
   pub stop : IfErr end (λ s. HasStopped old new steps s.replies s.cause)
   pub at : IfErr end (λ s. s.at ≡ next_step s.replies)
   pub goes_on : HostsGoOn old new
@@ -81,7 +81,7 @@ pub record PlaysToEnd (tape : TapeOf) (t : Transcript) : Type 0 where
   pub end : World
   pub plays : host_play [] (taped_world tape) tape.steps ≡ Ends t.replies end
   pub state : t.store ≡ end.state
-  pub counts : t.moved ≡ counts_of end.state
+  pub counts : t.moved ≡ received_counts end.state
 
 -- it halts so
 pub record PlaysToStop (tape : TapeOf) (s : RunStop) : Type 0 where

@@ -28,7 +28,7 @@ use Rattle.strm_machine.proofs.HostLemmas.{no_host}
 use Rattle.strm_machine.proofs.RefusalLemmas.{PairFits, pair_fits, not_refused, neither, not_lt}
 use Rattle.strm_channels.specs.Guests.{guests_of, live_in, sets_among}
 use Rattle.strm_host_machine.specs.Does.{Fits}
-use Rattle.strm_places.specs.Again.{IsFree, Behind, Again, made_pair_at, with_stream_in, performs_at, reaction_at}
+use Rattle.strm_places.specs.Again.{IsFree, Behind, Again, made_pair_at, with_pair_at, performs_at, reaction_at}
 use Rattle.strm_places.proofs.AgainLemmas.{put-again, performs_at-behind, reaction_at-behind, reaction_at-by, IsSound-put_at, StateIsHeld-put_at, next-read_end}
 use Rattle.strm_transmit.specs.Again.{MeetsAt, GrowsFull}
 use Rattle.strm_transmit.specs.Guests.{nobody}
@@ -68,8 +68,8 @@ numbers-same old n writer reader ty =
     ap (λ k. (next_index (guest_in (guests_of old.guests.items) reader).handles, k)) (next-read_end (guests_of old.guests.items) reader writer ty n (length old.streams.items))
 
 module _ (old new : Inside) (n writer reader : ℕ) (ty : TransmitIndex) (h : MakesAgain old new n writer reader ty) where
-  state_of-again : state_of new ≡ with_stream_in (state_of old) n writer reader ty
-  unfolding with_stream_in
+  state_of-again : state_of new ≡ with_pair_at (state_of old) n writer reader ty
+  unfolding with_pair_at
   state_of-again =
       rw (h.same.tag, h.same.limits, h.same.producers, h.same.kept, h.same.consumers, h.same.contexts, h.same.trapped, h.guests, h.streams, put-again old.streams.items n (stream_made old writer reader ty) h.gone.made) refl
 
@@ -204,7 +204,7 @@ record KeepsHosts (old new : State) : Type 0 where
   pub consumers : new.consumers ≡ old.consumers
 
 again-hosts : (n : ℕ) (state : State) (writer reader : ℕ) (ty : TransmitIndex) → KeepsHosts state (performs_at n state (between writer reader ty)).state
-unfolding performs_at with_stream_in
+unfolding performs_at with_pair_at
 again-hosts n state writer reader ty = record { producers = refl; consumers = refl }
 
 -- a store that needs no host end needs none then

@@ -11,7 +11,7 @@ use Rattle.strm_host_machine.specs.Does.{Answered, Does}
 use Rattle.strm_host_machine.specs.Steps.{outcome}
 use Rattle.strm_transmit.specs.Meets.{Meets, refused_too}
 use Rattle.strm_transmit.specs.Hosted.{call_answered, MayBeDone, Leaves, ErrsByRecord, MeetsAlone, MeetsHosted, RunsOutOnlyTaking, RunsOutNoneHeld}
-use Rattle.strm_transmit.specs.Performing.{Ends}
+use Rattle.strm_transmit.specs.Performing.{EndsPerforming}
 use Rattle.strm_transmit.specs.declared.errors.StoreError.{StoreError}
 use Rattle.strm_transmit.specs.declared.errors.StoreError.TheVariants.{Refused, HostFailed, HostBroke, BadItem, StoreTrapped, OutOfMemory}
 use Rattle.strm_transmit.proofs.HostStepLemmas.{Settles}
@@ -106,7 +106,7 @@ refused-runs_out (Err StoreTrapped) w = cc w
 refused-runs_out (Err OutOfMemory) w = refl
 
 -- a step may end as its call does
-pub refused-ends : (old : State) (tells : Tells) (act : Act) (result : Result Reply StoreError) → Settles result → RunsOutOnlyTaking old act result → RunsOutNoneHeld old tells act result → Ends old tells act (refused_too result)
+pub refused-ends : (old : State) (tells : Tells) (act : Act) (result : Result Reply StoreError) → Settles result → RunsOutOnlyTaking old act result → RunsOutNoneHeld old tells act result → EndsPerforming old tells act (refused_too result)
 refused-ends old tells act result settled memory held = record {
   settled = refused-settled result settled;
   refused = refused-none result;

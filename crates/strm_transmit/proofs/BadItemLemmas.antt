@@ -49,7 +49,7 @@ use Rattle.strm_channels.specs.Guests.{guests_of}
 use Rattle.strm_channels.specs.Meetings.{meeting_answered}
 use Rattle.strm_channels.specs.declared.guests.Guest as ours
 use Rattle.strm_host_machine.specs.Does.{Fits}
-use Rattle.strm_transmit.specs.BadItems.{MeetsOrStays, left_by, step_of, opened, open_across, IsFirstBad, IsBadItem}
+use Rattle.strm_transmit.specs.BadItems.{MeetsOrStays, left_by_error, operation_step, open_operation, open_across, IsFirstBad, IsBadItem}
 use Rattle.strm_transmit.specs.Guests.{AreOfOwners}
 use Rattle.strm_transmit.specs.Hosted.{StillFits}
 use Rattle.strm_transmit.specs.Inside.{AreServed}
@@ -148,7 +148,7 @@ module _ (old new : State) (act : Act) (sound : IsSound old) (served : AreServed
   fits_or_stays (Err errors.OutOfMemory) m = stays_fit m.1
 
 -- an item that is none traps the store afterwards
-pub left_fits : (error : StoreError) (old mid : State) → StillFits old mid → StillFits old (left_by error mid)
+pub left_fits : (error : StoreError) (old mid : State) → StillFits old mid → StillFits old (left_by_error error mid)
 left_fits (errors.BadItem stream) old mid f = λ tells fits. though_trapped mid tells (f tells fits)
 left_fits (errors.Refused q) old mid f = f
 left_fits (errors.HostFailed end) old mid f = f
@@ -163,7 +163,7 @@ pub record IsOpenAcross (side : Side) (stream : Stream) (theirs : Operation) : T
   pub waits : (end_of (opposite side) stream).operation ≡ Some theirs
   pub opened : theirs.is_open ≡ true
 
-opened_is : (o : Option Operation) (theirs : Operation) → opened o ≡ Some theirs → (o ≡ Some theirs) × (theirs.is_open ≡ true)
+opened_is : (o : Option Operation) (theirs : Operation) → open_operation o ≡ Some theirs → (o ≡ Some theirs) × (theirs.is_open ≡ true)
 opened_is None theirs = λ e. cc
 opened_is (Some operation) theirs =
     cond_both operation.is_open _ _ (λ (o : Option Operation). o ≡ Some theirs → (Some operation ≡ Some theirs) × (theirs.is_open ≡ true))
@@ -181,7 +181,7 @@ is_across side stream theirs h = rw (h.there, h.waits, h.opened) refl
 
 -- ## The item of a step, by the operands of the call
 
-pub act-of-step : (side : Side) (end : NamedEnd) (address count : ℕ) → act_of (step_of side end address count) ≡ OnEnd side end (Operate address count)
+pub act-of-step : (side : Side) (end : NamedEnd) (address count : ℕ) → act_of (operation_step side end address count) ≡ OnEnd side end (Operate address count)
 act-of-step Writing end address count = refl
 act-of-step Reading end address count = refl
 
@@ -311,7 +311,7 @@ module _ (state : State) (side : Side) (end : NamedEnd) (address count : ℕ) wh
   item_of x = record { guest = x.owner.0; handle = x.owner.1; index = x.write.moved + x.place }
 
   -- it is the one
-  pub is_found : (x : Look) → LookedUp x → IsBadItem state (step_of side end address count) (item_of x)
+  pub is_found : (x : Look) → LookedUp x → IsBadItem state (operation_step side end address count) (item_of x)
   is_found x h =
       let called = mine_of end address count in
       let theirs = x.theirs in

@@ -5,7 +5,7 @@ use Rattle.std.specs.Prelude.{OnOk, OnErr}
 use Rattle.strm_codes.specs.declared.counts.OutOfMemory.{OutOfMemory}
 use Rattle.strm_codes.specs.declared.refusals.Refusal.{Refusal}
 use Rattle.strm_handles.specs.Handles.{Handles}
-use Rattle.strm_error_contexts.specs.Contexts.{Contexts, count_at, message_at}
+use Rattle.strm_error_contexts.specs.Contexts.{Contexts, context_count_at, message_at}
 use Rattle.strm_machine.specs.State.{State, sets_in, with_handles}
 use Rattle.strm_machine.specs.ErrorContexts.{message_named, context_given, message_limit, bytes_of_message}
 use Rattle.strm_machine.specs.Refusals.{refusal, first_of, lower_context_reasons}
@@ -79,7 +79,7 @@ module _ (old new : Inside) (g : ℕ) (handles : Handles) (contexts : Contexts) 
       (subst IsSound (sym state_of-contexts) sound) (agrees-contexts held i) i
 
 -- the handles of a context are below the limit, and its message is short
-pub count_below : (s : Inside) (number : ℕ) → IsStore s → count_at s.contexts number ≤ s.counter.live
+pub count_below : (s : Inside) (number : ℕ) → IsStore s → context_count_at s.contexts number ≤ s.counter.live
 count_below s number i = omega (arith, i.live, count-live (state_of s) number i.sound.contexts)
 
 pub message_is_short : (s : Inside) (number : ℕ) → IsStore s → length (bytes_of_message (message_at s.contexts number)) ≤ message_limit

@@ -26,7 +26,7 @@ use Rattle.strm_machine.proofs.TableLemmas.{OwnersStay, with_end-owners, owner_i
 use Rattle.strm_machine.proofs.Shapes.{turn_on, Shape, ByTurn, BySetting, ByOwner, ByTable, ByPair, ByGuest, ByPut, ByRest}
 use Rattle.strm_machine.proofs.ShapeLemmas.{reaction-shape}
 use Rattle.strm_machine.proofs.ReactionLemmas.{reaction-performs}
-use Rattle.strm_places.specs.Again.{IsFree, Behind, Again, put, with_stream_in, reaction_at}
+use Rattle.strm_places.specs.Again.{IsFree, Behind, Again, put, with_pair_at, reaction_at}
 use Rattle.strm_places.proofs.AgainLemmas.{put-behind, put-again, reaction_at-by, performs_at-by}
 use Rattle.strm_host_machine.specs.Steps.{touches_by, touches}
 use Rattle.strm_host_machine.proofs.TouchLemmas.{touch-by}
@@ -80,8 +80,8 @@ put-unhosted streams n x (Behind e) here u =
     ])
 put-unhosted streams n x (Again l gone) here u = rw (put-again streams n x l) (set-unhosted streams n x l here u)
 
-in-unhosted : (state : State) (n writer reader : ℕ) (ty : TransmitIndex) → IsFree state.streams n → AreUnhosted state.streams → AreUnhosted (with_stream_in state n writer reader ty).streams
-unfolding with_stream_in
+in-unhosted : (state : State) (n writer reader : ℕ) (ty : TransmitIndex) → IsFree state.streams n → AreUnhosted state.streams → AreUnhosted (with_pair_at state n writer reader ty).streams
+unfolding with_pair_at
 in-unhosted state n writer reader ty free u =
     let pair = made_pair state writer reader ty in
     put-unhosted state.streams n (made_stream ty writer pair.write reader pair.read) free (made-unhosted ty writer pair.write reader pair.read) u

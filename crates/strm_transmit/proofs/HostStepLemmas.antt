@@ -66,7 +66,7 @@ module _ (state : State) (tells : Tells) (act : Act) where
   abbrev IsAlone : StoreError → Type 0
   IsAlone error = touches (lone state) act ≡ false → Meets state state (Err error) (reaction state act)
 
-  -- where it wants memory, its act may be done
+  -- where it runs out of memory, its act may be done
   abbrev IsCaused : StoreError → Type 0
   IsCaused error = ◌≡◌ {A = Result Reply StoreError} (Err error) (Err OutOfMemory) → MayBeDone state tells act
 

@@ -15,7 +15,7 @@ use Rattle.strm_machine.specs.declared.streams.Owner.TheVariants.{Held, Loose, H
 use Rattle.strm_machine.specs.declared.streams.Side.{Side}
 use Rattle.strm_machine.specs.declared.streams.Side.TheVariants.{Writing, Reading}
 use Rattle.strm_machine.specs.declared.streams.Stream.{Stream}
-use Rattle.strm_transmit.specs.Places.{Places, no_places, IsGone, ArePlaces, added, settled, next_free, taken}
+use Rattle.strm_transmit.specs.Places.{Places, no_places, IsGone, ArePlaces, added_place, settled, next_free, taken}
 
 -- one, for a stream that has an end left
 abbrev pub live_by : Bool → ℕ
@@ -102,7 +102,7 @@ module _ (streams : List Stream) (stream : Stream) where
   }
 
   -- behind the last
-  pub ArePlaces-push : (places : Places) → is_live stream ≡ true → length streams + 1 ≤ places.room → ArePlaces places streams → ArePlaces (added places) (streams ++ stream ∷ [])
+  pub ArePlaces-push : (places : Places) → is_live stream ≡ true → length streams + 1 ≤ places.room → ArePlaces places streams → ArePlaces (added_place places) (streams ++ stream ∷ [])
   ArePlaces-push places e room p =
       let more : count_by is_live (streams ++ stream ∷ []) ≡ count_by is_live streams + live_weight stream = sum_by_push live_weight streams stream in
       let one : live_weight stream ≡ 1 = ap live_by e in
@@ -116,7 +116,7 @@ module _ (streams : List Stream) (stream : Stream) where
       }
 
 -- and so counted
-pub ArePlaces-added : (streams more : List Stream) (stream : Stream) (places new : Places) → more ≡ streams ++ stream ∷ [] → new ≡ added places → is_live stream ≡ true → length streams + 1 ≤ places.room → ArePlaces places streams → ArePlaces new more
+pub ArePlaces-added : (streams more : List Stream) (stream : Stream) (places new : Places) → more ≡ streams ++ stream ∷ [] → new ≡ added_place places → is_live stream ≡ true → length streams + 1 ≤ places.room → ArePlaces places streams → ArePlaces new more
 ArePlaces-added streams more stream places new m n e room p = rw (m, n) (ArePlaces-push streams stream places e room p)
 
 -- ## A stream that became another

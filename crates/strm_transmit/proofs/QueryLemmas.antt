@@ -20,7 +20,7 @@ use Rattle.strm_machine.specs.Soundness.{type_of, types_of, IsNamed, EntryIsName
 use Rattle.strm_machine.specs.declared.streams.Stream.{Stream}
 use Rattle.strm_machine.proofs.NameLemmas.{entry_named}
 use Rattle.strm_machine.proofs.SoundLemmas.{AreNamed-at}
-use Rattle.strm_transmit.specs.Queries.{end_told, told_of, or_unknown, handle_answer, numbers_of, next_above}
+use Rattle.strm_transmit.specs.Queries.{end_told, told_of, or_unknown, handle_answer, numbers_of_handles, next_above}
 use Rattle.strm_transmit.specs.declared.store.queries.EndInfo.{EndInfo}
 use Rattle.strm_transmit.specs.declared.store.queries.Handle.TheVariants as handle
 
@@ -118,14 +118,14 @@ free_further handles after index f e n l u =
 
 -- none of all stands for anything
 pub next_none : (handles : Handles) (after index : ℕ) → length handles.entries ≤ index → AreFreeUpTo handles after index → next_above handles after ≡ None
-unfolding next_above numbers_of
+unfolding next_above numbers_of_handles
 next_none handles after index past f =
     find_none (nat_lt after) (stands handles) 1 (length handles.entries)
     (λ k l u t. let above : after < k = ltb-true after k t in f k above (omega arith))
 
 -- the first that does
 pub next_found : (handles : Handles) (after index : ℕ) → after ≤ index → index < length handles.entries → AreFreeUpTo handles after index → is_some (entry_at handles (index + 1)) ≡ true → next_above handles after ≡ Some (index + 1)
-unfolding next_above numbers_of
+unfolding next_above numbers_of_handles
 next_found handles after index low high f e =
     find_least (nat_lt after) (stands handles) 1 (length handles.entries) (index + 1) (omega arith) (omega arith)
     (lt-ltb after (index + 1) (omega arith)) e

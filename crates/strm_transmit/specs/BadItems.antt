@@ -32,25 +32,25 @@ MeetsOrStays old new (Err (StopsAtBadItem stream)) reaction =
 MeetsOrStays old new result reaction = Meets old new result reaction
 
 -- what such an answer leaves in a store that an item which is none traps
-abbrev pub left_by : StoreError → State → State
-left_by (StopsAtBadItem stream) state = record state { trapped = true }
-left_by _ state = state
+abbrev pub left_by_error : StoreError → State → State
+left_by_error (StopsAtBadItem stream) state = record state { trapped = true }
+left_by_error _ state = state
 
 -- a read or write of the end that is named, as a step
-abbrev pub step_of : Side → NamedEnd → ℕ → ℕ → Step
-step_of Writing end address count = steps.Write end.guest end.ty end.handle address count
-step_of Reading end address count = steps.Read end.guest end.ty end.handle address count
+abbrev pub operation_step : Side → NamedEnd → ℕ → ℕ → Step
+operation_step Writing end address count = steps.Write end.guest end.ty end.handle address count
+operation_step Reading end address count = steps.Read end.guest end.ty end.handle address count
 
 -- an operation that is open
-abbrev pub opened : Option Operation → Option Operation
-opened None = None
-opened (Some operation) = if operation.is_open then Some operation else None
+abbrev pub open_operation : Option Operation → Option Operation
+open_operation None = None
+open_operation (Some operation) = if operation.is_open then Some operation else None
 
 -- the operation that is open across from the end on a side, if the other end is there and has one
 abbrev pub open_across : Side → Stream → Option Operation
 open_across side stream =
     let other = end_of (opposite side) stream in
-    if is_gone other.owner then None else opened other.operation
+    if is_gone other.owner then None else open_operation other.operation
 
 -- of so many items of a write that are next, the one of this place among them is the first that is none
 abbrev pub IsFirstBad : State → Payload → Operation → ℕ → ℕ → Type 0

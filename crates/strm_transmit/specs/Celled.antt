@@ -19,12 +19,12 @@ cell_named state g handle =
     if is_unknown_guest state g then None else cell_of_name state (end_named state g handle)
 
 -- the stream and the side that a guest's handle names
-abbrev pub place_named : State → ℕ → ℕ → ℕ × Side
-place_named state g handle =
+abbrev pub stream_side_named : State → ℕ → ℕ → ℕ × Side
+stream_side_named state g handle =
     (stream_named (end_named state g handle), side_named (end_named state g handle))
 
 -- that end is this guest's, under this handle
 abbrev pub IsOwn : State → ℕ → ℕ → Type 0
 IsOwn state g handle =
-    let place = place_named state g handle in
+    let place = stream_side_named state g handle in
     (end_of place.1 (stream_at state place.0)).owner ≡ Held g handle

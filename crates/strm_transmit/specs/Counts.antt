@@ -8,8 +8,8 @@ use Rattle.strm_transmit.specs.Queries.{of_guest}
 use Rattle.strm_transmit.specs.declared.store.counts.GuestCounts.{GuestCounts}
 
 -- the handles of a table: all, those of ends of streams and futures, and those of error contexts
-abbrev pub counts_of : Handles → GuestCounts
-counts_of handles = record {
+abbrev pub handle_counts : Handles → GuestCounts
+handle_counts handles = record {
   handles = occupied handles;
   ends = ends_held handles;
   contexts = contexts_held handles;
@@ -17,4 +17,4 @@ counts_of handles = record {
 
 -- what is answered of a guest's, also by a store that was trapped
 abbrev pub counts_answer : State → ℕ → Result GuestCounts Refusal
-counts_answer state g = of_guest state g (Ok (counts_of (guest_in state.guests g).handles))
+counts_answer state g = of_guest state g (Ok (handle_counts (guest_in state.guests g).handles))

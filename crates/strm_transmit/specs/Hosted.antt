@@ -104,7 +104,7 @@ abbrev pub IsHandedOver : State → Tells → Act → Type 0
 IsHandedOver state tells (OnEnd Reading end (Operate address count)) = HasHeld state tells (stream_named (named state end))
 IsHandedOver state tells act = ⊥
 
--- memory is wanting only where a host end may be polled
+-- out of memory only where a host end may be polled
 abbrev pub RunsOutOnlyPolling : {T : Type 0} → State → Act → Result T StoreError → Type 0
 RunsOutOnlyPolling state act result = may_poll (lone state) act ≡ false → result ≢ Err OutOfMemory
 
@@ -130,7 +130,7 @@ IsStop StoreTrapped = ⊥
 IsStop _ = Unit {0}
 
 -- a part of a step among host ends, and its answer: the machine does the same, and the store needs these host ends
--- still; an error is a stop, and traps the store; for running out of memory host ends tell what `Wants` says
+-- still; an error is a stop, and traps the store; for running out of memory host ends tell what `RunsOut` says
 pub record IsPartAs {T : Type 0} (reply : T → Reply) (old new : State) (tells told : Tells) (result : Result T StoreError) (part : World → Outcome) (RunsOut : (World → Outcome) → State → Tells → Tells → Type 0) : Type 0 where
   pub does : Does old new tells told (call_answered (as_reply reply result)) part
   pub fits : Fits new told
@@ -148,7 +148,7 @@ pub record MeetsAlone (old new : State) (tells told : Tells) (result : Result Re
   pub ends : told ≡ tells
 
 -- a call is a step of the machine among host ends, which stay those that the store needs. A host end that
--- failed, or broke its rules, says so by its last record. Memory is wanting only where the step may be done, so
+-- failed, or broke its rules, says so by its last record. Out of memory only where the step may be done, so
 -- never in place of a refusal
 pub record MeetsHosted (old new : State) (tells told : Tells) (result : Result Reply StoreError) (act : Act) : Type 0 where
   pub does : Does old new tells told (call_answered result) (λ world. outcome world act)

@@ -2,11 +2,13 @@
 use Rattle.std.specs.Prelude.{◌≡◌, ◌≢◌, ℕ, ◌<◌, false, length, None, Result, Err, IfErr}
 use Rattle.strm_buffers.specs.Tells.{Tells}
 use Rattle.strm_codes.specs.declared.codes.ReturnCode.{ReturnCode}
+use Rattle.strm_machine.specs.Acts.{act_of}
 use Rattle.strm_machine.specs.State.{State, stream_at}
 use Rattle.strm_machine.specs.Reactions.{on_stream, reaction}
 use Rattle.strm_machine.specs.Sides.{end_of}
 use Rattle.strm_machine.specs.declared.acts.Act.{Act}
 use Rattle.strm_machine.specs.declared.replies.Reply.TheVariants as replies
+use Rattle.strm_machine.specs.declared.steps.Step.{Step}
 use Rattle.strm_machine.specs.declared.streams.Operation.{Operation}
 use Rattle.strm_machine.specs.declared.streams.Side.{Side}
 use Rattle.strm_transmit.specs.Hosted.{MeetsHosted, StillFits, RunsOutOnlyPolling, RunsOutNoneHeld}
@@ -15,6 +17,11 @@ use Rattle.strm_transmit.specs.Turning.{IsPlacedOn, IsNumberWithin}
 use Rattle.strm_transmit.specs.declared.errors.StoreError.{StoreError}
 use Rattle.strm_transmit.specs.BadItems.{MeetsOrStays}
 use Rattle.strm_transmit.specs.declared.errors.StoreError.TheVariants.{BadItem, OutOfMemory}
+
+-- a call that answers a code is this step of the machine among host ends
+abbrev pub MeetsCode : Step → State → State → Tells → Tells → Result ReturnCode StoreError → Type 0
+MeetsCode step old new tells told result =
+    MeetsHosted old new tells told (as_reply replies.Code result) (act_of step)
 
 -- a read or write is done, and a host end on the other side has its turn
 pub record Operates (old new : State) (tells told : Tells) (act : Act) (result : Result ReturnCode StoreError) : Type 0 where

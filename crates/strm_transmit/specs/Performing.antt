@@ -12,7 +12,7 @@ use Rattle.strm_transmit.specs.declared.errors.StoreError.TheVariants.{Refused}
 
 -- a reply stops nothing, a refusal is a reply, and memory runs out only where the act takes some, and never for
 -- items that are handed over
-pub record Ends (old : State) (tells : Tells) (act : Act) (result : Result Reply StoreError) : Type 0 where
+pub record EndsPerforming (old : State) (tells : Tells) (act : Act) (result : Result Reply StoreError) : Type 0 where
   pub settled : IfOk result (λ reply. IsTrue (is_settled reply))
   pub refused : (refusal : Refusal) → result ≢ Err (Refused refusal)
   pub takes_no_memory : RunsOutOnlyTaking old act result

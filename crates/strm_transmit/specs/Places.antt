@@ -45,5 +45,5 @@ abbrev pub taken : Places → Places
 taken places = record { live = places.live + 1; free = drop 1 places.free; room = places.room }
 
 -- a stream more, behind the last
-abbrev pub added : Places → Places
-added places = record { live = places.live + 1; free = places.free; room = places.room }
+abbrev pub added_place : Places → Places
+added_place places = record { live = places.live + 1; free = places.free; room = places.room }

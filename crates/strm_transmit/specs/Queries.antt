@@ -63,25 +63,25 @@ handle_answer state g number = of_guest state g (or_unknown (handle_told state g
 -- WHICH HANDLE IS NEXT
 
 -- the numbers of a table that stand for something, in rising order
-unfoldable pub numbers_of : Handles → List ℕ
-numbers_of handles = filter (λ n. is_some (entry_at handles n)) (range_with_len 1 (length handles.entries))
+unfoldable pub numbers_of_handles : Handles → List ℕ
+numbers_of_handles handles = filter (λ n. is_some (entry_at handles n)) (range_with_len 1 (length handles.entries))
 
 -- the least of them above a number
 unfoldable pub next_above : Handles → ℕ → Option ℕ
-next_above handles after = find (nat_lt after) (numbers_of handles)
+next_above handles after = find (nat_lt after) (numbers_of_handles handles)
 
 -- a guest's handle, if there is one, with what is told of it
-abbrev pub with_told : State → ℕ → Option ℕ → Option (ℕ × Handle)
-with_told state g None = None
-with_told state g (Some number) = option_map (λ told. (number, told)) (handle_told state g number)
+abbrev pub handle_with_told : State → ℕ → Option ℕ → Option (ℕ × Handle)
+handle_with_told state g None = None
+handle_with_told state g (Some number) = option_map (λ told. (number, told)) (handle_told state g number)
 
 -- the next handle of a guest above a number, with what is told of it; none behind the last
 abbrev pub next_told : State → ℕ → ℕ → Option (ℕ × Handle)
-next_told state g after = with_told state g (next_above (guest_in state.guests g).handles after)
+next_told state g after = handle_with_told state g (next_above (guest_in state.guests g).handles after)
 
 -- what is answered of the next handle of a guest, also by a store that was trapped
-abbrev pub next_answer : State → ℕ → ℕ → Result (Option (ℕ × Handle)) Refusal
-next_answer state g after = of_guest state g (Ok (next_told state g after))
+abbrev pub next_handle_answer : State → ℕ → ℕ → Result (Option (ℕ × Handle)) Refusal
+next_handle_answer state g after = of_guest state g (Ok (next_told state g after))
 
 -- HOW MANY THERE ARE
 

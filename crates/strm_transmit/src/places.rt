@@ -7,7 +7,7 @@
 ghost use Rattle.std.specs.Prelude.{◌≡◌, ◌+◌, ◌<◌, ◌≤◌, ◌++◌, ◌∷◌, [], true, false, length, vec_len, vec_capacity, OnOk, Some, slice_index_or, slice_set};
 ghost use Rattle.strm_machine.specs.State.{is_live, no_stream};
 ghost use Rattle.strm_machine.specs.Moves.{with_owner};
-ghost use Rattle.strm_transmit.specs.Places.{no_places, ArePlaces, added, next_free, taken, settled};
+ghost use Rattle.strm_transmit.specs.Places.{no_places, ArePlaces, added_place, next_free, taken, settled};
 
 use std::alloc::{AllocError, Global};
 use std::marker::Model;
@@ -68,7 +68,7 @@ impl StreamPlaces {
     /// A stream more, behind the last.
     fn add(&mut self)
         requires { self.old.live < 4294967295 }
-        ensures { self.new ≡ added self.old }
+        ensures { self.new ≡ added_place self.old }
     {
         self.live += 1;
     }

@@ -14,7 +14,7 @@ ghost use Rattle.strm_host_machine.specs.Steps.{outcome_of_step, touches};
 ghost use Rattle.strm_host_machine.specs.Does.{Fits, Does};
 ghost use Rattle.strm_transmit.specs.Meets.{Meets, is_settled, act_takes_memory};
 ghost use Rattle.strm_transmit.specs.Hosted.{call_answered, lone, MayBeDone, Leaves, MeetsAlone, MeetsHosted, RunsOutOnlyTaking, RunsOutNoneHeld};
-ghost use Rattle.strm_transmit.specs.Performing.{Ends};
+ghost use Rattle.strm_transmit.specs.Performing.{EndsPerforming};
 
 mod calls;
 mod replies;
@@ -73,7 +73,7 @@ fn perform_step<H: HostEnds>(
     requires fits { Fits store.old (H.tells hosts.old) }
     ensures meets { MeetsHosted store.old store.new (H.tells hosts.old) (H.tells hosts.new) result
         (act_of step.now) }
-    ensures ends { Ends store.old (H.tells hosts.old) (act_of step.now) result }
+    ensures ends { EndsPerforming store.old (H.tells hosts.old) (act_of step.now) result }
 {
     match operation_of(step) {
         Some(asked) => {
@@ -99,7 +99,7 @@ fn perform_other<H: HostEnds>(
     requires fits { Fits store.old (H.tells hosts.old) }
     ensures meets { MeetsHosted store.old store.new (H.tells hosts.old) (H.tells hosts.new) result
         (act_of step.now) }
-    ensures ends { Ends store.old (H.tells hosts.old) (act_of step.now) result }
+    ensures ends { EndsPerforming store.old (H.tells hosts.old) (act_of step.now) result }
 {
     store.sound();
     store.served();
@@ -181,7 +181,7 @@ fn perform_act<H: HostEnds>(
     requires fits { Fits store.old (H.tells hosts.old) }
     ensures meets { MeetsHosted store.old store.new (H.tells hosts.old) (H.tells hosts.new) result
         (act_of step.now) }
-    ensures ends { Ends store.old (H.tells hosts.old) (act_of step.now) result }
+    ensures ends { EndsPerforming store.old (H.tells hosts.old) (act_of step.now) result }
 {
     // A copy, so that steps which are done at once need not lie in memory.
     let apart = *step;

@@ -3,22 +3,22 @@
 
 use crate::calls::{Call, Type};
 use crate::play::{Row, plays_among};
-use crate::scripts::Gives;
 use crate::told::{BLOCKED, Told};
 use strm_buffers::answers::Answer;
 use strm_codes::codes::TransmitKind;
 use strm_codes::refusals::Refusal;
 use strm_machine::streams::{HostEnd, Owner};
+use strm_program_ends::byte_scripts::ByteTurn;
 
-const SERVED: [Gives; 3] = [
+const SERVED: [ByteTurn; 3] = [
     (&[7, 8, 9], Answer::Completed),
     (&[], Answer::Pending),
     (&[5], Answer::Dropped),
 ];
 
-const CANCELLED: [Gives; 2] = [(&[], Answer::Pending), (&[], Answer::Cancelled)];
+const CANCELLED: [ByteTurn; 2] = [(&[], Answer::Pending), (&[], Answer::Cancelled)];
 
-const FAILING: [Gives; 2] = [(&[], Answer::Pending), (&[1], Answer::Failed)];
+const FAILING: [ByteTurn; 2] = [(&[], Answer::Pending), (&[1], Answer::Failed)];
 
 const READS_ARE_SERVED: [Row; 18] = [
     (Call::Guest(16), Told::Number(0)),

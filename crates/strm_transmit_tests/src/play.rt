@@ -6,7 +6,7 @@
 ghost use Rattle.strm_host_machine.specs.Does.{Fits};
 
 use crate::calls::{BYTES, Call, End, Type, WORDS, index_of};
-use crate::scripts::{Gives, Takes, add_reader, add_writer};
+use crate::scripts::{Takes, add_reader, add_writer};
 use crate::told::{
     Told, code, count, done, end, event, member, next, number, pair, reply, type_of,
 };
@@ -18,6 +18,7 @@ use strm_codes::payloads::Payload;
 use strm_machine::chunks::Chunk;
 use strm_machine::limits::Limits;
 use strm_machine::steps::Step;
+use strm_program_ends::byte_scripts::ByteTurn;
 use strm_transmit::host_ends::HostEnds;
 use strm_transmit::steps::apply;
 use strm_transmit::store::Store;
@@ -32,7 +33,7 @@ pub(crate) const AMPLE: Limits = Limits {
 pub(crate) type Row = (Call, Told);
 
 /// A host writer of bytes, and what its polls give and answer.
-pub(crate) type Writer = (TransmitKind, &'static [Gives]);
+pub(crate) type Writer = (TransmitKind, &'static [ByteTurn]);
 
 /// A host reader, and how much its polls take and what they answer.
 pub(crate) type Reader = (TransmitKind, Payload, &'static [Takes]);

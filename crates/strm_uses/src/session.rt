@@ -6,7 +6,7 @@ ghost use Rattle.strm_laws.specs.Conservation.{got, moments, replies_of, state_a
 ghost use Rattle.strm_laws.specs.Laws.{Conserves};
 ghost use Rattle.strm_machine.specs.State.{stream_at};
 ghost use Rattle.strm_laws.specs.Starts.{run_start};
-ghost use Rattle.strm_session.specs.Runs.{AreOfGuests, counts_of};
+ghost use Rattle.strm_session.specs.Runs.{AreOfGuests, received_counts};
 
 use std::alloc::Global;
 use strm_buffers::hosts::Hosts;
@@ -19,7 +19,7 @@ pub fn run_guests(alloc: Global, steps: &[Step]) -> Result<Transcript, RunStop>
     requires guests { AreOfGuests steps.now }
     ensures replies { IfOk result (λ t. t.replies ≡ replies_of (moments run_start steps.now)) }
     ensures counts { IfOk result (λ t.
-        t.moved ≡ counts_of (state_after_steps run_start steps.now)) }
+        t.moved ≡ received_counts (state_after_steps run_start steps.now)) }
     ensures conserves { IfOk result (λ t. (s : ℕ) →
         Conserves s (moments run_start steps.now) (state_after_steps run_start steps.now)) }
     ensures passes_one { IfOk result (λ t. (s : ℕ) → (stream_at t.store s).kind ≡ Future →

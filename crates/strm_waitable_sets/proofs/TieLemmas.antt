@@ -9,7 +9,7 @@ use Rattle.std.specs.Prelude.{nat_eq}
 use Rattle.strm_waitable_sets.specs.Homes.{home_at, homes_from, member_count, AreSameHomes}
 use Rattle.strm_waitable_sets.specs.Sets.{Sets, is_member, set_placed, HasMember, HasNoMember, AreSetsKept}
 use Rattle.strm_codes.specs.OptionalNumbers.{is_number}
-use Rattle.strm_waitable_sets.specs.Slots.{Slot, slot_at, count_of, count_at, AreSlotsTied}
+use Rattle.strm_waitable_sets.specs.Slots.{Slot, slot_at, count_of_slot, set_count_at, AreSlotsTied}
 use Rattle.strm_waitable_sets.proofs.HomeLemmas.{by_eq, get-seen, counts_as, count-set, count-left, count_some, count_none, some_counted}
 
 -- ## Numbers
@@ -28,7 +28,7 @@ some_inside slots number there =
     ⊎_elim (λ below. below) (λ above. absurd (true≢false (sym there ∙ ap is_some (get_or_past slots number None above)))) (cases_lt number (length slots))
 
 -- a set that has a member is there
-pub counted_there : (slot : Slot) → 0 < count_of slot → is_some slot ≡ true
+pub counted_there : (slot : Slot) → 0 < count_of_slot slot → is_some slot ≡ true
 counted_there None some = absurd (omega (arith, some))
 counted_there (Some members) some = refl
 
@@ -44,23 +44,23 @@ AllThere slots number = (before : ℕ) → before < number → is_some (slot_at 
 
 -- what sets have after a handle left its set, if it was in one, and after one joined this set
 abbrev pub HasLeft : (old new : List Slot) → Option ℕ → Type 0
-HasLeft old new home = (number : ℕ) → count_at new number + counts_as home number ≡ count_at old number
+HasLeft old new home = (number : ℕ) → set_count_at new number + counts_as home number ≡ set_count_at old number
 
 abbrev pub HasJoined : (old new : List Slot) → ℕ → Type 0
-HasJoined old new set = (number : ℕ) → count_at new number ≡ count_at old number + counts_as (Some set) number
+HasJoined old new set = (number : ℕ) → set_count_at new number ≡ set_count_at old number + counts_as (Some set) number
 
 -- the same counts
 abbrev pub HasSame : (old new : List Slot) → Type 0
-HasSame old new = (number : ℕ) → count_at new number ≡ count_at old number
+HasSame old new = (number : ℕ) → set_count_at new number ≡ set_count_at old number
 
 -- the count of the set that was changed, and those of the others
-pub count-slot : (slots : List Slot) (at number : ℕ) (slot : Slot) → at < length slots → count_at (set slots at slot) number ≡ cond (nat_eq at number) (count_of slot) (count_at slots number)
+pub count-slot : (slots : List Slot) (at number : ℕ) (slot : Slot) → at < length slots → set_count_at (set slots at slot) number ≡ cond (nat_eq at number) (count_of_slot slot) (set_count_at slots number)
 count-slot slots at number slot inside =
-    ap count_of (slot-set slots at number slot inside)
-    ∙ ap (λ b. count_of (cond b slot (slot_at slots number))) (nat_eq_equiv.symm number at)
+    ap count_of_slot (slot-set slots at number slot inside)
+    ∙ ap (λ b. count_of_slot (cond b slot (slot_at slots number))) (nat_eq_equiv.symm number at)
     ∙ by (nat_eq at number)
   where
-    by : (t : Bool) → count_of (cond t slot (slot_at slots number)) ≡ cond t (count_of slot) (count_at slots number)
+    by : (t : Bool) → count_of_slot (cond t slot (slot_at slots number)) ≡ cond t (count_of_slot slot) (set_count_at slots number)
     by true = refl
     by false = refl
 
@@ -85,7 +85,7 @@ flags-set slots at slot same = map-set_same is_some slots at slot None same
 -- ## Changes
 
 -- where the same numbers have sets, the hint stands
-still_tied : (slots new : List Slot) (homes to : List (Option ℕ)) (hint : ℕ) → AreSlotsTied slots homes hint → map is_some new ≡ map is_some slots → length to ≤ 2 ^ 32 → ((number : ℕ) → count_at new number ≡ member_count to number) → AreSlotsTied new to hint
+still_tied : (slots new : List Slot) (homes to : List (Option ℕ)) (hint : ℕ) → AreSlotsTied slots homes hint → map is_some new ≡ map is_some slots → length to ≤ 2 ^ 32 → ((number : ℕ) → set_count_at new number ≡ member_count to number) → AreSlotsTied new to hint
 still_tied slots new homes to hint are flags few counted = record {
   counted = counted;
   few = few;
@@ -99,7 +99,7 @@ module _ (slots : List Slot) (homes : List (Option ℕ)) (hint : ℕ) (are : Are
   tied_wider more same few = still_tied slots slots homes more hint are refl few (λ number. are.counted number ∙ sym (same.counts number))
 
   -- the set of a handle has a member
-  pub home_counted : (handle number : ℕ) → is_number (home_at homes handle) number ≡ true → 0 < count_at slots number
+  pub home_counted : (handle number : ℕ) → is_number (home_at homes handle) number ≡ true → 0 < set_count_at slots number
   home_counted handle number in_it = let is = are.counted number in omega (arith, is, count_some homes handle number in_it)
 
   -- a handle leaves its set
@@ -124,20 +124,20 @@ module _ (slots : List Slot) (homes : List (Option ℕ)) (hint : ℕ) (are : Are
   -- a set without members goes
   pub tied-emptied : (at to : ℕ) → at < length slots → to ≤ hint → to ≤ at → ((handle : ℕ) → is_number (home_at homes handle) at ≡ false) → AreSlotsTied (set slots at None) homes to
   tied-emptied at to inside less below none = record {
-    counted = λ number. count-slot slots at number None inside ∙ by_eq at number (λ t. cond t 0 (count_at slots number) ≡ member_count homes number) (λ same. sym (count_none homes number (λ handle. ap (is_number (home_at homes handle)) (sym same) ∙ none handle))) (λ apart. are.counted number);
+    counted = λ number. count-slot slots at number None inside ∙ by_eq at number (λ t. cond t 0 (set_count_at slots number) ≡ member_count homes number) (λ same. sym (count_none homes number (λ handle. ap (is_number (home_at homes handle)) (sym same) ∙ none handle))) (λ apart. are.counted number);
     few = are.few;
     inside = let hint_inside = are.inside in omega (arith, length-set slots at None, hint_inside, less);
     taken = λ number lower. ap is_some (slot-set slots at number None inside) ∙ ap (λ t. is_some (cond t None (slot_at slots number))) (eq-other number at (λ e. omega arith)) ∙ are.taken number (omega arith);
   }
 
   -- who is a member, by the count
-  pub counted_member : (number : ℕ) → 0 < count_at slots number → HasMember (seen slots homes) number
+  pub counted_member : (number : ℕ) → 0 < set_count_at slots number → HasMember (seen slots homes) number
   counted_member number some =
       let is = are.counted number in
       let one = some_counted homes number (omega (arith, is, some)) in
       record { handle = one.0; there = is_member-seen slots homes number one.0 ∙ one.1 }
 
-  pub counted_none : (number : ℕ) → count_at slots number ≤ 0 → HasNoMember (seen slots homes) number
+  pub counted_none : (number : ℕ) → set_count_at slots number ≤ 0 → HasNoMember (seen slots homes) number
   counted_none number none = λ handle. is_member-seen slots homes number handle ∙ by handle (is_number (home_at homes handle) number) refl
     where
       by : (handle : ℕ) (t : Bool) → is_number (home_at homes handle) number ≡ t → t ≡ false

@@ -12,18 +12,18 @@ abbrev pub slot_at : List Slot → ℕ → Slot
 slot_at slots number = slice_index_or slots number None
 
 -- how many members a set has, and none where it is not there
-abbrev pub count_of : Slot → ℕ
-count_of None = 0
-count_of (Some members) = members.count
+abbrev pub count_of_slot : Slot → ℕ
+count_of_slot None = 0
+count_of_slot (Some members) = members.count
 
 -- the same of the set of a number
-abbrev pub count_at : List Slot → ℕ → ℕ
-count_at slots number = count_of (slot_at slots number)
+abbrev pub set_count_at : List Slot → ℕ → ℕ
+set_count_at slots number = count_of_slot (slot_at slots number)
 
 -- a set's count is that of the handles that are in it, so that it is there where one is; a handle has 32
 -- bits; and below the hint each number has a set
 pub record AreSlotsTied (slots : List Slot) (homes : List (Option ℕ)) (hint : ℕ) : Type 0 where
-  pub counted : (number : ℕ) → count_at slots number ≡ member_count homes number
+  pub counted : (number : ℕ) → set_count_at slots number ≡ member_count homes number
   pub few : length homes ≤ 2 ^ 32
   pub inside : hint ≤ length slots
   pub taken : (number : ℕ) → number < hint → is_some (slot_at slots number) ≡ true

@@ -6,7 +6,7 @@ ghost use Rattle.std.specs.Prelude.{◌≡◌, ℕ, ◌+◌, ◌^◌, ◌<◌, �
 ghost use Rattle.std.specs.List.{position_or_len};
 ghost use Rattle.strm_codes.specs.OptionalNumbers.{is_number};
 ghost use Rattle.strm_waitable_sets.specs.Sets.{set_placed};
-ghost use Rattle.strm_waitable_sets.specs.Slots.{slot_at, count_of, count_at};
+ghost use Rattle.strm_waitable_sets.specs.Slots.{slot_at, count_of_slot, set_count_at};
 
 use strm_codes::counts::OutOfMemory;
 
@@ -21,7 +21,7 @@ pub(crate) type Slot = Option<Members>;
 
 /// Whether the set has a member.
 pub(crate) fn has_member(slot: &Slot) -> bool
-    ensures { IsTrue result ↔ (0 < count_of slot.now) }
+    ensures { IsTrue result ↔ (0 < count_of_slot slot.now) }
 {
     match slot {
         Some(members) => members.count > 0,
@@ -32,10 +32,10 @@ pub(crate) fn has_member(slot: &Slot) -> bool
 /// A set has a member more.
 pub(crate) fn add_member(slots: &mut Vec<Slot>, set: u32)
     requires there { is_some (slot_at slots.old.items set) ≡ true }
-    requires few { count_at slots.old.items set ≤ 2 ^ 32 }
+    requires few { set_count_at slots.old.items set ≤ 2 ^ 32 }
     ensures flags { map is_some slots.new.items ≡ map is_some slots.old.items }
-    ensures counts { (number : ℕ) → count_at slots.new.items number
-        ≡ count_at slots.old.items number + (if nat_eq set number then 1 else 0) }
+    ensures counts { (number : ℕ) → set_count_at slots.new.items number
+        ≡ set_count_at slots.old.items number + (if nat_eq set number then 1 else 0) }
 {
     if let Some(members) = &mut slots[set as usize] {
         members.count += 1;
@@ -45,10 +45,10 @@ pub(crate) fn add_member(slots: &mut Vec<Slot>, set: u32)
 /// The set that a handle was in, if it was in one, has a member less.
 pub(crate) fn remove_member(slots: &mut Vec<Slot>, home: Option<u32>)
     requires some { (number : ℕ) → is_number home number ≡ true
-        → 0 < count_at slots.old.items number }
+        → 0 < set_count_at slots.old.items number }
     ensures flags { map is_some slots.new.items ≡ map is_some slots.old.items }
-    ensures counts { (number : ℕ) → count_at slots.new.items number
-        + (if is_number home number then 1 else 0) ≡ count_at slots.old.items number }
+    ensures counts { (number : ℕ) → set_count_at slots.new.items number
+        + (if is_number home number then 1 else 0) ≡ set_count_at slots.old.items number }
 {
     let Some(set) = home else {
         return;
@@ -66,7 +66,7 @@ pub(crate) fn place(slots: &mut Vec<Slot>, number: usize) -> Result<(), OutOfMem
     ensures flags { OnOk result
         (map is_some slots.new.items ≡ set_placed (map is_some slots.old.items) number) }
     ensures counts { OnOk result ((at : ℕ) →
-        count_at slots.new.items at ≡ count_at slots.old.items at) }
+        set_count_at slots.new.items at ≡ set_count_at slots.old.items at) }
     ensures err { OnErr result (slots.new.items ≡ slots.old.items) }
 {
     let slot = Some(Members { count: 0 });

@@ -5,7 +5,7 @@
 ghost use Rattle.std.specs.Prelude.{◌≡◌};
 ghost use Rattle.strm_c.specs.BadItems.{item_in, side_of_word, TellsBadItem};
 ghost use Rattle.strm_c.specs.Payloads.{type_at};
-ghost use Rattle.strm_transmit.specs.BadItems.{step_of};
+ghost use Rattle.strm_transmit.specs.BadItems.{operation_step};
 
 use crate::exports::queries::SIDE_READING;
 use crate::handles::StoreHandle;
@@ -64,7 +64,7 @@ pub extern "C" fn strm_find_bad_item(
     out: &mut StrmBadItem,
 ) -> Status
     ensures tells { TellsBadItem store.old.state (type_at ty)
-        (λ named. step_of (side_of_word side)
+        (λ named. operation_step (side_of_word side)
         (record { guest = guest; ty = named; handle = handle }) address count)
         result out.old out.new }
     ensures same { store.new.state ≡ store.old.state }

@@ -4,15 +4,14 @@
 
 ghost use Rattle.std.specs.Prelude.{◌≡◌, ◌≢◌};
 ghost use Rattle.strm_codes.specs.declared.codes.TransmitIndex.TheVariants as index;
-ghost use Rattle.strm_machine.specs.Reactions.{react};
 ghost use Rattle.strm_machine.specs.declared.steps.Step.TheVariants as steps;
 ghost use Rattle.strm_places.specs.Again.{reacts_at};
 ghost use Rattle.strm_guest_store.specs.Limits.{is_past};
 ghost use Rattle.strm_guest_store.specs.declared.guest_limits.Gain.TheVariants.{Ends};
 ghost use Rattle.strm_c.specs.Limits.{WithinLimits, is_past_of};
 ghost use Rattle.strm_c.specs.Making.{AnswersMaking};
+ghost use Rattle.strm_c.specs.Named.{AnswersNamed, AnswersOperation};
 ghost use Rattle.strm_c.specs.Payloads.{payload_at};
-ghost use Rattle.strm_c.specs.Statuses.{spared, AnswersOf};
 
 use crate::exports::pairs::{StrmPair, pair};
 use crate::handles::StoreHandle;
@@ -63,10 +62,9 @@ pub extern "C" fn strm_future_write(
     address: u32,
     out: &mut u32,
 ) -> Status
-    ensures answers { AnswersOf store.old.state (payload_at payload)
-        (λ s payload. spared s (react s
-        (steps.Write guest (index.Future payload) handle address 1)))
-        result out.old out.new store.new.state }
+    ensures answers { AnswersOperation store.old store.new payload
+        (λ payload. steps.Write guest (index.Future payload) handle address 1)
+        result out.old out.new }
     ensures limits { store.new.limits ≡ store.old.limits }
 {
     let Some(store) = store.get_mut() else {
@@ -91,10 +89,9 @@ pub extern "C" fn strm_future_read(
     address: u32,
     out: &mut u32,
 ) -> Status
-    ensures answers { AnswersOf store.old.state (payload_at payload)
-        (λ s payload. spared s (react s
-        (steps.Read guest (index.Future payload) handle address 1)))
-        result out.old out.new store.new.state }
+    ensures answers { AnswersOperation store.old store.new payload
+        (λ payload. steps.Read guest (index.Future payload) handle address 1)
+        result out.old out.new }
     ensures limits { store.new.limits ≡ store.old.limits }
 {
     let Some(store) = store.get_mut() else {
@@ -116,9 +113,9 @@ pub extern "C" fn strm_future_cancel_write(
     handle: u32,
     out: &mut u32,
 ) -> Status
-    ensures answers { AnswersOf store.old.state (payload_at payload)
-        (λ s payload. react s (steps.CancelWrite guest (index.Future payload) handle))
-        result out.old out.new store.new.state }
+    ensures answers { AnswersNamed store.old store.new payload
+        (λ payload. steps.CancelWrite guest (index.Future payload) handle)
+        result out.old out.new }
     ensures limits { store.new.limits ≡ store.old.limits }
 {
     let Some(store) = store.get_mut() else {
@@ -140,9 +137,9 @@ pub extern "C" fn strm_future_cancel_read(
     handle: u32,
     out: &mut u32,
 ) -> Status
-    ensures answers { AnswersOf store.old.state (payload_at payload)
-        (λ s payload. react s (steps.CancelRead guest (index.Future payload) handle))
-        result out.old out.new store.new.state }
+    ensures answers { AnswersNamed store.old store.new payload
+        (λ payload. steps.CancelRead guest (index.Future payload) handle)
+        result out.old out.new }
     ensures limits { store.new.limits ≡ store.old.limits }
 {
     let Some(store) = store.get_mut() else {
@@ -163,9 +160,9 @@ pub extern "C" fn strm_future_drop_writable(
     payload: u64,
     handle: u32,
 ) -> Status
-    ensures answers { AnswersOf store.old.state (payload_at payload)
-        (λ s payload. react s (steps.DropWrite guest (index.Future payload) handle))
-        result 0 0 store.new.state }
+    ensures answers { AnswersNamed store.old store.new payload
+        (λ payload. steps.DropWrite guest (index.Future payload) handle)
+        result 0 0 }
     ensures limits { store.new.limits ≡ store.old.limits }
 {
     let Some(store) = store.get_mut() else {
@@ -186,9 +183,9 @@ pub extern "C" fn strm_future_drop_readable(
     payload: u64,
     handle: u32,
 ) -> Status
-    ensures answers { AnswersOf store.old.state (payload_at payload)
-        (λ s payload. react s (steps.DropRead guest (index.Future payload) handle))
-        result 0 0 store.new.state }
+    ensures answers { AnswersNamed store.old store.new payload
+        (λ payload. steps.DropRead guest (index.Future payload) handle)
+        result 0 0 }
     ensures limits { store.new.limits ≡ store.old.limits }
 {
     let Some(store) = store.get_mut() else {

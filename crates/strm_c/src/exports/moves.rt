@@ -7,11 +7,12 @@ ghost use Rattle.strm_codes.specs.declared.codes.TransmitIndex.TheVariants as in
 ghost use Rattle.strm_machine.specs.Reactions.{react};
 ghost use Rattle.strm_machine.specs.declared.steps.Step.TheVariants as steps;
 ghost use Rattle.strm_places.specs.Again.{reacts_at};
-ghost use Rattle.strm_guest_store.specs.Limits.{is_past, is_pair_past, is_move_past};
+ghost use Rattle.strm_guest_store.specs.Limits.{is_past, is_pair_past};
 ghost use Rattle.strm_guest_store.specs.declared.guest_limits.Gain.TheVariants.{Ends};
 ghost use Rattle.strm_c.specs.Limits.{WithinLimits, is_past_of};
 ghost use Rattle.strm_c.specs.Making.{AnswersMaking};
-ghost use Rattle.strm_c.specs.Payloads.{payload_at, type_at};
+ghost use Rattle.strm_c.specs.Named.{AnswersMove};
+ghost use Rattle.strm_c.specs.Payloads.{type_at};
 ghost use Rattle.strm_c.specs.Statuses.{AnswersCall, AnswersOf, AnswersOfOr, no_memory};
 
 use crate::exports::pairs::{StrmPair, pair};
@@ -63,12 +64,9 @@ pub extern "C" fn strm_stream_transfer(
     to: u32,
     out: &mut u32,
 ) -> Status
-    ensures answers { WithinLimits store.old store.new
-        (is_past_of store.old (payload_at payload) (λ s limits. is_move_past s limits guest to))
-        result out.old out.new
-        (AnswersOfOr store.old.state (payload_at payload)
-        (λ s payload. react s (steps.Move guest (index.Stream payload) handle to))
-        result out.old out.new store.new.state) }
+    ensures answers { AnswersMove store.old store.new payload guest to
+        (λ payload. steps.Move guest (index.Stream payload) handle to)
+        result out.old out.new }
     ensures takes_no_memory { guest ≡ to → result ≢ no_memory }
 {
     let Some(store) = store.limited_mut() else {
@@ -95,12 +93,9 @@ pub extern "C" fn strm_future_transfer(
     to: u32,
     out: &mut u32,
 ) -> Status
-    ensures answers { WithinLimits store.old store.new
-        (is_past_of store.old (payload_at payload) (λ s limits. is_move_past s limits guest to))
-        result out.old out.new
-        (AnswersOfOr store.old.state (payload_at payload)
-        (λ s payload. react s (steps.Move guest (index.Future payload) handle to))
-        result out.old out.new store.new.state) }
+    ensures answers { AnswersMove store.old store.new payload guest to
+        (λ payload. steps.Move guest (index.Future payload) handle to)
+        result out.old out.new }
     ensures takes_no_memory { guest ≡ to → result ≢ no_memory }
 {
     let Some(store) = store.limited_mut() else {

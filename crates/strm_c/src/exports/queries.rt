@@ -3,7 +3,7 @@
 //! Source: Canonical ABI, "Table State". Ours: the calls.
 
 ghost use Rattle.std.specs.Prelude.{◌≡◌, None, IfSome};
-ghost use Rattle.strm_transmit.specs.Queries.{handle_answer, next_answer, count_answer};
+ghost use Rattle.strm_transmit.specs.Queries.{handle_answer, next_handle_answer, count_answer};
 ghost use Rattle.strm_c.specs.Queries.{side_word, owner_word, guest_word, handle_word, bare_handle, end_handle, told_handle, maybe_handle, answer_handle, answer_next, answer_count};
 ghost use Rattle.strm_c.specs.Statuses.{event_word, no_store, found_status};
 
@@ -103,9 +103,9 @@ pub extern "C" fn strm_next_handle(
     out: &mut StrmHandle,
 ) -> Status
     ensures status { IfSome store.old.state (λ s.
-        result ≡ found_status (next_answer s guest after)) }
+        result ≡ found_status (next_handle_answer s guest after)) }
     ensures told { IfSome store.old.state (λ s.
-        out.new ≡ answer_next (next_answer s guest after) out.old) }
+        out.new ≡ answer_next (next_handle_answer s guest after) out.old) }
     ensures none { store.old.state ≡ None → (result ≡ no_store) × (out.new ≡ out.old) }
     ensures same { store.new.state ≡ store.old.state }
     ensures limits { store.new.limits ≡ store.old.limits }

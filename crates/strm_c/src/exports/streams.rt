@@ -11,8 +11,9 @@ ghost use Rattle.strm_guest_store.specs.Limits.{is_past};
 ghost use Rattle.strm_guest_store.specs.declared.guest_limits.Gain.TheVariants.{Ends};
 ghost use Rattle.strm_c.specs.Limits.{WithinLimits, is_past_of};
 ghost use Rattle.strm_c.specs.Making.{AnswersMaking};
+ghost use Rattle.strm_c.specs.Named.{AnswersNamed, AnswersOperation};
 ghost use Rattle.strm_c.specs.Payloads.{payload_at};
-ghost use Rattle.strm_c.specs.Statuses.{spared, AnswersCall, AnswersOf};
+ghost use Rattle.strm_c.specs.Statuses.{AnswersCall};
 
 use crate::exports::pairs::{StrmPair, pair};
 use crate::handles::StoreHandle;
@@ -67,10 +68,9 @@ pub extern "C" fn strm_stream_write(
     count: u32,
     out: &mut u32,
 ) -> Status
-    ensures answers { AnswersOf store.old.state (payload_at payload)
-        (λ s payload. spared s (react s
-        (steps.Write guest (index.Stream payload) handle address count)))
-        result out.old out.new store.new.state }
+    ensures answers { AnswersOperation store.old store.new payload
+        (λ payload. steps.Write guest (index.Stream payload) handle address count)
+        result out.old out.new }
     ensures limits { store.new.limits ≡ store.old.limits }
 {
     let Some(store) = store.get_mut() else {
@@ -79,10 +79,8 @@ pub extern "C" fn strm_stream_write(
     let Some(payload) = payload_at(payload) else {
         return UNKNOWN_PAYLOAD;
     };
-    operated(
-        store.stream_write(guest, payload, handle, address, count),
-        out,
-    )
+    let answer = store.stream_write(guest, payload, handle, address, count);
+    operated(answer, out)
 }
 
 /// Reads `count` items to `address` of the guest's memory on, and puts the code at `out`.
@@ -100,10 +98,9 @@ pub extern "C" fn strm_stream_read(
     count: u32,
     out: &mut u32,
 ) -> Status
-    ensures answers { AnswersOf store.old.state (payload_at payload)
-        (λ s payload. spared s (react s
-        (steps.Read guest (index.Stream payload) handle address count)))
-        result out.old out.new store.new.state }
+    ensures answers { AnswersOperation store.old store.new payload
+        (λ payload. steps.Read guest (index.Stream payload) handle address count)
+        result out.old out.new }
     ensures limits { store.new.limits ≡ store.old.limits }
 {
     let Some(store) = store.get_mut() else {
@@ -112,10 +109,8 @@ pub extern "C" fn strm_stream_read(
     let Some(payload) = payload_at(payload) else {
         return UNKNOWN_PAYLOAD;
     };
-    operated(
-        store.stream_read(guest, payload, handle, address, count),
-        out,
-    )
+    let answer = store.stream_read(guest, payload, handle, address, count);
+    operated(answer, out)
 }
 
 /// Cancels the write that waits, and puts the code at `out`. `canon stream.cancel-write`. Refused: UnknownGuest,
@@ -128,9 +123,9 @@ pub extern "C" fn strm_stream_cancel_write(
     handle: u32,
     out: &mut u32,
 ) -> Status
-    ensures answers { AnswersOf store.old.state (payload_at payload)
-        (λ s payload. react s (steps.CancelWrite guest (index.Stream payload) handle))
-        result out.old out.new store.new.state }
+    ensures answers { AnswersNamed store.old store.new payload
+        (λ payload. steps.CancelWrite guest (index.Stream payload) handle)
+        result out.old out.new }
     ensures limits { store.new.limits ≡ store.old.limits }
 {
     let Some(store) = store.get_mut() else {
@@ -152,9 +147,9 @@ pub extern "C" fn strm_stream_cancel_read(
     handle: u32,
     out: &mut u32,
 ) -> Status
-    ensures answers { AnswersOf store.old.state (payload_at payload)
-        (λ s payload. react s (steps.CancelRead guest (index.Stream payload) handle))
-        result out.old out.new store.new.state }
+    ensures answers { AnswersNamed store.old store.new payload
+        (λ payload. steps.CancelRead guest (index.Stream payload) handle)
+        result out.old out.new }
     ensures limits { store.new.limits ≡ store.old.limits }
 {
     let Some(store) = store.get_mut() else {
@@ -175,9 +170,9 @@ pub extern "C" fn strm_stream_drop_writable(
     payload: u64,
     handle: u32,
 ) -> Status
-    ensures answers { AnswersOf store.old.state (payload_at payload)
-        (λ s payload. react s (steps.DropWrite guest (index.Stream payload) handle))
-        result 0 0 store.new.state }
+    ensures answers { AnswersNamed store.old store.new payload
+        (λ payload. steps.DropWrite guest (index.Stream payload) handle)
+        result 0 0 }
     ensures limits { store.new.limits ≡ store.old.limits }
 {
     let Some(store) = store.get_mut() else {
@@ -198,9 +193,9 @@ pub extern "C" fn strm_stream_drop_readable(
     payload: u64,
     handle: u32,
 ) -> Status
-    ensures answers { AnswersOf store.old.state (payload_at payload)
-        (λ s payload. react s (steps.DropRead guest (index.Stream payload) handle))
-        result 0 0 store.new.state }
+    ensures answers { AnswersNamed store.old store.new payload
+        (λ payload. steps.DropRead guest (index.Stream payload) handle)
+        result 0 0 }
     ensures limits { store.new.limits ≡ store.old.limits }
 {
     let Some(store) = store.get_mut() else {

@@ -6,7 +6,7 @@ ghost use Rattle.std.specs.Prelude.{◌≡◌, ◌≢◌, Err, IfSome, IsNone, �
 ghost use Rattle.strm_machine.specs.Asked.{HasBadItem};
 ghost use Rattle.strm_machine.specs.Bases.{BasesStay};
 ghost use Rattle.strm_machine.specs.Reactions.{react};
-ghost use Rattle.strm_transmit.specs.BadItems.{MeetsOrStays, step_of, IsBadItem};
+ghost use Rattle.strm_transmit.specs.BadItems.{MeetsOrStays, operation_step, IsBadItem};
 ghost use Rattle.strm_guest_store.specs.Operations.{MeetsOrTells};
 
 use crate::guest_store::GuestStore;
@@ -27,7 +27,7 @@ impl GuestStore {
         address: u32,
         count: u32,
     ) -> Result<ReturnCode, OperateError>
-        ensures meets { MeetsOrTells self.old self.new result (step_of side end.now address count) }
+        ensures meets { MeetsOrTells self.old self.new result (operation_step side end.now address count) }
         ensures stays { BasesStay self.old.guests self.new.guests }
     {
         match self.store.operate_or_stay(side, end, address, count) {
@@ -47,9 +47,9 @@ impl GuestStore {
         count: u32,
     ) -> OperateError
         requires meets { MeetsOrStays self.now self.now (Err error)
-            (react self.now (step_of side end.now address count)) }
+            (react self.now (operation_step side end.now address count)) }
         requires memory { error ≢ StoreError.OutOfMemory }
-        ensures { MeetsOrTells self.now self.now (Err result) (step_of side end.now address count) }
+        ensures { MeetsOrTells self.now self.now (Err result) (operation_step side end.now address count) }
     {
         match error {
             StoreError::Refused(refusal) => OperateError::Refused(refusal),
@@ -77,9 +77,9 @@ impl GuestStore {
         count: u32,
     ) -> Option<BadItem>
         ensures some { IfSome result (IsBadItem self.now
-            (step_of side (record { guest = guest; ty = ty; handle = handle }) address count)) }
+            (operation_step side (record { guest = guest; ty = ty; handle = handle }) address count)) }
         ensures none { IsNone result → (s : ℕ) → HasBadItem self.now
-            (step_of side (record { guest = guest; ty = ty; handle = handle }) address count) s → ⊥ }
+            (operation_step side (record { guest = guest; ty = ty; handle = handle }) address count) s → ⊥ }
     {
         let end = NamedEnd { guest, ty, handle };
         self.store.bad_item(side, &end, address, count)

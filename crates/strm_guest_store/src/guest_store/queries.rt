@@ -4,7 +4,7 @@
 //! change nothing and take no memory.
 
 ghost use Rattle.std.specs.Prelude.{◌≡◌};
-ghost use Rattle.strm_transmit.specs.Queries.{handle_answer, next_answer, count_answer};
+ghost use Rattle.strm_transmit.specs.Queries.{handle_answer, next_handle_answer, count_answer};
 
 use crate::guest_store::GuestStore;
 use strm_codes::refusals::Refusal;
@@ -22,7 +22,7 @@ impl GuestStore {
     /// The least handle of a guest above a number, and what it is of; none where no handle is above it.
     /// All of them, one after the other, cost one pass over the guest's table. Refused: UnknownGuest.
     pub fn next_handle(&self, guest: u32, after: u32) -> Result<Option<(u32, Handle)>, Refusal>
-        ensures exact { result ≡ next_answer self.now guest after }
+        ensures exact { result ≡ next_handle_answer self.now guest after }
     {
         self.store.next_handle(guest, after)
     }

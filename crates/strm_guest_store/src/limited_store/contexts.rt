@@ -2,14 +2,12 @@
 //!
 //! Meaning: `Limited.antt`, and `Reactions.antt` of `strm_machine`. Source: those of `GuestStore`'s calls.
 
-ghost use Rattle.std.specs.Prelude.{◌≡◌, IfOk};
+ghost use Rattle.std.specs.Prelude.{◌≡◌};
 ghost use Rattle.strm_machine.specs.Bases.{BasesStay};
 ghost use Rattle.strm_machine.specs.Reactions.{react, lowers_context};
-ghost use Rattle.strm_machine.specs.declared.replies.Reply.TheVariants as replies;
 ghost use Rattle.strm_machine.specs.declared.steps.Step.TheVariants as steps;
-ghost use Rattle.strm_transmit.specs.Meets.{Meets, as_reply};
 ghost use Rattle.strm_guest_store.specs.Limits.{is_past};
-ghost use Rattle.strm_guest_store.specs.Limited.{KeepsLimits};
+ghost use Rattle.strm_guest_store.specs.Limited.{KeepsLimits, GivesNumber};
 ghost use Rattle.strm_guest_store.specs.declared.guest_limits.Gain.TheVariants.{Context};
 
 use crate::guest_limits::{Gain, PastLimit};
@@ -27,9 +25,8 @@ impl LimitedStore {
     ) -> Result<Result<u32, StoreError>, PastLimit>
         ensures within { KeepsLimits self.old self.new
             (is_past self.old.store self.old.limits guest Context) result }
-        ensures meets { IfOk result (λ answer.
-            Meets self.old.store self.new.store (as_reply replies.Number answer)
-            (react self.old.store (steps.ErrNew guest address len))) }
+        ensures meets { GivesNumber self.old self.new result
+            (react self.old.store (steps.ErrNew guest address len)) }
         ensures stays { BasesStay self.old.store.guests self.new.store.guests }
     {
         if self.is_past(guest, Gain::Context) {
@@ -48,9 +45,8 @@ impl LimitedStore {
     ) -> Result<Result<u32, StoreError>, PastLimit>
         ensures within { KeepsLimits self.old self.new
             (is_past self.old.store self.old.limits to Context) result }
-        ensures meets { IfOk result (λ answer.
-            Meets self.old.store self.new.store (as_reply replies.Number answer)
-            (react self.old.store (steps.ErrMove guest handle to))) }
+        ensures meets { GivesNumber self.old self.new result
+            (react self.old.store (steps.ErrMove guest handle to)) }
         ensures stays { BasesStay self.old.store.guests self.new.store.guests }
     {
         if self.is_past(to, Gain::Context) {
@@ -68,9 +64,8 @@ impl LimitedStore {
     ) -> Result<Result<u32, StoreError>, PastLimit>
         ensures within { KeepsLimits self.old self.new
             (is_past self.old.store self.old.limits guest Context) result }
-        ensures meets { IfOk result (λ answer.
-            Meets self.old.store self.new.store (as_reply replies.Number answer)
-            (lowers_context self.old.store rep guest)) }
+        ensures meets { GivesNumber self.old self.new result
+            (lowers_context self.old.store rep guest) }
         ensures stays { BasesStay self.old.store.guests self.new.store.guests }
     {
         if self.is_past(guest, Gain::Context) {

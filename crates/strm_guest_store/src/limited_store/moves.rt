@@ -6,11 +6,9 @@ ghost use Rattle.std.specs.Prelude.{◌≡◌, ◌≢◌, IfOk, Err};
 ghost use Rattle.strm_codes.specs.declared.codes.TransmitIndex.TheVariants as index;
 ghost use Rattle.strm_machine.specs.Bases.{BasesStay};
 ghost use Rattle.strm_machine.specs.Reactions.{react};
-ghost use Rattle.strm_machine.specs.declared.replies.Reply.TheVariants as replies;
 ghost use Rattle.strm_machine.specs.declared.steps.Step.TheVariants as steps;
-ghost use Rattle.strm_transmit.specs.Meets.{Meets, as_reply};
 ghost use Rattle.strm_guest_store.specs.Limits.{is_past, is_move_past};
-ghost use Rattle.strm_guest_store.specs.Limited.{KeepsLimits};
+ghost use Rattle.strm_guest_store.specs.Limited.{KeepsLimits, GivesNumber};
 ghost use Rattle.strm_guest_store.specs.declared.guest_limits.Gain.TheVariants.{Ends};
 
 use crate::guest_limits::{Gain, PastLimit};
@@ -31,9 +29,8 @@ impl LimitedStore {
     ) -> Result<Result<u32, StoreError>, PastLimit>
         ensures within { KeepsLimits self.old self.new
             (is_move_past self.old.store self.old.limits guest to) result }
-        ensures meets { IfOk result (λ answer.
-            Meets self.old.store self.new.store (as_reply replies.Number answer)
-            (react self.old.store (steps.Move guest (index.Stream payload) handle to))) }
+        ensures meets { GivesNumber self.old self.new result
+            (react self.old.store (steps.Move guest (index.Stream payload) handle to)) }
         ensures stays { BasesStay self.old.store.guests self.new.store.guests }
         ensures takes_no_memory { IfOk result (λ answer.
             guest ≡ to → answer ≢ Err StoreError.OutOfMemory) }
@@ -55,9 +52,8 @@ impl LimitedStore {
     ) -> Result<Result<u32, StoreError>, PastLimit>
         ensures within { KeepsLimits self.old self.new
             (is_move_past self.old.store self.old.limits guest to) result }
-        ensures meets { IfOk result (λ answer.
-            Meets self.old.store self.new.store (as_reply replies.Number answer)
-            (react self.old.store (steps.Move guest (index.Future payload) handle to))) }
+        ensures meets { GivesNumber self.old self.new result
+            (react self.old.store (steps.Move guest (index.Future payload) handle to)) }
         ensures stays { BasesStay self.old.store.guests self.new.store.guests }
         ensures takes_no_memory { IfOk result (λ answer.
             guest ≡ to → answer ≢ Err StoreError.OutOfMemory) }
@@ -77,9 +73,8 @@ impl LimitedStore {
     ) -> Result<Result<u32, StoreError>, PastLimit>
         ensures within { KeepsLimits self.old self.new
             (is_past self.old.store self.old.limits guest (Ends 1)) result }
-        ensures meets { IfOk result (λ answer.
-            Meets self.old.store self.new.store (as_reply replies.Number answer)
-            (react self.old.store (steps.Lower reader guest ty))) }
+        ensures meets { GivesNumber self.old self.new result
+            (react self.old.store (steps.Lower reader guest ty)) }
         ensures stays { BasesStay self.old.store.guests self.new.store.guests }
     {
         if self.is_past(guest, Gain::Ends { count: 1 }) {

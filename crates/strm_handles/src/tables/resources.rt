@@ -2,9 +2,9 @@
 //!
 //! Source: wasmtime, `handle_table.rs`, the calls of these names; Canonical ABI, "Resource State".
 
-ghost use Rattle.std.specs.Prelude.{◌≡◌, ◌≤◌, ◌<◌, if◌then◌else◌, IsSome, IfOk, OnOk, OnErr};
+ghost use Rattle.std.specs.Prelude.{◌≡◌, ◌≤◌, ◌<◌, if◌then◌else◌, IsSome, IfOk, OnOk};
 ghost use Rattle.strm_handles.specs.Handles.{entry_at, live_of};
-ghost use Rattle.strm_handles.specs.Changes.{Inserts, Removes};
+ghost use Rattle.strm_handles.specs.Changes.{Inserts, Removes, ChangesInPlace};
 ghost use Rattle.strm_handles.specs.Counters.{counted, uncounted};
 ghost use Rattle.strm_handles.specs.Lookups.{resource_rep_of};
 ghost use Rattle.strm_handles.specs.Lends.{resource_lend_of, resource_undo_lend_of, HasLend, lent, returned, remove_resource_of};
@@ -70,9 +70,7 @@ impl HandleTable {
         ensures ok { OnOk result (self.new.handles ≡ lent self.old.handles idx.index) }
         ensures live { IfOk result
             (λ r. counter.new ≡ (if r.1 then counted counter.old else counter.old)) }
-        ensures room { self.new.room ≡ self.old.room }
-        ensures err { OnErr result (self.new ≡ self.old) }
-        ensures kept { OnErr result (counter.new ≡ counter.old) }
+        ensures stays { ChangesInPlace self.old self.new counter.old counter.new result }
     {
         match self.slots.get(idx.index) {
             Some(
@@ -120,9 +118,7 @@ impl HandleTable {
         ensures answer { result ≡ resource_undo_lend_of self.old.handles idx }
         ensures ok { OnOk result (self.new.handles ≡ returned self.old.handles idx.index) }
         ensures live { OnOk result (counter.new ≡ uncounted counter.old) }
-        ensures room { self.new.room ≡ self.old.room }
-        ensures err { OnErr result (self.new ≡ self.old) }
-        ensures kept { OnErr result (counter.new ≡ counter.old) }
+        ensures stays { ChangesInPlace self.old self.new counter.old counter.new result }
     {
         match self.slots.get(idx.index) {
             Some(

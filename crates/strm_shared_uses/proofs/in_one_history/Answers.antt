@@ -1,5 +1,5 @@
 use Rattle.std.proofs.Common.{◌∷◌, subst, ◌∙◌}
-use Rattle.strm_shared.specs.Histories.{numbers_of, AreCallsIn, Differ}
+use Rattle.strm_shared.specs.Histories.{numbers_of_seats, AreCallsIn, Differ}
 use Rattle.strm_shared.proofs.EndedLemmas.{calls_of_last, last_differs}
 use Rattle.strm_shared.proofs.FrontLemmas.{front_trans}
 use Rattle.strm_shared_uses.proofs.in_one_history.Goals as goal
@@ -25,4 +25,4 @@ returns-clause-apart g c =
     let ended = c.call.ensures.one.1 ∙ c.seat_join.ensures.joined.5 in
     let new = c.call.new.seat in
     let other = c.args.other in
-    last_differs new.number c.args.seat.now.ended other.ended (other.number, other.mine) (subst (λ e. Differ (new.number ∷ numbers_of e)) ended c.call.ensures.one.2.apart)
+    last_differs new.number c.args.seat.now.ended other.ended (other.number, other.mine) (subst (λ e. Differ (new.number ∷ numbers_of_seats e)) ended c.call.ensures.one.2.apart)

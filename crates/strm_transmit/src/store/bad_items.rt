@@ -12,7 +12,7 @@ ghost use Rattle.strm_machine.specs.State.{is_held, memory_in};
 ghost use Rattle.strm_machine.specs.Sides.{write_of};
 ghost use Rattle.strm_machine.specs.declared.streams.Owner.TheVariants.{Held};
 ghost use Rattle.strm_machine.proofs.HeldLemmas.{StateIsHeld};
-ghost use Rattle.strm_transmit.specs.BadItems.{step_of, open_across, IsFirstBad, IsBadItem};
+ghost use Rattle.strm_transmit.specs.BadItems.{operation_step, open_across, IsFirstBad, IsBadItem};
 ghost use Rattle.strm_transmit.specs.Guests.{AreOfOwners};
 
 use crate::store::Store;
@@ -128,9 +128,9 @@ impl Store {
     /// Nothing changes. It costs a look at the items up to that one.
     pub fn bad_item(&self, side: Side, end: &NamedEnd, address: u32, count: u32) -> Option<BadItem>
         requires owned { AreOfOwners self.now.streams }
-        ensures some { IfSome result (IsBadItem self.now (step_of side end.now address count)) }
+        ensures some { IfSome result (IsBadItem self.now (operation_step side end.now address count)) }
         ensures none { IsNone result →
-            (s : ℕ) → HasBadItem self.now (step_of side end.now address count) s → ⊥ }
+            (s : ℕ) → HasBadItem self.now (operation_step side end.now address count) s → ⊥ }
     {
         self.sound();
         self.held();

@@ -20,7 +20,7 @@ ghost use Rattle.strm_machine.specs.declared.replies.Reply.TheVariants as replie
 ghost use Rattle.strm_machine.specs.declared.steps.Step.TheVariants as steps;
 ghost use Rattle.strm_machine.proofs.NameLemmas.{IsEndError};
 ghost use Rattle.strm_host_machine.specs.Does.{Fits};
-ghost use Rattle.strm_transmit.specs.Celled.{cell_named, place_named, IsOwn};
+ghost use Rattle.strm_transmit.specs.Celled.{cell_named, stream_side_named, IsOwn};
 ghost use Rattle.strm_transmit.specs.Meets.{Meets, as_reply, or_found};
 ghost use Rattle.strm_transmit.specs.Hosted.{StillFits, MeetsHosted};
 
@@ -62,7 +62,7 @@ impl Store {
         requires { guest < length self.now.guests }
         ensures exact { result ≡ or_found
             (first_of (slot_reasons (end_named self.now guest handle)))
-            (place_named self.now guest handle) }
+            (stream_side_named self.now guest handle) }
         ensures there { IfOk result (λ found. found.0 < length self.now.streams) }
     {
         match self.end_name(guest, handle) {
@@ -93,7 +93,7 @@ impl Store {
     #[tactic(auto, unfolding(strm_machine::specs::Refusals::refusal))]
     fn event_found(&self, guest: u32, handle: u32) -> Result<(u32, Side), Refusal>
         ensures exact { result
-            ≡ or_found (refusal self.now (Event guest handle)) (place_named self.now guest handle) }
+            ≡ or_found (refusal self.now (Event guest handle)) (stream_side_named self.now guest handle) }
         ensures there { IfOk result (λ found. found.0 < length self.now.streams) }
     {
         if self.is_unknown_guest(guest) {

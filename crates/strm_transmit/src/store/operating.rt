@@ -31,7 +31,7 @@ ghost use Rattle.strm_machine.specs.declared.replies.Reply.TheVariants as replie
 ghost use Rattle.strm_host_machine.specs.Does.{Fits};
 ghost use Rattle.strm_transmit.specs.Meets.{Meets, as_reply};
 ghost use Rattle.strm_transmit.specs.Hosted.{MeetsHosted, StillFits, RunsOutOnlyPolling, RunsOutNoneHeld};
-ghost use Rattle.strm_transmit.specs.BadItems.{MeetsOrStays, left_by};
+ghost use Rattle.strm_transmit.specs.BadItems.{MeetsOrStays, left_by_error};
 ghost use Rattle.strm_transmit.specs.Operating.{Operates, OperatesOrStays, MayBegin, BeginsOn, BeginsOrStays};
 ghost use Rattle.strm_transmit.specs.Turning.{IsPlacedOn, IsNumberWithin};
 
@@ -163,7 +163,7 @@ impl Store {
 
     // The store is trapped after an item that is none, and after no other error.
     fn trap_at_bad_item(&mut self, error: StoreError)
-        ensures { self.new ≡ left_by error self.old }
+        ensures { self.new ≡ left_by_error error self.old }
     {
         match error {
             StoreError::BadItem { .. } => self.trap(),
@@ -252,22 +252,6 @@ impl Store {
     // An operation that is just called begins, apart from the code that refuses it.
     #[inline(never)]
     fn take_apart(
-        &mut self,
-        side: Side,
-        stream: u32,
-        guest: u32,
-        address: u32,
-        count: ItemCount,
-    ) -> Result<ReturnCode, StoreError>
-        requires called { MayBegin self.old side stream (begun guest address count) }
-        ensures begins { BeginsOn self.old self.new side stream (begun guest address count) result }
-    {
-        self.take_called(side, stream, guest, address, count)
-    }
-
-    // The same, inlined.
-    #[inline(always)]
-    fn take_called(
         &mut self,
         side: Side,
         stream: u32,

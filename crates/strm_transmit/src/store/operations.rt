@@ -16,13 +16,13 @@ ghost use Rattle.strm_machine.specs.Tests.{is_too_big, items_asked, named, strea
 ghost use Rattle.strm_machine.specs.Refusals.{first_of, region_reasons, refusal};
 ghost use Rattle.strm_machine.specs.declared.acts.Act.TheVariants.{OnEnd};
 ghost use Rattle.strm_machine.specs.declared.acts.EndAct.TheVariants.{Operate};
-ghost use Rattle.strm_machine.specs.declared.replies.Reply.TheVariants as replies;
 ghost use Rattle.strm_machine.specs.declared.steps.Step.TheVariants as steps;
 ghost use Rattle.strm_machine.specs.declared.streams.Owner.TheVariants.{Host};
 ghost use Rattle.strm_machine.specs.declared.streams.Side.TheVariants.{Writing, Reading};
 ghost use Rattle.strm_host_machine.specs.Does.{Fits};
-ghost use Rattle.strm_transmit.specs.Meets.{as_reply, or_found};
-ghost use Rattle.strm_transmit.specs.Hosted.{MeetsHosted, RunsOutOnlyPolling, RunsOutNoneHeld};
+ghost use Rattle.strm_transmit.specs.Meets.{or_found};
+ghost use Rattle.strm_transmit.specs.Hosted.{RunsOutOnlyPolling, RunsOutNoneHeld};
+ghost use Rattle.strm_transmit.specs.Operating.{MeetsCode};
 ghost use Rattle.strm_transmit.specs.Turning.{across, IsPlacedOn, IsNumberWithin};
 
 use crate::errors::StoreError;
@@ -133,9 +133,8 @@ impl Store {
         count: u32,
     ) -> Result<ReturnCode, StoreError>
         requires fits { Fits self.old (H.tells hosts.old) }
-        ensures meets { MeetsHosted self.old self.new (H.tells hosts.old) (H.tells hosts.new)
-            (as_reply replies.Code result)
-            (act_of (steps.Read guest (index.Stream payload) handle address count)) }
+        ensures meets { MeetsCode (steps.Read guest (index.Stream payload) handle address count)
+            self.old self.new (H.tells hosts.old) (H.tells hosts.new) result }
         ensures takes_no_memory { RunsOutOnlyPolling self.old
             (act_of (steps.Read guest (index.Stream payload) handle address count)) result }
         ensures held { RunsOutNoneHeld self.old (H.tells hosts.old)
@@ -161,9 +160,8 @@ impl Store {
         count: u32,
     ) -> Result<ReturnCode, StoreError>
         requires fits { Fits self.old (H.tells hosts.old) }
-        ensures meets { MeetsHosted self.old self.new (H.tells hosts.old) (H.tells hosts.new)
-            (as_reply replies.Code result)
-            (act_of (steps.Write guest (index.Stream payload) handle address count)) }
+        ensures meets { MeetsCode (steps.Write guest (index.Stream payload) handle address count)
+            self.old self.new (H.tells hosts.old) (H.tells hosts.new) result }
         ensures takes_no_memory { RunsOutOnlyPolling self.old
             (act_of (steps.Write guest (index.Stream payload) handle address count)) result }
     {
@@ -184,9 +182,8 @@ impl Store {
         address: u32,
     ) -> Result<ReturnCode, StoreError>
         requires fits { Fits self.old (H.tells hosts.old) }
-        ensures meets { MeetsHosted self.old self.new (H.tells hosts.old) (H.tells hosts.new)
-            (as_reply replies.Code result)
-            (act_of (steps.Read guest (index.Future payload) handle address 1)) }
+        ensures meets { MeetsCode (steps.Read guest (index.Future payload) handle address 1)
+            self.old self.new (H.tells hosts.old) (H.tells hosts.new) result }
         ensures takes_no_memory { RunsOutOnlyPolling self.old
             (act_of (steps.Read guest (index.Future payload) handle address 1)) result }
         ensures held { RunsOutNoneHeld self.old (H.tells hosts.old)
@@ -209,9 +206,8 @@ impl Store {
         address: u32,
     ) -> Result<ReturnCode, StoreError>
         requires fits { Fits self.old (H.tells hosts.old) }
-        ensures meets { MeetsHosted self.old self.new (H.tells hosts.old) (H.tells hosts.new)
-            (as_reply replies.Code result)
-            (act_of (steps.Write guest (index.Future payload) handle address 1)) }
+        ensures meets { MeetsCode (steps.Write guest (index.Future payload) handle address 1)
+            self.old self.new (H.tells hosts.old) (H.tells hosts.new) result }
         ensures takes_no_memory { RunsOutOnlyPolling self.old
             (act_of (steps.Write guest (index.Future payload) handle address 1)) result }
     {

@@ -8,7 +8,7 @@ ghost use Rattle.std.specs.Prelude.{◌≡◌, ◌<◌, length, Some, is_some, o
 ghost use Rattle.strm_handles.specs.Handles.{entry_at};
 ghost use Rattle.strm_machine.specs.State.{guest_in};
 ghost use Rattle.strm_machine.specs.Soundness.{types_of, EntryIsNamed};
-ghost use Rattle.strm_transmit.specs.Queries.{end_told, told_of, handle_told, handle_answer, next_above, with_told, next_answer, count_answer};
+ghost use Rattle.strm_transmit.specs.Queries.{end_told, told_of, handle_told, handle_answer, next_above, handle_with_told, next_handle_answer, count_answer};
 
 use crate::store::refusals::side_of;
 use crate::store::{Store, type_with};
@@ -121,7 +121,7 @@ impl Store {
     // The same with the handle.
     fn with_told(&self, guest: u32, number: u32) -> Option<(u32, Handle)>
         requires { guest < length self.now.guests }
-        ensures { result ≡ with_told self.now guest (Some number) }
+        ensures { result ≡ handle_with_told self.now guest (Some number) }
     {
         match self.handle_told(guest, number) {
             Some(told) => Some((number, told)),
@@ -148,7 +148,7 @@ impl Store {
     /// From 0 on, and then from each handle that it answers, it tells all of them, and goes over the
     /// guest's table once. A trapped store answers too. Refused: UnknownGuest.
     pub fn next_handle(&self, guest: u32, after: u32) -> Result<Option<(u32, Handle)>, Refusal>
-        ensures exact { result ≡ next_answer self.now guest after }
+        ensures exact { result ≡ next_handle_answer self.now guest after }
     {
         if self.is_unknown_guest(guest) {
             return Err(Refusal::UnknownGuest);

@@ -1,5 +1,5 @@
 use Rattle.std.proofs.Common.{Some, refl, subst, inl}
-use Rattle.strm_codes.specs.Codes.{count_of}
+use Rattle.strm_codes.specs.Codes.{count_of_code}
 use Rattle.strm_machine.specs.declared.steps.Step.TheVariants as steps
 use Rattle.strm_machine.specs.declared.replies.Reply.TheVariants as replies
 use Rattle.strm_chain.specs.Playing.{Adds}
@@ -24,7 +24,7 @@ hand_over-requires-clause-over c =
 pub hand_over-requires-clause-within : goal.hand_over-requires-clause-within
 hand_over-requires-clause-within c =
     let adds = subst (λ o. Adds c.args.player.now c.take_event.new.self (steps.Event c.args.guest c.in-Some.handle) (replies.Event o)) c.in-Some-2.is c.in_ok-code.ensures in
-    told_within c.args.guest c.args.worker.now c.args.player.now c.requires.guest c.requires.guest.played c.take_event.new.self c.played.ensures (count_of c.in-Some-2.code)
+    told_within c.args.guest c.args.worker.now c.args.player.now c.requires.guest c.requires.guest.played c.take_event.new.self c.played.ensures (count_of_code c.in-Some-2.code)
     (record {
       handle = c.in-Some.handle;
       waits = c.requires.waits;

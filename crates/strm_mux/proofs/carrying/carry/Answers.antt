@@ -2,7 +2,7 @@ use Rattle.std.proofs.Common.{◌≡◌, ◌≤◌, ◌∷◌, [], List, length,
 use Rattle.strm_laws.specs.Conservation.{got, state_after_steps, moments, replies_of}
 use Rattle.strm_machine.specs.Plays.{play, Ends}
 use Rattle.strm_laws.specs.Starts.{run_start}
-use Rattle.strm_session.specs.Runs.{counts_of}
+use Rattle.strm_session.specs.Runs.{received_counts}
 use Rattle.strm_frames.specs.Demuxes.{IsDemuxFed}
 use Rattle.strm_machine.specs.declared.steps.Step.{Step}
 use Rattle.strm_carry_laws.specs.OneStream.{script_of, bytes_as_items, CanCarry, dumped}
@@ -26,9 +26,9 @@ play_all-requires-clause-one c =
     let bytes = c.bytes-bytes.result.now in
     let few : length bytes ≤ 1048576 = omega (arith, c.requires.few, ap length c.bytes-bytes.ensures.bytes) in
     let k : CanCarry c.args.write c.args.read bytes = can_carry c.args.write c.args.read bytes c.hold_bytes.ensures few c.requires.write c.requires.read in
-    let all : counts_of (state_after_steps run_start c.as_slice.result.now) ≡ length bytes ∷ [] =
-    ap (λ (s : List Step). counts_of (state_after_steps run_start s)) (c.as_slice.ensures ∙ c.in_ok-steps.ensures.ok) ∙ c.carries.ensures.received c.args.write c.args.read bytes k in
-    one_count (counts_of (state_after_steps run_start c.as_slice.result.now)) (length bytes) all few
+    let all : received_counts (state_after_steps run_start c.as_slice.result.now) ≡ length bytes ∷ [] =
+    ap (λ (s : List Step). received_counts (state_after_steps run_start s)) (c.as_slice.ensures ∙ c.in_ok-steps.ensures.ok) ∙ c.carries.ensures.received c.args.write c.args.read bytes k in
+    one_count (received_counts (state_after_steps run_start c.as_slice.result.now)) (length bytes) all few
 
 pub returns-clause-carried : goal.returns-clause-carried
 returns-clause-carried c =
@@ -36,10 +36,10 @@ returns-clause-carried c =
     let k : CanCarry c.args.write c.args.read bytes =
     can_carry c.args.write c.args.read bytes c.hold_bytes.ensures (omega (arith, c.requires.few, ap length c.bytes-bytes.ensures.bytes)) c.requires.write c.requires.read in
     let script = c.in_ok-steps.ensures.ok in
-    let moved : c.in_ok-played.played.moved ∷ [] ≡ counts_of (state_after_steps run_start c.in_ok-steps.steps) =
-    c.in_ok-played.ensures.moved ∙ ap (λ (s : List Step). counts_of (state_after_steps run_start s)) c.as_slice.ensures in
-    let all : counts_of (state_after_steps run_start c.in_ok-steps.steps) ≡ length bytes ∷ [] =
-    ap (λ (s : List Step). counts_of (state_after_steps run_start s)) script ∙ c.carries.ensures.received c.args.write c.args.read bytes k in
+    let moved : c.in_ok-played.played.moved ∷ [] ≡ received_counts (state_after_steps run_start c.in_ok-steps.steps) =
+    c.in_ok-played.ensures.moved ∙ ap (λ (s : List Step). received_counts (state_after_steps run_start s)) c.as_slice.ensures in
+    let all : received_counts (state_after_steps run_start c.in_ok-steps.steps) ≡ length bytes ∷ [] =
+    ap (λ (s : List Step). received_counts (state_after_steps run_start s)) script ∙ c.carries.ensures.received c.args.write c.args.read bytes k in
     record {
       steps = script ∙ ap (script_of c.args.write c.args.read) c.bytes-bytes.ensures.bytes;
       played = subst (λ (s : List Step). play [] run_start s ≡ Ends c.in_ok-played.played.replies (state_after_steps run_start s)) c.as_slice.ensures c.in_ok-played.ensures.played;

@@ -1,6 +1,6 @@
 use Rattle.std.proofs.Common.{◌≡◌, take}
-use Rattle.strm_session.specs.Runs.{counts_of}
+use Rattle.strm_session.specs.Runs.{received_counts}
 use Rattle.strm_session.proofs.playing.counts.Given as goal
 
 abbrev pub invariant-loop-stream : goal.invariant-loop-stream
-invariant-loop-stream l = l.counts ≡ take l.stream (counts_of l.store)
+invariant-loop-stream l = l.counts ≡ take l.stream (received_counts l.store)
