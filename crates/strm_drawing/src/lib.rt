@@ -16,4 +16,5 @@ pub mod running;
 mod sameness;
 pub mod serving;
 mod shapes;
+mod styles;
 mod svg;
