@@ -2,16 +2,14 @@
 //!
 //! Meaning: `Moves.antt`, and `Running.antt` for what a run comes to. Ours.
 
-ghost use Rattle.std.specs.Prelude.{◌≡◌, ◌≢◌, ◌<◌, ◌≤◌, ◌+◌, ◌++◌, [], ℕ, false, map, length, Some, Err, IfOk, IfErr, OnOk};
+ghost use Rattle.std.specs.Prelude.{◌≡◌, ◌<◌, ◌≤◌, ◌+◌, ◌++◌, [], ℕ, false, map, length, Some, IfOk, IfErr, OnOk};
 ghost use Rattle.std.specs.List.{range_with_len};
-ghost use Rattle.strm_codes.specs.declared.refusals.Refusal.{Refusal};
 ghost use Rattle.strm_host_machine.specs.Does.{Fits};
 ghost use Rattle.strm_laws.specs.Starts.{run_start};
 ghost use Rattle.strm_machine.specs.Moments.{received};
 ghost use Rattle.strm_machine.specs.State.{State};
 ghost use Rattle.strm_machine.specs.declared.stops.Stop.{Stop};
 ghost use Rattle.strm_session.specs.Runs.{stop_of};
-ghost use Rattle.strm_transmit.specs.Hosted.{call_answered};
 ghost use Rattle.strm_drawing.specs.declared.arrows.Row.{Row};
 ghost use Rattle.strm_drawing.specs.Folding.{rows_kept, IsFolding};
 ghost use Rattle.strm_drawing.specs.Holders.{holders_after};
@@ -31,9 +29,8 @@ use strm_lines::one_by_one::GivesSteps;
 use strm_machine::replies::Reply;
 use strm_machine::steps::Step;
 use strm_machine::stops::Stop;
-use strm_session::runs::{PROGRAM_LIMITS, RunCause};
+use strm_session::runs::{PROGRAM_LIMITS, RunCause, cause_of};
 use strm_session::serving::{DONE, status_of};
-use strm_transmit::errors::StoreError;
 use strm_transmit::host_ends::HostEnds;
 use strm_transmit::steps::apply;
 use strm_transmit::store::Store;
@@ -308,21 +305,5 @@ fn ending_of(ended: Result<(), RunCause>) -> Result<Ending, OutOfMemory>
                 stop: Some(stop),
             })
         }
-    }
-}
-
-// Why a run stops where the store did not do a step.
-fn cause_of(error: StoreError) -> RunCause
-    requires refused { (refusal : Refusal) → error ≢ StoreError.Refused refusal }
-    requires trapped { error ≢ StoreError.StoreTrapped }
-    ensures { call_answered (Err error) ≡ Err (stop_of result) }
-{
-    match error {
-        StoreError::HostFailed { end } => RunCause::HostFailed { end },
-        StoreError::HostBroke { end } => RunCause::HostBroke { end },
-        StoreError::BadItem { stream } => RunCause::BadItem { stream },
-        StoreError::OutOfMemory => RunCause::OutOfMemory,
-        StoreError::Refused(_) => unreachable!(),
-        StoreError::StoreTrapped => unreachable!(),
     }
 }

@@ -2,27 +2,25 @@
 //!
 //! Meaning: `Playing.antt`. Source: ours.
 
-ghost use Rattle.std.specs.Prelude.{◌≡◌, ◌≢◌, ◌≤◌, ◌<◌, ◌∷◌, ◌++◌, [], List, false, length, IfOk, IfErr, Err};
-ghost use Rattle.strm_codes.specs.declared.refusals.Refusal.{Refusal};
+ghost use Rattle.std.specs.Prelude.{◌≡◌, ◌≤◌, ◌<◌, ◌∷◌, ◌++◌, [], List, false, length, IfOk, IfErr};
 ghost use Rattle.strm_machine.specs.Acts.{act_of};
 ghost use Rattle.strm_machine.specs.declared.replies.Reply.{Reply};
 ghost use Rattle.strm_laws.specs.Laws.{StepHasBytes};
 ghost use Rattle.strm_host_machine.specs.Steps.{touches};
 ghost use Rattle.strm_host_machine.specs.Does.{Fits};
-ghost use Rattle.strm_transmit.specs.Hosted.{call_answered, lone};
+ghost use Rattle.strm_transmit.specs.Hosted.{lone};
 ghost use Rattle.strm_laws.specs.Starts.{run_start};
-ghost use Rattle.strm_session.specs.Runs.{received_counts, stop_of, HaveRoom};
+ghost use Rattle.strm_session.specs.Runs.{received_counts, HaveRoom};
 ghost use Rattle.strm_session.specs.Playing.{IsStepped, IsSteppedAlone, IsRunPlayed, HasRun};
 
 use crate::laws::{laws_hold, laws_hold_among};
-use crate::runs::{PROGRAM_LIMITS, RunCause};
+use crate::runs::{PROGRAM_LIMITS, RunCause, cause_of};
 use std::alloc::Global;
 use strm_codes::counts::OutOfMemory;
 use strm_lines::lists::Counts;
 use strm_lines::one_by_one::{GivesSteps, KeepsReplies};
 use strm_machine::replies::Reply;
 use strm_machine::steps::Step;
-use strm_transmit::errors::StoreError;
 use strm_transmit::host_ends::HostEnds;
 use strm_transmit::steps::apply;
 use strm_transmit::store::Store;
@@ -144,21 +142,5 @@ fn step_once<R: KeepsReplies, H: HostEnds>(
             Err(_) => Err(RunCause::OutOfMemory),
         },
         Err(error) => Err(cause_of(error)),
-    }
-}
-
-// Why a run stops where the store did not do a step.
-fn cause_of(error: StoreError) -> RunCause
-    requires refused { (refusal : Refusal) → error ≢ StoreError.Refused refusal }
-    requires trapped { error ≢ StoreError.StoreTrapped }
-    ensures { call_answered (Err error) ≡ Err (stop_of result) }
-{
-    match error {
-        StoreError::HostFailed { end } => RunCause::HostFailed { end },
-        StoreError::HostBroke { end } => RunCause::HostBroke { end },
-        StoreError::BadItem { stream } => RunCause::BadItem { stream },
-        StoreError::OutOfMemory => RunCause::OutOfMemory,
-        StoreError::Refused(_) => unreachable!(),
-        StoreError::StoreTrapped => unreachable!(),
     }
 }

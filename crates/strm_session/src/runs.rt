@@ -2,9 +2,11 @@
 //!
 //! Source: ours.
 
-ghost use Rattle.std.specs.Prelude.{◌≡◌, ◌≤◌, length, IfOk, IfErr};
+ghost use Rattle.std.specs.Prelude.{◌≡◌, ◌≢◌, ◌≤◌, length, Err, IfOk, IfErr};
+ghost use Rattle.strm_codes.specs.declared.refusals.Refusal.{Refusal};
+ghost use Rattle.strm_transmit.specs.Hosted.{call_answered};
 ghost use Rattle.strm_session.specs.Records.{HostsGoOn};
-ghost use Rattle.strm_session.specs.Runs.{HaveRoom, AreOfGuests, received_counts, next_step, IsWhole, HasStopped, IsDecided};
+ghost use Rattle.strm_session.specs.Runs.{HaveRoom, AreOfGuests, received_counts, next_step, IsWhole, HasStopped, IsDecided, stop_of};
 
 use crate::playing::{Ended, play_all};
 use std::alloc::Global;
@@ -12,6 +14,7 @@ use strm_lines::lists::{Counts, Replies, StepsLeft};
 use strm_machine::limits::Limits;
 use strm_machine::steps::Step;
 use strm_machine::streams::HostEnd;
+use strm_transmit::errors::StoreError;
 use strm_transmit::host_ends::HostEnds;
 use strm_transmit::store::Store;
 
@@ -55,6 +58,22 @@ pub struct RunStop {
     pub cause: RunCause,
     /// The replies to the steps before.
     pub replies: Replies,
+}
+
+/// Why a run stops where the store did not do a step.
+pub fn cause_of(error: StoreError) -> RunCause
+    requires refused { (refusal : Refusal) → error ≢ StoreError.Refused refusal }
+    requires trapped { error ≢ StoreError.StoreTrapped }
+    ensures { call_answered (Err error) ≡ Err (stop_of result) }
+{
+    match error {
+        StoreError::HostFailed { end } => RunCause::HostFailed { end },
+        StoreError::HostBroke { end } => RunCause::HostBroke { end },
+        StoreError::BadItem { stream } => RunCause::BadItem { stream },
+        StoreError::OutOfMemory => RunCause::OutOfMemory,
+        StoreError::Refused(_) => unreachable!(),
+        StoreError::StoreTrapped => unreachable!(),
+    }
 }
 
 /// Runs the steps on a new store, which polls and feeds these host ends and closes those that go.
