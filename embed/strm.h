@@ -16,16 +16,20 @@
    - Pointers are not NULL, also where a length is 0, and what they point at is nobody else's during the call. A
      length is PTRDIFF_MAX at most.
    - A guest's memory, by strm_memory_at, is read and written between calls only, never during one. Its block is the
-     store's: nobody else frees it or hands it to realloc, whatever the length, as an engine that grows its memories
-     would.
+     store's: nobody else frees it or hands it to realloc, whatever the length.
+   - An engine that makes and grows its memories itself lends their bytes (strm_add_guest_at). They are readable and
+     writable, and no two guests' overlap. They stay where they are until the store is told that they moved
+     (strm_memory_moved), or is given up; also where a memory only grew (strm_memory_grown) the store is told of it
+     before the next call that reads or writes there. Bytes that grew lie directly behind those that the store knows,
+     and bytes that moved begin with all of those.
    - malloc, realloc and free are one allocator for all of the program.
    All else is answered: any number may be passed as a guest, a handle, an address, a count or a payload.
 
    WHAT A CALL ANSWERS is the first of these that holds. Unless it is STRM_DONE nothing has changed, neither of the
    store nor at `out`.
    1. STRM_NO_STORE. 2. STRM_UNKNOWN_PAYLOAD. 3. STRM_GUEST_LIMIT. 4. The refusals, in the order of the call's list,
-   or STRM_UNKNOWN_STREAM, or STRM_NO_BAD_ITEM. 5. STRM_BAD_ITEM. 6. STRM_OUT_OF_MEMORY, which comes only where all
-   would else be done.
+   or STRM_UNKNOWN_STREAM, or STRM_NO_BAD_ITEM. 5. STRM_NOT_LENT. 6. STRM_SHORTER. 7. STRM_BAD_ITEM.
+   8. STRM_OUT_OF_MEMORY, which comes only where all would else be done.
 
    READS, WRITES AND EVENTS. docs/FORMATS.md of the repository shows each rule by an example.
    - A write and a read of one stream meet where one is called and the other waits. The lesser of their counts is
@@ -116,7 +120,9 @@ enum {
     STRM_NO_STORE = 69, /* The handle is of no store: it is {NULL}. */
     /* A guest that is there would get more than its limits allow. It is told before any refusal. */
     STRM_GUEST_LIMIT = 72,
-    STRM_NO_BAD_ITEM = 73 /* A read or write with these arguments stops at no item. */
+    STRM_NO_BAD_ITEM = 73, /* A read or write with these arguments stops at no item. */
+    STRM_NOT_LENT = 74, /* The guest's memory is the store's own, which neither grows nor moves. */
+    STRM_SHORTER = 75 /* There are fewer bytes than the guest's memory has. */
 };
 
 /* A status by its name, as "STRM_BUSY"; "?" where it is none. */
@@ -132,7 +138,7 @@ static inline const char *strm_status_name(strm_status status) {
     STRM_NAMED(INDEX_OVERFLOW) STRM_NAMED(HANDLE_LIMIT) STRM_NAMED(FULL) STRM_NAMED(MEMORY_TOO_BIG)
     STRM_NAMED(BAD_TEXT) STRM_NAMED(MESSAGE_TOO_LONG) STRM_NAMED(BAD_ITEM) STRM_NAMED(OUT_OF_MEMORY)
     STRM_NAMED(UNKNOWN_PAYLOAD) STRM_NAMED(UNKNOWN_STREAM) STRM_NAMED(NO_STORE) STRM_NAMED(GUEST_LIMIT)
-    STRM_NAMED(NO_BAD_ITEM)
+    STRM_NAMED(NO_BAD_ITEM) STRM_NAMED(NOT_LENT) STRM_NAMED(SHORTER)
     default: return "?";
     }
 #undef STRM_NAMED
@@ -268,8 +274,26 @@ STRM_ANSWER strm_transmit_index(const strm_store *store, uint32_t stream, strm_t
 /* GUESTS AND THEIR MEMORIES */
 
 /* Adds a guest with a memory of `size` zero bytes, and puts its number at `out`; the first is 0. Refused:
-   STRM_MEMORY_TOO_BIG (268,435,456 bytes of all guests together), STRM_FULL (1,048,576 guests). STRM_OUT_OF_MEMORY. */
+   STRM_MEMORY_TOO_BIG (268,435,456 bytes of all guests together, without those that were lent), STRM_FULL (1,048,576
+   guests). STRM_OUT_OF_MEMORY. */
 STRM_ANSWER strm_add_guest(strm_store *store, uint32_t size, uint32_t *out);
+
+/* Adds a guest whose memory is `len` bytes that the caller lends, from `bytes` on, and puts its number at `out`.
+   They stay where they are, are touched only as the guest's memory is, and are not freed: they are the caller's
+   again once the store is given up, or at once where nothing is added. There is no limit on those of all guests.
+   Refused: STRM_MEMORY_TOO_BIG (4,294,967,296 bytes or more), STRM_FULL (1,048,576 guests). STRM_OUT_OF_MEMORY. */
+STRM_ANSWER strm_add_guest_at(strm_store *store, uint8_t *bytes, size_t len, uint32_t *out);
+
+/* Tells that a memory which the caller lent has `len` bytes more, from `more` on, which lie directly behind its end:
+   it grew where it lies. Reads and writes that wait go on. Refused: STRM_UNKNOWN_GUEST, STRM_MEMORY_TOO_BIG
+   (4,294,967,296 bytes or more in all). STRM_NOT_LENT. */
+STRM_ANSWER strm_memory_grown(strm_store *store, uint32_t guest, uint8_t *more, size_t len);
+
+/* Tells that a memory which the caller lent goes on in `len` bytes from `bytes` on, which begin with all that it
+   had: it grew, and lies elsewhere. Reads and writes that wait go on there, and the bytes where it was are the
+   caller's again. Refused: STRM_UNKNOWN_GUEST, STRM_MEMORY_TOO_BIG (4,294,967,296 bytes or more). STRM_NOT_LENT,
+   STRM_SHORTER. */
+STRM_ANSWER strm_memory_moved(strm_store *store, uint32_t guest, uint8_t *bytes, size_t len);
 
 /* Copies `len` bytes into a guest's memory, from `address` on. Refused: STRM_UNKNOWN_GUEST, STRM_OUT_OF_BOUNDS. */
 STRM_ANSWER strm_memory_write(
@@ -280,9 +304,9 @@ STRM_ANSWER strm_memory_read(
     const strm_store *store, uint32_t guest, uint32_t address, uint8_t *out, size_t len);
 
 /* Puts at `out` where a guest's memory lies, and at `len` how many bytes it has; of no bytes `out` is an address
-   that may not be read. They lie there until the store is given up, from the beginning of a block of malloc's on, at
-   a multiple of 16. The caller may read and write them between calls, and must not during one. Refused:
-   STRM_UNKNOWN_GUEST. */
+   that may not be read. The store's own lie there until the store is given up, from the beginning of a block of
+   malloc's on, at a multiple of 16; those that the caller lent until it tells that they moved. The caller may read
+   and write them between calls, and must not during one. Refused: STRM_UNKNOWN_GUEST. */
 STRM_ANSWER strm_memory_at(strm_store *store, uint32_t guest, uint8_t **out, size_t *len);
 
 /* STREAMS */

@@ -180,7 +180,8 @@ struct ErrorContext {
     uint32_t handle = 0;
 };
 
-// A guest's memory. It lies there until its store is given up, and is read and written between calls only.
+// A guest's memory, or bytes for one. It lies there until its store is given up or it is told that it moved, and is
+// read and written between calls only.
 struct Memory {
     uint8_t *data = nullptr;
     size_t size = 0;
@@ -232,6 +233,16 @@ class Store {
 
     Result<Guest> add_guest(uint32_t size) noexcept {
         return told<Guest>([&](Guest *out) { return strm_add_guest(&store_, size, &out->number); });
+    }
+    // Bytes of the caller's, which stay its own: strm.h says for how long they are lent.
+    Result<Guest> add_guest_at(Memory bytes) noexcept {
+        return told<Guest>([&](Guest *out) { return strm_add_guest_at(&store_, bytes.data, bytes.size, &out->number); });
+    }
+    Status memory_grown(Guest guest, Memory more) noexcept {
+        return strm_memory_grown(&store_, guest.number, more.data, more.size);
+    }
+    Status memory_moved(Guest guest, Memory bytes) noexcept {
+        return strm_memory_moved(&store_, guest.number, bytes.data, bytes.size);
     }
     Result<Memory> memory(Guest guest) noexcept {
         return told<Memory>([&](Memory *out) { return strm_memory_at(&store_, guest.number, &out->data, &out->size); });

@@ -43,6 +43,8 @@ impl Default for Limits {
 #[derive(Clone, Debug, Default)]
 pub struct Guest {
     pub memory: Vec<u8>,
+    /// Whether the memory is an engine's, as an embedder's store may have some.
+    pub is_lent: bool,
     pub table: Table,
     pub sets: Vec<WaitableSet>,
 }

@@ -43,6 +43,9 @@ static void use_memory_of_none(strm_store store) {
     uint8_t bytes[4] = {7, 7, 7, 7}, *at = bytes;
     size_t len = 7;
     HAS_NO_STORE(strm_add_guest(&store, 8, &guest));
+    HAS_NO_STORE(strm_add_guest_at(&store, bytes, sizeof bytes, &guest));
+    HAS_NO_STORE(strm_memory_grown(&store, 0, bytes, sizeof bytes));
+    HAS_NO_STORE(strm_memory_moved(&store, 0, bytes, sizeof bytes));
     HAS_NO_STORE(strm_memory_write(&store, 0, 0, bytes, sizeof bytes));
     HAS_NO_STORE(strm_memory_read(&store, 0, 0, bytes, sizeof bytes));
     HAS_NO_STORE(strm_memory_at(&store, 0, &at, &len));

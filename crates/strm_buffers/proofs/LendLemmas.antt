@@ -1,13 +1,13 @@
 -- What a window is after a write through what `unmarked` lent.
 use Rattle.std.proofs.Common.{◌≡◌, ℕ, ◌+◌, ◌-◌, ◌*◌, ◌≤◌, ◌⊎◌, inl, inr, Bool, List, [], ◌∷◌, ◌++◌, length, take, drop, Option, Some, None, refl, sym, ap, subst, ◌∙◌, append_assoc, arith, length-append, length-drop}
-use Rattle.std.proofs.lemmas.List.{drop-drop, drop-take, take_all, take_at, drop_at, length-take-le, take-append-drop, take-append-le, append-nil}
-use Rattle.std.proofs.Math.Seq.{take-append-add, take-add}
+use Rattle.std.proofs.lemmas.List.{drop-drop, drop-take, take_all, take_at, drop_at, length-take-le, take-append-drop, append-nil}
+use Rattle.std.proofs.Math.Seq.{take-add}
 use Rattle.std.specs.List.{refill, slice_range, length_refill}
-use Rattle.strm_codes.specs.Layout.{scalars_of, item_size}
 use Rattle.strm_codes.specs.declared.scalars.Scalar.TheVariants.{U8}
 use Rattle.strm_codes.specs.declared.payloads.Payload.{Payload}
 use Rattle.strm_codes.specs.declared.payloads.Payload.TheVariants.{One}
 use Rattle.strm_memory.specs.Bytes.{put_at, bytes_at}
+use Rattle.strm_memory.specs.Lending.{written_from}
 use Rattle.strm_buffers.specs.Listing.{items_in}
 use Rattle.strm_buffers.specs.Windows.{Lent, IsBehind, last_bytes, window_kept, KeepsRest, IsWindow}
 use Rattle.strm_buffers.specs.Keeping.{end_kept, kept_after}
@@ -15,29 +15,6 @@ use Rattle.strm_buffers.specs.Lending.{written_over, with_unmarked}
 use Rattle.strm_buffers.proofs.ListingLemmas.{lie_same, length-items_in}
 use Rattle.strm_buffers.proofs.PutLemmas.{put_flat, put_at-nil, last_nil, length-last, drop-put_at}
 use Rattle.strm_buffers.proofs.WindowLemmas.{Kept}
-
--- bytes with others over them from a place on, up to their end
-abbrev pub over_from : (m w : List ℕ) → ℕ → List ℕ
-over_from m w at = take at m ++ refill (length (drop at m)) (drop at m) w
-
--- and as the code puts them together
-abbrev pub put_together : (m w : List ℕ) → ℕ → ℕ → List ℕ
-put_together m w at len = take len (take at m ++ (w ++ drop (length w) (drop at m)) ++ drop (length (take at m ++ (w ++ drop (length w) (drop at m)))) m)
-
--- the two are the same
-pub written_is : (m bytes : List ℕ) (at len : ℕ) → len ≡ length m → at ≤ length m
-    → put_together m bytes at len ≡ over_from m bytes at
-written_is m bytes at len e h =
-    let front : List ℕ = take at m in
-    let rest : List ℕ = drop at m in
-    let over : List ℕ = bytes ++ drop (length bytes) rest in
-    let back : List ℕ = drop (length (front ++ over)) m in
-    let n : length front ≡ at = length-take-le at m h in
-    let r = length-drop at m in
-    let size : len ≡ length front + length rest = omega (arith, n, r, e, h) in
-    let enough : length rest ≤ length over = omega (arith, length-append bytes (drop (length bytes) rest), length-drop (length bytes) rest) in
-    ap (take len) (append_assoc front over back) ∙ ap (λ j. take j (front ++ (over ++ back))) size ∙ take-append-add front (over ++ back) (length rest)
-    ∙ ap (λ l. front ++ l) (take-append-le (length rest) over back enough)
 
 -- what is kept once bytes were lent: all that is left, or it was already
 pub kept_then : (kept there : List ℕ) (r left : ℕ) → (kept ≡ []) ⊎ (left ≤ length kept) → length there ≡ left → left ≤ length (kept_after (Some r) kept there)
@@ -71,7 +48,7 @@ record Written (m new w : List ℕ) (at : ℕ) : Type 0 where
   pub behind : drop at new ≡ refill (length (drop at m)) (drop at m) w
   pub size : length new ≡ length m
 
-written_parts : (m new w : List ℕ) (at : ℕ) → at ≤ length m → new ≡ over_from m w at → Written m new w at
+written_parts : (m new w : List ℕ) (at : ℕ) → at ≤ length m → new ≡ written_from m at w → Written m new w at
 written_parts m new w at h e =
     let front : length (take at m) ≡ at = length-take-le at m h in
     let back : length (drop at m) ≡ length (refill (length (drop at m)) (drop at m) w) = length_refill (length (drop at m)) (drop at m) w refl in
@@ -92,7 +69,7 @@ window_over bytes kept address marked room prepared w = with_unmarked (window_ke
 
 module _ (bytes kept there new w : List ℕ) (space more address r marked : ℕ) (prepared : Bool) (win : IsWindow (One U8) bytes kept space address (Some r) marked prepared) where
   lend_memory : there ≡ bytes_at bytes (address + marked) (r - marked) → space ≤ more
-      → new ≡ over_from bytes w (address + marked) → Kept (One U8) new (kept_after (Some r) kept there) more address (Some r) marked prepared (window_over bytes kept address marked (Some r) prepared w)
+      → new ≡ written_from bytes (address + marked) w → Kept (One U8) new (kept_after (Some r) kept there) more address (Some r) marked prepared (window_over bytes kept address marked (Some r) prepared w)
   lend_memory t h e =
       let left = r - marked in
       let at = address + marked in
@@ -144,7 +121,7 @@ module _ (bytes kept there new w : List ℕ) (space more address r marked : ℕ)
 
 module _ (bytes kept there new w : List ℕ) (space more address marked : ℕ) (prepared : Bool) where
   lend_between : IsWindow (One U8) bytes kept space address None marked prepared → space ≤ more
-      → new ≡ over_from bytes w (address + marked) → Kept (One U8) new (kept_after None kept there) more address None marked prepared (window_over bytes kept address marked None prepared w)
+      → new ≡ written_from bytes (address + marked) w → Kept (One U8) new (kept_after None kept there) more address None marked prepared (window_over bytes kept address marked None prepared w)
   lend_between win h e =
       let at = address + marked in
       let rest : List ℕ = drop at bytes in
@@ -171,7 +148,7 @@ module _ (bytes kept there new w : List ℕ) (space more address marked : ℕ) (
 pub there_is : (bytes : List ℕ) (address r marked : ℕ) → marked ≤ r → slice_range bytes (address + marked) (address + r) ≡ bytes_at bytes (address + marked) (r - marked)
 there_is bytes address r marked h = let e : address + r - (address + marked) ≡ r - marked = omega (arith, h) in ap (λ j. take j (drop (address + marked) bytes)) e
 
-module _ (bytes kept new w : List ℕ) (space more address marked len : ℕ) (h : space ≤ more) (e : new ≡ over_from bytes w (address + marked)) where
+module _ (bytes kept new w : List ℕ) (space more address marked len : ℕ) (h : space ≤ more) (e : new ≡ written_from bytes (address + marked) w) where
   lend_room : (room : Option ℕ) (prepared : Bool) → IsWindow (One U8) bytes kept space address room marked prepared
       → Kept (One U8) new (kept_with bytes kept address marked len room) more address room marked prepared (window_over bytes kept address marked room prepared w)
   lend_room None prepared win = lend_between bytes kept (slice_range bytes (address + marked) len) new w space more address marked prepared win h e
@@ -179,16 +156,14 @@ module _ (bytes kept new w : List ℕ) (space more address marked len : ℕ) (h 
 
 module _ (payload : Payload) (bytes kept kept' w : List ℕ) (len space more address marked : ℕ) (room : Option ℕ) (prepared : Bool) (v : Lent) (win : IsWindow payload bytes kept space address room marked prepared) (e : window_kept payload bytes kept address room marked prepared ≡ v) where
   -- the same of a window, whichever its room, and of the vector that was lent
-  pub lend_on : v.payload ≡ One U8 → space ≤ more → len ≡ length bytes
+  pub lend_on : v.payload ≡ One U8 → space ≤ more
       → kept' ≡ kept_with bytes kept address marked len room
-      → Kept payload (put_together bytes w (address + marked) len) kept' more address room marked prepared (with_unmarked v w)
-  lend_on u h n k =
+      → Kept payload (written_from bytes (address + marked) w) kept' more address room marked prepared (with_unmarked v w)
+  lend_on u h k =
       let p : payload ≡ One U8 = ap (λ (x : Lent). x.payload) e ∙ u in
-      let one : item_size (scalars_of payload) * marked ≡ marked = ap (λ (q : Payload). item_size (scalars_of q) * marked) p ∙ omega arith in
-      let new : List ℕ = put_together bytes w (address + marked) len in
-      let is : new ≡ over_from bytes w (address + marked) = written_is bytes w (address + marked) len n (omega (arith, one, win.lie.within)) in
+      let new : List ℕ = written_from bytes (address + marked) w in
       let l = subst (λ (q : Payload). IsWindow q bytes kept space address room marked prepared → Kept q new (kept_with bytes kept address marked len room) more address room marked prepared (with_unmarked (window_kept q bytes kept address room marked prepared) w)) (sym p)
-      (λ w'. lend_room bytes kept new w space more address marked len h is room prepared w') win in
+      (λ w'. lend_room bytes kept new w space more address marked len h refl room prepared w') win in
       subst (λ (l : List ℕ). Kept payload new l more address room marked prepared (with_unmarked v w)) (sym k)
       (record { is_window = l.is_window; is = l.is ∙ ap (λ (x : Lent). with_unmarked x w) e })
 

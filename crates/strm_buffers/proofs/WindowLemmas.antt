@@ -2,7 +2,7 @@
 use Rattle.std.proofs.Common.{◌≡◌, ℕ, zero, suc, ◌+◌, ◌-◌, ◌*◌, ◌<◌, ◌≤◌, inl, inr, Bool, pos, negsuc, List, [], ◌∷◌, ◌++◌, length, take, drop, Option, Some, None, refl, sym, ap, subst, ◌∙◌, arith, length-append, get_or}
 use Rattle.std.proofs.lemmas.Int.{ints}
 use Rattle.std.proofs.lemmas.List.{drop-drop, drop-take, drop_all, length-take-le, length-replicate}
-use Rattle.std.specs.Prelude.{replicate, IsSome}
+use Rattle.std.specs.Prelude.{replicate}
 use Rattle.std.proofs.Math.Nat.{mul-le-mul_left}
 use Rattle.strm_codes.specs.Layout.{scalars_of, item_size}
 use Rattle.strm_codes.specs.Items.{FitsItem}
@@ -14,8 +14,8 @@ use Rattle.strm_memory.specs.Items.{stored_at, AreItems, byte_items}
 use Rattle.strm_memory.proofs.RegionLemmas.{length-stored_at, drop-stored_at}
 use Rattle.strm_buffers.specs.Keeping.{with_space}
 use Rattle.strm_buffers.specs.Listing.{Item, LieIn, items_in}
-use Rattle.std.specs.Ptr.{Ptr}
-use Rattle.strm_buffers.specs.Windows.{base_kept, lying, Lent, Between, HasRoom, with_items, last_bytes, place_kept, window_kept, KeepsRest, IsRoom, IsWindow}
+use Rattle.strm_memory.specs.Linear.{Base}
+use Rattle.strm_buffers.specs.Windows.{lying, Lent, Between, HasRoom, with_items, last_bytes, place_kept, window_kept, KeepsRest, IsRoom, IsWindow}
 use Rattle.strm_buffers.proofs.ListingLemmas.{length-items_in, lie_put, stored_past, pushed}
 use Rattle.strm_buffers.proofs.PutLemmas.{put_at-nil, put_at-kept, last_nil, stored_at-bytes, length-put_at, length-last}
 
@@ -31,13 +31,8 @@ abbrev pub lying_nowhere : Lent → Lent
 lying_nowhere w = lying None w
 
 -- a window that is this but for where its memory lies, which is there
-pub lies_there : (w v : Lent) (base : Option Ptr) → w ≡ lying_nowhere v → base ≡ v.base → lying base w ≡ v
+pub lies_there : (w v : Lent) (base : Option Base) → w ≡ lying_nowhere v → base ≡ v.base → lying base w ≡ v
 lies_there w v base e b = ap (lying base) e ∙ ap (λ o. lying o v) b
-
--- bytes of a stated room that stay
-pub base_stays : (room : Option ℕ) (told : Bool) (old new : Ptr) → (IsSome room → new ≡ old) → base_kept room told new ≡ base_kept room told old
-base_stays None told old new h = refl
-base_stays (Some r) told old new h = ap (base_kept (Some r) told) (h refl)
 
 -- ## Its items
 

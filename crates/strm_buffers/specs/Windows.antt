@@ -1,7 +1,5 @@
 -- What a window is to its calls: where marked items go, which those are, and the bytes behind them.
 -- Ours: wasmtime lends a reader's bytes by references into its store.
-use Rattle.std.specs.Bool.{then_some}
-use Rattle.std.specs.Ptr.{Ptr}
 use Rattle.std.specs.Prelude.{◌≡◌, ℕ, ◌+◌, ◌-◌, ◌*◌, ◌<◌, ◌≤◌, ◌⊎◌, Bool, true, false, List, [], ◌++◌, length, take, drop, replicate, Option, Some, None}
 use Rattle.strm_codes.specs.Layout.{scalars_of, item_size}
 use Rattle.strm_codes.specs.declared.scalars.Scalar.{Scalar}
@@ -10,7 +8,7 @@ use Rattle.strm_codes.specs.declared.payloads.Payload.{Payload}
 use Rattle.strm_codes.specs.declared.payloads.Payload.TheVariants.{One}
 use Rattle.strm_memory.specs.Bytes.{put_at, bytes_at}
 use Rattle.strm_memory.specs.Items.{stored_at, byte_items}
-use Rattle.strm_memory.specs.Linear.{LinearMemory}
+use Rattle.strm_memory.specs.Linear.{Base, LinearMemory}
 use Rattle.strm_buffers.specs.Listing.{Item, LieIn, items_in}
 
 -- where items go: into a memory, which has the marked ones in it and is otherwise as it was lent,
@@ -28,7 +26,7 @@ pub record Lent : Type 0 where
   pub marked : List Item
   pub unmarked : List ℕ
   pub prepared : Bool
-  pub base : Option Ptr
+  pub base : Option Base
 
 -- a memory that is lent from an address on, with room for so many items
 abbrev pub lent_memory : Payload → LinearMemory → ℕ → ℕ → Lent
@@ -156,13 +154,12 @@ window_kept payload bytes kept address room marked prepared =
       base = None;
     }
 
--- where the bytes of a stated room lie, if that was told; between host ends they may lie anywhere
-abbrev pub base_kept : Option ℕ → Bool → Ptr → Option Ptr
-base_kept None told at = None
-base_kept (Some room) told at = then_some told at
+-- between host ends nobody was told where the bytes lie
+abbrev pub IsUntold : Option ℕ → Option Base → Type 0
+IsUntold room base = room ≡ None → base ≡ None
 
 -- the window with its memory there
-abbrev pub lying : Option Ptr → Lent → Lent
+abbrev pub lying : Option Base → Lent → Lent
 lying base w = record w { base = base }
 
 -- bytes are kept for payload u8 alone, and then all that are not marked

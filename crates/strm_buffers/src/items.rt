@@ -2,18 +2,19 @@
 //!
 //! Source: ours. Layout: Canonical ABI, "Loading" and "Storing".
 
-ghost use Rattle.std.specs.Prelude.{◌≡◌, ◌+◌, ◌*◌, ◌^◌, ◌<◌, ◌≤◌, [], ◌∷◌, ◌++◌, length, take, drop, map, replicate, slice_get, Some, None, IsOk, IsSome, IfOk, OnOk, OnErr};
-ghost use Rattle.std.specs.Vec.{vec_ptr};
+ghost use Rattle.std.specs.Prelude.{◌≡◌, ◌+◌, ◌*◌, ◌^◌, ◌<◌, ◌≤◌, [], ◌∷◌, ◌++◌, length, take, drop, map, replicate, slice_get, Some, None, IsOk, IfOk, OnOk, OnErr};
 ghost use Rattle.strm_codes.specs.Layout.{scalars_of, item_size};
 ghost use Rattle.strm_codes.specs.Items.{FitsItem};
 ghost use Rattle.strm_codes.specs.declared.payloads.Payload.TheVariants.{One};
 ghost use Rattle.strm_codes.specs.declared.scalars.Scalar.TheVariants.{U8};
+ghost use Rattle.strm_memory.specs.Linear.{with_contents};
 ghost use Rattle.strm_memory.specs.Items.{stored, stored_at, AreItems, byte_items};
 ghost use Rattle.strm_buffers.specs.Keeping.{with_space};
+ghost use Rattle.strm_buffers.specs.Windows.{IsUntold};
 ghost use Rattle.strm_buffers.specs.Listing.{kept_items, items_in, AreItemsKept, LieIn, AreStored};
 
 use crate::item_bytes::ItemBytes;
-use crate::kept_bytes::{append_zeros, are_bytes};
+use crate::kept_bytes::are_bytes;
 use bytes::Bytes;
 use std::alloc::Global;
 use std::marker::Model;
@@ -23,6 +24,8 @@ use strm_codes::scalars::Scalar;
 use strm_codes::values::Value;
 use strm_memory::copies::copy_region;
 use strm_memory::items::{lift_item_into, lower_item_at};
+use strm_memory::memories::GuestMemory;
+use strm_memory::moves::append_zeros;
 use strm_memory::payloaded::{Payloaded, put_values};
 
 /// The most items that one list can hold.
@@ -273,7 +276,7 @@ pub(crate) fn append_item(
     ensures err { OnErr result (bytes.new.items ≡ bytes.old.items) }
 {
     append_zeros(bytes, at, payload.size() as usize)?;
-    write_item(bytes, at, item, payload);
+    lower_item_at(item, payload, bytes.as_mut_slice(), at);
     Ok(())
 }
 
@@ -282,34 +285,33 @@ pub(crate) fn append_item(
 // changed.
 #[inline(always)]
 pub(crate) fn make_space(
-    bytes: &mut Vec<u8>,
+    memory: &mut GuestMemory,
     room: Option<u32>,
     at: usize,
     payload: Payload,
     count: u32,
 ) -> Result<(), OutOfMemory>
-    requires { at ≤ length bytes.old.items }
-    ensures ok { OnOk result (bytes.new.items
-        ≡ with_space room bytes.old.items at (item_size (scalars_of payload) * count)) }
-    ensures err { OnErr result (bytes.new.items ≡ bytes.old.items) }
+    requires inside { at ≤ length memory.old.bytes }
+    requires untold { IsUntold room memory.old.base }
+    ensures ok { OnOk result (memory.new ≡ with_contents memory.old
+        (with_space room memory.old.bytes at (item_size (scalars_of payload) * count))) }
+    ensures err { OnErr result (memory.new ≡ memory.old) }
     ensures out_of_memory { OnErr result (room ≡ None) }
-    ensures stays { IsSome room → vec_ptr bytes.new ≡ vec_ptr bytes.old }
 {
     match room {
         Some(_) => Ok(()),
-        None => append_zeros(bytes, at, payload.size() as usize * count as usize),
+        None => memory.append_zeros(at, payload.size() as usize * count as usize),
     }
 }
 
 // Writes an item at a place.
-pub(crate) fn write_item(bytes: &mut Vec<u8>, at: usize, item: &Value, payload: Payload)
+pub(crate) fn write_item(memory: &mut GuestMemory, at: usize, item: &Value, payload: Payload)
     requires fits { FitsItem (scalars_of payload) item.now }
-    requires inside { at + item_size (scalars_of payload) ≤ length bytes.old.items }
-    ensures items { bytes.new.items
-        ≡ stored_at (scalars_of payload) bytes.old.items at (item.now ∷ []) }
-    ensures stays { vec_ptr bytes.new ≡ vec_ptr bytes.old }
+    requires inside { at + item_size (scalars_of payload) ≤ length memory.old.bytes }
+    ensures { memory.new ≡ with_contents memory.old
+        (stored_at (scalars_of payload) memory.old.bytes at (item.now ∷ [])) }
 {
-    lower_item_at(item, payload, bytes.as_mut_slice(), at);
+    lower_item_at(item, payload, memory.bytes_mut(), at);
 }
 
 // Writes so many items with which a source begins over bytes from their front on.
@@ -327,19 +329,18 @@ fn write_from(source: &[u8], bytes: &mut [u8], payload: Payload, count: usize)
 
 // Writes so many items at a place with which a source begins.
 pub(crate) fn write_items(
-    bytes: &mut Vec<u8>,
+    memory: &mut GuestMemory,
     at: usize,
     source: &[u8],
     payload: Payload,
     count: u32,
 )
     requires lie { LieIn (scalars_of payload) source.now 0 count }
-    requires inside { at + item_size (scalars_of payload) * count ≤ length bytes.old.items }
-    ensures items { bytes.new.items ≡ stored_at (scalars_of payload) bytes.old.items at
-        (items_in (scalars_of payload) source.now 0 count) }
-    ensures stays { vec_ptr bytes.new ≡ vec_ptr bytes.old }
+    requires inside { at + item_size (scalars_of payload) * count ≤ length memory.old.bytes }
+    ensures { memory.new ≡ with_contents memory.old (stored_at (scalars_of payload)
+        memory.old.bytes at (items_in (scalars_of payload) source.now 0 count)) }
 {
-    match copy_region(source, 0, bytes.as_mut_slice(), at, payload, count as usize) {
+    match copy_region(source, 0, memory.bytes_mut(), at, payload, count as usize) {
         Ok(()) => {}
         Err(_) => unreachable!(),
     }

@@ -2,8 +2,8 @@
 //!
 //! Source: ours.
 
-ghost use Rattle.std.specs.Prelude.{◌≡◌, ◌+◌, ◌<◌, ◌≤◌, ◌++◌, length, take, replicate, OnOk, OnErr};
-ghost use Rattle.std.specs.Vec.{vec_ptr};
+ghost use Rattle.std.specs.Prelude.{◌≡◌, ◌+◌, ◌<◌, ◌≤◌, length};
+ghost use Rattle.strm_memory.specs.Linear.{with_contents};
 ghost use Rattle.strm_memory.specs.Bytes.{put_at, IsBytes};
 ghost use Rattle.strm_codes.specs.declared.payloads.Payload.TheVariants.{One};
 ghost use Rattle.strm_codes.specs.declared.scalars.Scalar.TheVariants.{U8};
@@ -11,9 +11,9 @@ ghost use Rattle.strm_buffers.specs.Windows.{last_bytes, to_keep};
 ghost use Rattle.strm_buffers.specs.Keeping.{end_kept, kept_after, space_needed};
 
 use smallvec::SmallVec;
-use strm_codes::counts::OutOfMemory;
 use strm_codes::payloads::Payload;
 use strm_codes::scalars::Scalar;
+use strm_memory::memories::GuestMemory;
 
 // Bytes that a window keeps: up to 64 in the window itself.
 pub(crate) type Kept = SmallVec<u8, 64>;
@@ -65,30 +65,11 @@ pub(crate) fn last_of(bytes: &[u8], count: usize) -> &[u8]
 }
 
 // Writes bytes over others from a place on.
-pub(crate) fn put_back(bytes: &mut Vec<u8>, from: usize, new: &[u8])
-    requires { from + length new.now ≤ length bytes.old.items }
-    ensures items { bytes.new.items ≡ put_at bytes.old.items from new.now }
-    ensures stays { vec_ptr bytes.new ≡ vec_ptr bytes.old }
+pub(crate) fn put_back(memory: &mut GuestMemory, from: usize, new: &[u8])
+    requires { from + length new.now ≤ length memory.old.bytes }
+    ensures { memory.new ≡ with_contents memory.old (put_at memory.old.bytes from new.now) }
 {
-    bytes[from..from + new.len()].copy_from_slice(new);
-}
-
-// Cuts bytes off at a place, and appends so many that are 0. After `OutOfMemory` nothing has changed.
-pub(crate) fn append_zeros(bytes: &mut Vec<u8>, at: usize, count: usize) -> Result<(), OutOfMemory>
-    requires { at ≤ length bytes.old.items }
-    ensures ok { OnOk result (bytes.new.items ≡ take at bytes.old.items ++ replicate count 0) }
-    ensures err { OnErr result (bytes.new.items ≡ bytes.old.items) }
-{
-    let behind = bytes.len() - at;
-    if bytes.reserve(count.saturating_sub(behind)).is_err() {
-        return Err(OutOfMemory);
-    }
-    bytes.truncate(at);
-    match bytes.resize(at + count, 0) {
-        Ok(()) => {}
-        Err(_) => unreachable!(),
-    }
-    Ok(())
+    memory.bytes_mut()[from..from + new.len()].copy_from_slice(new);
 }
 
 // Each byte is below 256.

@@ -14,9 +14,7 @@ ghost use Rattle.strm_buffers.specs.Listing.{LieIn, items_in};
 ghost use Rattle.strm_buffers.specs.Windows.{Between, room_of, HasRoom, CanCount, IsBehind, to_keep, lent_memory, lent_between, with_items, with_marked, with_direct, given_back, standing, IsSoundPlace};
 
 use crate::items::{Items, item_place, make_space, write_item, write_items};
-use crate::kept_bytes::{
-    Kept, append_zeros, are_bytes, end_of, keep, last_of, most_to_keep, put_back,
-};
+use crate::kept_bytes::{Kept, are_bytes, end_of, keep, last_of, most_to_keep, put_back};
 use smallvec::SmallVec;
 use std::alloc::Global;
 use std::marker::Model;
@@ -29,10 +27,8 @@ use strm_memory::memories::GuestMemory;
 #[derive(Drop)]
 pub struct Window {
     payload: Payload,
-    // The whole memory; or between host ends the marked items and the bytes behind them.
-    bytes: Vec<u8>,
-    // Whether somebody was told where the memory lies.
-    is_told: bool,
+    // The whole memory; or between host ends one of the marked items and the bytes behind them.
+    memory: GuestMemory,
     address: usize,
     room: Option<u32>,
     marked: u32,
@@ -42,15 +38,16 @@ pub struct Window {
 }
 
 impl Model for Window {
-    ghost use Rattle.std.specs.Vec.{vec_ptr};
-    ghost use Rattle.strm_buffers.specs.Windows.{Lent, window_kept, base_kept, lying, IsWindow};
+    ghost use Rattle.std.specs.Prelude.{◌≡◌};
+    ghost use Rattle.strm_buffers.specs.Windows.{Lent, window_kept, lying, IsWindow, IsUntold};
 
     ghost Value = { Lent };
 
-    ghost view = { λ w. lying (base_kept w.room w.is_told (vec_ptr w.bytes))
-        (window_kept w.payload w.bytes.items w.kept.items w.address w.room w.marked w.is_prepared) };
+    ghost view = { λ w. lying w.memory.base
+        (window_kept w.payload w.memory.bytes w.kept.items w.address w.room w.marked w.is_prepared) };
 
-    ghost invariant = { λ w. IsWindow w.payload w.bytes.items w.kept.items w.kept.capacity w.address w.room w.marked w.is_prepared };
+    ghost invariant = { λ w. IsWindow w.payload w.memory.bytes w.kept.items w.kept.capacity w.address w.room w.marked w.is_prepared
+        × IsUntold w.room w.memory.base };
 }
 
 impl Window {
@@ -63,12 +60,10 @@ impl Window {
         requires { address + item_size (scalars_of payload) * room ≤ length memory.bytes }
         ensures { result ≡ lent_memory payload memory address room }
     {
-        let (bytes, is_told) = memory.into_parts();
-        let alloc = *bytes.allocator();
+        let alloc = memory.alloc();
         Window {
             payload,
-            bytes,
-            is_told,
+            memory,
             address: address as usize,
             room: Some(room),
             marked: 0,
@@ -83,8 +78,7 @@ impl Window {
     {
         Window {
             payload,
-            bytes: Vec::new(alloc),
-            is_told: false,
+            memory: GuestMemory::empty(alloc),
             address: 0,
             room: None,
             marked: 0,
@@ -146,9 +140,11 @@ impl Window {
         ensures payload { IfOk result (λ items. items.payload ≡ self.now.payload) }
         ensures items { IfOk result (λ items. items.items ≡ self.now.marked) }
     {
+        // For the sum: how many bytes there can be.
+        let _ = self.memory.len();
         let end = item_place(self.address, self.payload, self.marked);
-        let mut bytes = Vec::new(*self.bytes.allocator());
-        match bytes.extend_from_slice(&self.bytes[self.address..end]) {
+        let mut bytes = Vec::new(self.memory.alloc());
+        match bytes.extend_from_slice(&self.memory.bytes()[self.address..end]) {
             Ok(()) => Ok(Items::of_bytes(self.payload, bytes, self.marked as usize)),
             Err(_) => Err(OutOfMemory),
         }
@@ -163,9 +159,11 @@ impl Window {
         ensures err { OnErr result (self.new ≡ self.old) }
         ensures out_of_memory { OnErr result (self.old.place ≡ Between) }
     {
+        // For the sum: how many bytes there can be.
+        let _ = self.memory.len();
         let at = item_place(self.address, self.payload, self.marked);
-        make_space(&mut self.bytes, self.room, at, self.payload, 1)?;
-        write_item(&mut self.bytes, at, item, self.payload);
+        make_space(&mut self.memory, self.room, at, self.payload, 1)?;
+        write_item(&mut self.memory, at, item, self.payload);
         self.marked += 1;
         Ok(())
     }
@@ -180,9 +178,11 @@ impl Window {
         ensures err { OnErr result (self.new ≡ self.old) }
         ensures out_of_memory { OnErr result (self.old.place ≡ Between) }
     {
+        // For the sum: how many bytes there can be.
+        let _ = self.memory.len();
         let at = item_place(self.address, self.payload, self.marked);
-        make_space(&mut self.bytes, self.room, at, self.payload, count)?;
-        write_items(&mut self.bytes, at, bytes, self.payload, count);
+        make_space(&mut self.memory, self.room, at, self.payload, count)?;
+        write_items(&mut self.memory, at, bytes, self.payload, count);
         self.marked += count;
         Ok(())
     }
@@ -215,7 +215,7 @@ impl Window {
         match self.room {
             Some(_) => Ok(()),
             None => {
-                append_zeros(&mut self.bytes, self.marked as usize, capacity)?;
+                self.memory.append_zeros(self.marked as usize, capacity)?;
                 Ok(())
             }
         }
@@ -230,10 +230,11 @@ impl Window {
         ensures value { result.now ≡ self.old.unmarked }
         ensures all { IsBehind self.old.place (length self.old.marked) (length result.now) }
     {
+        let len = self.memory.len();
         let from = self.address + self.marked as usize;
-        let to = end_of(self.address, self.room, self.bytes.len());
-        keep(&mut self.kept, self.room, &self.bytes[from..to]);
-        self.bytes.slice_mut(from..to)
+        let to = end_of(self.address, self.room, len);
+        keep(&mut self.kept, self.room, &self.memory.bytes()[from..to]);
+        self.memory.range_mut(from, to)
     }
 
     /// Marks the first so many of the unmarked bytes, as they stand.
@@ -242,7 +243,7 @@ impl Window {
         requires there { count ≤ length self.old.unmarked }
         ensures { self.new ≡ with_marked self.old count }
     {
-        are_bytes(&self.bytes);
+        are_bytes(self.memory.bytes());
         self.marked += count as u32;
     }
 
@@ -252,7 +253,7 @@ impl Window {
         ensures { result.now ≡ standing (scalars_of self.now.payload) self.now.place
             (length self.now.marked) self.now.unmarked }
     {
-        &self.bytes
+        self.memory.bytes()
     }
 
     /// Gives the memory back with the marked items in it, and their number. It lies where it lay, and all
@@ -265,8 +266,7 @@ impl Window {
     {
         let Window {
             payload,
-            mut bytes,
-            is_told,
+            mut memory,
             address,
             room,
             marked,
@@ -275,10 +275,12 @@ impl Window {
         } = self;
         match room {
             Some(room) => {
+                // For the sum: how many bytes there can be.
+                let _ = memory.len();
                 let left = payload.size() as usize * (room - marked) as usize;
                 let from = item_place(address, payload, marked);
-                put_back(&mut bytes, from, last_of(kept.as_slice(), left));
-                (GuestMemory::of_parts(bytes, is_told), marked)
+                put_back(&mut memory, from, last_of(kept.as_slice(), left));
+                (memory, marked)
             }
             None => unreachable!(),
         }
@@ -292,14 +294,14 @@ impl Window {
     {
         let Window {
             payload,
-            mut bytes,
-            is_told: _,
+            memory,
             address: _,
             room: _,
             marked,
             is_prepared: _,
             kept: _,
         } = self;
+        let mut bytes = memory.into_bytes();
         bytes.truncate(payload.size() as usize * marked as usize);
         Items::of_bytes(payload, bytes, marked as usize)
     }

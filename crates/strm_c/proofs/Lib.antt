@@ -1,5 +1,6 @@
 pub mod Values
 pub mod HandleValues
+pub mod BytesValues
 pub mod PayloadLemmas
 pub mod MakingLemmas
 -- a read or write, as C gets it

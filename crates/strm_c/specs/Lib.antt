@@ -3,6 +3,7 @@ pub mod Payloads
 pub mod Statuses
 pub mod BadItems
 pub mod Lent
+pub mod Bytes
 pub mod Pairs
 pub mod Members
 pub mod Queries

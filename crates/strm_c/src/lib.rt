@@ -7,6 +7,7 @@
 
 mod exports;
 mod handles;
+mod lent_bytes;
 mod loose;
 mod payloads;
 mod statuses;

@@ -35,6 +35,12 @@ pub const GUEST_LIMIT: Status = 72;
 /// A read or write with these arguments stops at no item.
 pub const NO_BAD_ITEM: Status = 73;
 
+/// The guest's memory is the store's own, which neither grows nor moves.
+pub const NOT_LENT: Status = 74;
+
+/// There are fewer bytes than the guest's memory has.
+pub const SHORTER: Status = 75;
+
 /// The word of no event, which no code has.
 pub const NO_EVENT: u32 = 3;
 

@@ -7,7 +7,7 @@ use Rattle.std.proofs.lemmas.List.Sums.{sum_by-set, sum_by_push, count_by-le-len
 use Rattle.strm_handles.specs.Handles.{Handles, no_handles, handle_limit, next_of, inserted, inserted_in, occupied_in, occupied, open_lends, live_of, lends_of, lends_in}
 use Rattle.strm_handles.specs.declared.entries.Entry.{Entry}
 use Rattle.strm_waitable_sets.specs.Sets.{no_sets}
-use Rattle.strm_machine.specs.State.{State, Guest, no_guest, guest_in, with_handles, is_live, places_in_use, bytes_in_use}
+use Rattle.strm_machine.specs.State.{State, Guest, no_guest, guest_in, with_handles, is_live, places_in_use, bytes_in_use, own_size}
 use Rattle.strm_machine.specs.Making.{read_entry, write_entry, with_read_end, with_ends, with_stream}
 use Rattle.strm_machine.specs.Refusals.{refusal}
 use Rattle.strm_machine.specs.Reactions.{Reaction, performs}
@@ -47,7 +47,7 @@ longer_short h n s = record { freed = s.freed; entries = omega (arith, s.entries
 
 -- what the guests take, with so many handles at most
 record Little (count n : ℕ) (guests : List Guest) : Type 0 where
-  bytes : sum_by (λ (g : Guest). length g.memory) guests ≡ 8192 * count
+  bytes : sum_by own_size guests ≡ 8192 * count
   handles : sum_by (λ (g : Guest). live_of g.handles) guests ≤ n
   tables : (g : ℕ) → IsShortTable n (guest_in guests g).handles
   sets : sum_by (λ (g : Guest). count_by (λ there. there) g.sets.there) guests ≡ 0
@@ -58,7 +58,7 @@ little_more count n g guests e l unlent x =
     let h = old.handles in
     let y : Guest = record old { handles = inserted h e } in
     record {
-      bytes = omega (arith, x.bytes, sum_by-set (λ (k : Guest). length k.memory) guests g y no_guest l);
+      bytes = omega (arith, x.bytes, sum_by-set own_size guests g y no_guest l);
       handles = omega (arith, x.handles, more_live h e (x.tables g).freed unlent, sum_by-set (λ (k : Guest). live_of k.handles) guests g y no_guest l);
       tables = λ k. elim (cases_eq k g) [
         | inl same ↦ subst (λ i. IsShortTable (n + 1) (guest_in (set guests g y) i).handles) (sym same)
@@ -79,7 +79,7 @@ little_guest guests streams state next e x =
     let many : length y.memory ≡ 8192 = length-replicate {A = ℕ} 8192 0 in
     subst (TakesLittle (guests + 1) streams) (sym e) (record {
       limits = x.limits;
-      bytes = omega (arith, x.bytes, many, sum_by_push (λ (k : Guest). length k.memory) state.guests y);
+      bytes = omega (arith, x.bytes, many, sum_by_push own_size state.guests y);
       handles = omega (arith, x.handles, sum_by_push (λ (k : Guest). live_of k.handles) state.guests y);
       tables = λ g. at_push state.guests y no_guest g (λ (z : Guest). IsShortTable (2 * streams) z.handles) (λ _. record { freed = refl; entries = omega arith }) (λ _. x.tables g);
       sets = omega (arith, x.sets, sum_by_push (λ (k : Guest). count_by (λ there. there) k.sets.there) state.guests y);

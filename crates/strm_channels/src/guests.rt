@@ -2,17 +2,20 @@
 //!
 //! Source: wasmtime, the component instances that a store keeps.
 
-ghost use Rattle.std.specs.Prelude.{◌≡◌, ◌≢◌, ◌+◌, ◌*◌, ◌<◌, ◌≤◌, [], length, take, drop, false, IfSome};
+ghost use Rattle.std.specs.Prelude.{◌≡◌, ◌≢◌, ◌+◌, ◌*◌, ◌<◌, ◌≤◌, [], ◌++◌, length, take, drop, false, true, IfSome};
+ghost use denote.RawPtr.{◌+ₚ◌};
+ghost use Rattle.std.specs.Vec.{vec_ptr};
 ghost use Rattle.strm_codes.specs.Layout.{scalars_of, item_size};
 ghost use Rattle.strm_memory.specs.Bytes.{put_at};
 ghost use Rattle.strm_memory.specs.Region.{bytes_out_of_bounds};
 ghost use Rattle.strm_machine.specs.State.{memory_in, with_memory};
-ghost use Rattle.strm_machine.specs.Bases.{base_in, with_base};
-ghost use Rattle.strm_memory.specs.Linear.{untold};
+ghost use Rattle.strm_machine.specs.Bases.{base_in, is_lent_in, with_base};
+ghost use Rattle.strm_memory.specs.Linear.{untold, of_engine};
 ghost use Rattle.strm_channels.specs.Guests.{guests_of, linear_in, with_linear, Receives};
 
 use std::alloc::Global;
 use std::mem;
+use std_alloc::vec::Lodged;
 use strm_codes::counts::ItemCount;
 use strm_codes::payloads::Payload;
 use strm_handles::tables::HandleTable;
@@ -168,11 +171,52 @@ pub fn tell_base(guests: &mut Vec<Guest>, guest: usize) -> *const u8
     requires { guest < length guests.old.items }
     ensures told { guests_of guests.new.items
         ≡ with_base (guests_of guests.old.items) guest result }
-    ensures again { IfSome (base_in (guests_of guests.old.items) guest) (λ base. result ≡ base) }
+    ensures again { IfSome (base_in (guests_of guests.old.items) guest) (λ base. result ≡ base.at) }
     ensures count { length guests.new.items ≡ length guests.old.items }
 {
     let memory = &mut guests[guest].memory;
     memory.tell_base()
+}
+
+/// Whether an engine lent a guest's memory.
+pub fn is_lent(guests: &Vec<Guest>, guest: usize) -> bool
+    requires { guest < length guests.now.items }
+    ensures { result ≡ is_lent_in (guests_of guests.now.items) guest }
+{
+    memory(guests, guest).is_lent()
+}
+
+/// A guest's memory, which an engine lent, has these bytes too, which lie behind its end. Takes no memory.
+pub fn grow_memory(guests: &mut Vec<Guest>, guest: usize, more: Vec<u8, Lodged>)
+    requires there { guest < length guests.old.items }
+    requires lent { is_lent_in (guests_of guests.old.items) guest ≡ true }
+    requires behind { IfSome (base_in (guests_of guests.old.items) guest) (λ base.
+        vec_ptr more ≡ base.at +ₚ length (memory_in (guests_of guests.old.items) guest)) }
+    requires small { length (memory_in (guests_of guests.old.items) guest) + length more.items
+        < 4294967296 }
+    ensures grown { guests_of guests.new.items ≡ with_memory (guests_of guests.old.items) guest
+        (memory_in (guests_of guests.old.items) guest ++ more.items) }
+    ensures count { length guests.new.items ≡ length guests.old.items }
+{
+    let memory = &mut guests[guest].memory;
+    memory.grown(more);
+}
+
+/// A guest's memory, which an engine lent, goes on in these bytes, which begin with all of its own. Answers
+/// the bytes in which it was. Takes no memory.
+pub fn move_memory(guests: &mut Vec<Guest>, guest: usize, bytes: Vec<u8, Lodged>) -> Vec<u8, Lodged>
+    requires there { guest < length guests.old.items }
+    requires lent { is_lent_in (guests_of guests.old.items) guest ≡ true }
+    requires begins { take (length (memory_in (guests_of guests.old.items) guest)) bytes.items
+        ≡ memory_in (guests_of guests.old.items) guest }
+    ensures moved { guests_of guests.new.items ≡ with_linear (guests_of guests.old.items) guest
+        (of_engine bytes.items (vec_ptr bytes)) }
+    ensures left { of_engine result.items (vec_ptr result)
+        ≡ linear_in (guests_of guests.old.items) guest }
+    ensures count { length guests.new.items ≡ length guests.old.items }
+{
+    let memory = &mut guests[guest].memory;
+    memory.moved(bytes)
 }
 
 /// Puts bytes into a guest's memory.

@@ -3,7 +3,7 @@
 //! Meaning: `Turns.antt` and `Meetings.antt` of `strm_machine`. Source: Component Model, "Stream
 //! Readiness"; wasmtime, `guest_write` and `guest_read`, which are one function here.
 
-ghost use Rattle.std.specs.Prelude.{◌≡◌, ◌≢◌, ◌+◌, ◌-◌, ◌*◌, ◌^◌, ◌<◌, ◌≤◌, List, true, sum, length, min, Some, None, Ok, OnOk, OnErr};
+ghost use Rattle.std.specs.Prelude.{◌≡◌, ◌≢◌, ◌+◌, ◌-◌, ◌*◌, ◌^◌, ◌<◌, ◌≤◌, List, true, length, min, Some, None, Ok, OnOk, OnErr};
 ghost use Rattle.strm_codes.specs.Layout.{scalars_of, item_size};
 ghost use Rattle.strm_machine.specs.Sides.{opposite, end_of, with_end, with_operation, write_of, read_of};
 ghost use Rattle.strm_machine.specs.Tests.{is_open_of};
@@ -16,7 +16,7 @@ ghost use Rattle.std.specs.Prelude.{IsTrue, IsSomeAnd};
 ghost use Rattle.std.specs.Prelude.{false};
 ghost use Rattle.strm_machine.specs.Meetings.{begun, advanced, meeting_of, carried};
 ghost use Rattle.strm_machine.specs.Operating.{with_received, answers, completes_alone, moves, rendezvous, operate};
-ghost use Rattle.strm_machine.specs.Soundness.{sizes_of, IsPlaced, StreamIsPlaced};
+ghost use Rattle.strm_machine.specs.Soundness.{sizes_of, AreSmall, IsPlaced, StreamIsPlaced};
 ghost use Rattle.strm_channels.specs.Guests.{guests_of};
 ghost use Rattle.strm_channels.specs.Meetings.{Waits, Carries, meeting_answered};
 
@@ -288,7 +288,7 @@ fn meet(
     requires mine { IsPlaced (sizes_of (guests_of guests.old.items)) stream.old.payload mine }
     requires theirs { IsPlaced (sizes_of (guests_of guests.old.items)) stream.old.payload theirs }
     requires numbers { mine.guest ≡ theirs.guest → IsTrue (is_number_or_none stream.old.payload) }
-    requires sizes { sum (sizes_of (guests_of guests.old.items)) ≤ 268435456 }
+    requires sizes { AreSmall (sizes_of (guests_of guests.old.items)) }
     ensures { rendezvous side (guests_of guests.old.items) stream.old mine theirs
         ≡ meeting_answered result guests.new.items stream.new }
 {
@@ -320,7 +320,7 @@ pub fn meet_or_wait(
     requires begun { mine ≡ begun mine.guest mine.address mine.left }
     requires placed { StreamIsPlaced (sizes_of (guests_of guests.old.items)) stream.old }
     requires mine { IsPlaced (sizes_of (guests_of guests.old.items)) stream.old.payload mine }
-    requires sizes { sum (sizes_of (guests_of guests.old.items)) ≤ 268435456 }
+    requires sizes { AreSmall (sizes_of (guests_of guests.old.items)) }
     requires numbers { IsTrue (is_open_of mine.guest (end_of (opposite side) stream.old).operation)
         → IsTrue (is_number_or_none stream.old.payload) }
     ensures { operate side (guests_of guests.old.items) stream.old mine

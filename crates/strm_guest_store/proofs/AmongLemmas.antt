@@ -1,5 +1,5 @@
 -- A call of the store without host ends is the machine's step, and leaves it so.
-use Rattle.std.proofs.Common.{◌≡◌, ◌≤◌, ◌+◌, arith, ap, ℕ, true, false, List, length, refl, sym, subst, ◌∙◌}
+use Rattle.std.proofs.Common.{◌≡◌, ◌≤◌, ◌+◌, arith, ap, ℕ, true, false, List, ◌++◌, length, refl, sym, subst, ◌∙◌}
 use Rattle.std.specs.Prelude.{Result, Ok, Err}
 use Rattle.strm_buffers.specs.Tells.{Tells}
 use Rattle.std.specs.Prelude.{Bool, nat_lt, ◌&&◌, Option, Some, None}
@@ -9,6 +9,8 @@ use Rattle.strm_codes.specs.declared.refusals.Refusal.{Refusal}
 use Rattle.strm_machine.specs.State.{State, Guest, empty, memory_in, with_bytes}
 use Rattle.std.specs.Ptr.{Ptr}
 use Rattle.strm_machine.specs.Bases.{with_base_in}
+use Rattle.strm_machine.specs.Growth.{guest_at, with_guest_at, adds_guest_at, grown, moved_to, MayGrow}
+use Rattle.strm_machine.proofs.GrowthLemmas.{IsSound-grown, handles-grown, adds_guest_at-sound, adds_guest_at-by}
 use Rattle.strm_machine.proofs.BaseLemmas.{with_base-keeps}
 use Rattle.strm_machine.proofs.RefusalLemmas.{BytesFit}
 use Rattle.strm_machine.proofs.SoundLemmas.{IsSound-guests}
@@ -25,9 +27,9 @@ use Rattle.strm_machine.proofs.TurnLemmas.{GuestsKeep, with_memory-keeps}
 use Rattle.strm_machine.proofs.ContextStepLemmas.{lower_context_fits}
 use Rattle.strm_machine.proofs.EmptyLemmas.{StateIsHeld-empty}
 use Rattle.strm_machine.proofs.HeldLemmas.{StateIsHeld, IsHeld-same, reaction-held}
-use Rattle.strm_machine.proofs.TableLemmas.{handles-same}
+use Rattle.strm_machine.proofs.TableLemmas.{handles-same, handles-more}
 use Rattle.strm_transmit.specs.Lending.{with_bytes_in}
-use Rattle.strm_transmit.specs.Guests.{Unhosted, nobody, is_of_guests, AreOfOwners}
+use Rattle.strm_transmit.specs.Guests.{Unhosted, AreUnhosted, nobody, is_of_guests, AreOfOwners}
 use Rattle.strm_transmit.proofs.HeldStoreLemmas.{with_context_handle-held}
 use Rattle.strm_transmit.specs.Meets.{Meets}
 use Rattle.strm_transmit.specs.Hosted.{MeetsHosted, StillFits}
@@ -159,3 +161,41 @@ lent_among state guest bytes among =
 -- and one of which it is told where it lies
 pub told_among : (state : State) (guest : ℕ) (base : Ptr) → IsAmongGuests state → IsAmongGuests (with_base_in state guest base)
 told_among state guest base among = guests_among state _ (with_base-keeps state.guests guest base) among
+
+-- a memory with more bytes behind its end
+pub grown_among : (state : State) (guest : ℕ) (more : List ℕ) → IsAmongGuests state → MayGrow state guest more → IsAmongGuests (grown state guest more)
+grown_among state guest more among may =
+    let guests = (grown state guest more).guests in
+    record {
+      unhosted = record { sound = IsSound-grown state guest more may among.unhosted.sound; none = among.unhosted.none };
+      fits = record { writers = among.fits.writers; readers = among.fits.readers };
+      few = among.few;
+      held = agreed (grown state guest more)
+          (IsHeld-same state.guests guests state.streams state.streams (λ g. handles-same state.guests guests g (handles-grown state.guests guest (memory_in state.guests guest ++ more))) (λ s side. refl) (of_agreed state among.held));
+      owned = among.owned;
+      untrapped = among.untrapped;
+    }
+
+-- and one that lies elsewhere then
+pub moved_among : (state : State) (guest : ℕ) (more : List ℕ) (at : Ptr) → IsAmongGuests state → MayGrow state guest more → IsAmongGuests (moved_to state guest more at)
+moved_among state guest more at among may = told_among (grown state guest more) guest at (grown_among state guest more among may)
+
+-- a guest over bytes that an engine lent
+at-leaves : (state : State) (bytes : List ℕ) (at : Ptr) → IsAmongGuests state → LeavesGuests state (adds_guest_at state bytes at).state
+at-leaves state bytes at among =
+    let handed : StateIsHeld (with_guest_at state bytes at) =
+    IsHeld-same state.guests (with_guest_at state bytes at).guests state.streams state.streams (λ g. handles-more state.guests (guest_at bytes at) g refl) (λ s side. refl) (of_agreed state among.held) in
+    record {
+      unhosted = record {
+        sound = adds_guest_at-sound state bytes at among.unhosted.sound;
+        none = adds_guest_at-by (λ (s : State). AreUnhosted s.streams) state bytes at among.unhosted.none (λ fits. among.unhosted.none);
+      };
+      many = adds_guest_at-by (λ (s : State). AsMany state s) state bytes at (record { many = refl; limits = refl }) (λ fits. record { many = refl; limits = refl });
+      held = agreed (adds_guest_at state bytes at).state (adds_guest_at-by StateIsHeld state bytes at (of_agreed state among.held) (λ fits. handed));
+      owned = adds_guest_at-by (λ (s : State). AreOfOwners s.streams) state bytes at among.owned (λ fits. among.owned);
+      untrapped = adds_guest_at-by (λ (s : State). s.trapped ≡ false) state bytes at among.untrapped (λ fits. among.untrapped);
+    }
+
+pub added_among : (old new : State) (result : Result Reply StoreError) (bytes : List ℕ) (at : Ptr) → IsAmongGuests old → Meets old new result (adds_guest_at old bytes at) → StillFits old new → IsAmongGuests new
+added_among old new result bytes at among m f =
+    after-call old new result (adds_guest_at old bytes at) among (at-leaves old bytes at among) (f nobody among.fits) m

@@ -1,14 +1,17 @@
 -- Where memories lie, after any call.
-use Rattle.std.proofs.Common.{◌≡◌, ℕ, true, Result, Ok, Err, refl, sym, subst}
+use Rattle.std.proofs.Common.{◌≡◌, ℕ, true, List, ◌++◌, length, Result, Ok, Err, refl, sym, subst, ◌∙◌}
+use Rattle.std.specs.Ptr.{Ptr}
 use Rattle.strm_buffers.specs.Tells.{Tells}
-use Rattle.strm_machine.specs.State.{State}
-use Rattle.strm_machine.specs.Bases.{BasesStay}
+use Rattle.strm_machine.specs.State.{State, memory_in, with_memory}
+use Rattle.strm_machine.specs.Bases.{BasesStay, BasesStayBut}
+use Rattle.strm_machine.specs.Growth.{adds_guest_at, grown, moved_to}
+use Rattle.strm_machine.proofs.GrowthLemmas.{adds_guest_at-by}
 use Rattle.strm_machine.specs.Acts.{act_of}
 use Rattle.strm_machine.specs.Reactions.{Reaction, reaction, react, lowers_context}
 use Rattle.strm_machine.specs.declared.acts.Act.{Act}
 use Rattle.strm_machine.specs.declared.replies.Reply.{Reply}
 use Rattle.strm_machine.specs.declared.steps.Step.{Step}
-use Rattle.strm_machine.proofs.BaseLemmas.{reaction-bases, lowered-bases}
+use Rattle.strm_machine.proofs.BaseLemmas.{reaction-bases, lowered-bases, base_in-with_memory, base_in-behind_but, base_in-with_base_but}
 use Rattle.strm_transmit.specs.Guests.{is_of_guests}
 use Rattle.strm_transmit.specs.Meets.{Meets}
 use Rattle.strm_transmit.specs.Hosted.{MeetsHosted}
@@ -21,6 +24,7 @@ use Rattle.strm_guest_store.specs.Operations.{MeetsOrTells}
 use Rattle.strm_guest_store.specs.declared.operations.OperateError.{OperateError}
 use Rattle.strm_guest_store.specs.declared.operations.OperateError.TheVariants as operate_errors
 use Rattle.strm_guest_store.proofs.AmongLemmas.{hosted_meets}
+use Rattle.strm_transmit.proofs.AgainLemmas.{meets_leaves}
 
 -- a state that is another
 same_bases : (old new : State) → new ≡ old → BasesStay old.guests new.guests
@@ -56,3 +60,25 @@ pub operation-bases : (old new : State) (result : Result ReturnCode OperateError
 operation-bases old new (Ok code) step among m = step-bases old new (Ok (replies.Code code)) step among m
 operation-bases old new (Err (operate_errors.Refused refusal)) step among m = same_bases old new m.1
 operation-bases old new (Err (operate_errors.BadItem item)) step among m = same_bases old new m.1
+
+-- ## Memories that an engine lent
+
+-- a guest over one
+adds-bases : (old : State) (bytes : List ℕ) (base : Ptr) → BasesStayBut (length old.guests) old.guests (adds_guest_at old bytes base).state.guests
+adds-bases old bytes base =
+    adds_guest_at-by (λ (s : State). BasesStayBut (length old.guests) old.guests s.guests) old bytes base (λ k ne. refl)
+    (λ fits k ne. base_in-behind_but old.guests _ k ne)
+
+pub added_stays : (old new : State) (result : Result Reply StoreError) (bytes : List ℕ) (base : Ptr) → Meets old new result (adds_guest_at old bytes base) → BasesStayBut (length old.guests) old.guests new.guests
+added_stays old new result bytes base m =
+    meets_leaves (λ (s : State). BasesStayBut (length old.guests) old.guests s.guests) old new result (adds_guest_at old bytes base) (λ k ne. refl) (adds-bases old bytes base) m
+
+-- one that grew where it lies
+pub grown_stays : (old : State) (g : ℕ) (more : List ℕ) → BasesStay old.guests (grown old g more).guests
+grown_stays old g more k = base_in-with_memory old.guests g (memory_in old.guests g ++ more) k
+
+-- and one that moved
+pub moved_stays : (old : State) (g : ℕ) (more : List ℕ) (base : Ptr) → BasesStayBut g old.guests (moved_to old g more base).guests
+moved_stays old g more base k ne =
+    base_in-with_base_but (with_memory old.guests g (memory_in old.guests g ++ more)) g base k ne
+    ∙ base_in-with_memory old.guests g (memory_in old.guests g ++ more) k

@@ -5,7 +5,9 @@
 ghost use Rattle.std.specs.Prelude.{◌≡◌, ℕ, ◌<◌, ◌^◌, false, List, length, Result, Err};
 ghost use Rattle.strm_machine.specs.Bases.{BasesStay};
 ghost use Rattle.strm_machine.specs.Reactions.{react, lowers_context};
-ghost use Rattle.strm_machine.specs.State.{State, with_bytes};
+ghost use Rattle.strm_memory.specs.Bytes.{bytes_at};
+ghost use Rattle.strm_machine.specs.State.{State, memory_in, with_bytes};
+ghost use Rattle.strm_machine.specs.Growth.{grown, MayGrow};
 ghost use Rattle.strm_machine.specs.Tests.{are_streams_full};
 ghost use Rattle.strm_machine.specs.declared.replies.Reply.{Reply};
 ghost use Rattle.strm_machine.specs.declared.steps.Step.{Step};
@@ -29,9 +31,23 @@ pub fn memories_may_be_written()
         IsAmongGuests (with_bytes state guest address bytes) }
 {}
 
+/// Bytes that a guest's memory gets behind its end leave the state one of a store among guests: that which
+/// `memory_grown` leaves, and `memory_moved` but for where the memory lies. Each operation that waits, as all
+/// streams, stays as it is, and what lies in a memory lies there as before. It does nothing.
+pub fn memories_may_grow()
+    ensures among { (state : State) (guest : ℕ) (more : List ℕ) → IsAmongGuests state →
+        MayGrow state guest more → IsAmongGuests (grown state guest more) }
+    ensures streams { (state : State) (guest : ℕ) (more : List ℕ) →
+        (grown state guest more).streams ≡ state.streams }
+    ensures regions { (state : State) (guest other address count : ℕ) (more : List ℕ) →
+        HasBytes state other address count → bytes_at (memory_in (grown state guest more).guests other)
+        address count ≡ bytes_at (memory_in state.guests other) address count }
+{}
+
 /// Whatever call is made, and whatever it answers, each memory of which it was told lies where it lay. Each
 /// call of `GuestStore` that may change the store is a step by its clause `meets`, a making that gives a
-/// stream some number, a read or write, or a lowering. It does nothing.
+/// stream some number, a read or write, or a lowering; or it is `add_guest_at` or `memory_moved`, which tell where
+/// the memory of one guest lies, and leave all others where they lay by their own clause `stays`. It does nothing.
 pub fn memories_stay()
     ensures steps { (old new : State) (result : Result Reply StoreError) (step : Step)
         → IsAmongGuests old → Meets old new result (react old step)

@@ -1,6 +1,6 @@
 -- What a turn does, by the held items that it handed over, or by the poll that it did.
 use Rattle.std.proofs.Common.{◌≡◌, ℕ, suc, ◌+◌, ◌<◌, ◌≤◌, ◌*◌, Bool, true, false, List, [], ◌∷◌, length, take, drop, Some, Result, Ok, Err, refl, sym, ap, ◌∙◌, arith, length-append, length-take}
-use Rattle.std.specs.Prelude.{◌^◌, ◌||◌, nat_lt, sum, IsErrAnd}
+use Rattle.std.specs.Prelude.{◌^◌, ◌||◌, nat_lt, IsErrAnd}
 use Rattle.std.proofs.lemmas.List.{take-append-drop}
 use Rattle.std.proofs.lemmas.Bool.Decides.{nat_tests}
 use Rattle.strm_codes.specs.Layout.{scalars_of, item_size}
@@ -12,8 +12,8 @@ use Rattle.strm_buffers.specs.Listing.{Item}
 use Rattle.strm_buffers.specs.Said.{past_room}
 use Rattle.strm_buffers.specs.HostRules.{writer_breaks, breaks_as_writer}
 use Rattle.strm_buffers.specs.Tells.{WriterTells, writer_given}
-use Rattle.strm_machine.specs.State.{Guest, memory_limit}
-use Rattle.strm_machine.specs.Soundness.{sizes_of, IsPlaced}
+use Rattle.strm_machine.specs.State.{Guest}
+use Rattle.strm_machine.specs.Soundness.{sizes_of, AreSmall, IsPlaced}
 use Rattle.strm_machine.specs.declared.streams.Side.TheVariants.{Reading}
 use Rattle.strm_machine.specs.declared.streams.Operation.{Operation}
 use Rattle.strm_machine.specs.declared.streams.Producer.{Producer}
@@ -35,7 +35,7 @@ handed_on (Ok x) f = absurd f
 handed_on (Err x) f = ap Err f
 
 -- the address behind some of the items that a read has left
-pub room_behind : (guests : List Guest) (payload : Payload) (read : Operation) (n : ℕ) → IsPlaced (sizes_of guests) payload read → sum (sizes_of guests) ≤ memory_limit → read.address < 2 ^ 32 → n ≤ read.left → read.address + item_size (scalars_of payload) * n < 2 ^ 32
+pub room_behind : (guests : List Guest) (payload : Payload) (read : Operation) (n : ℕ) → IsPlaced (sizes_of guests) payload read → AreSmall (sizes_of guests) → read.address < 2 ^ 32 → n ≤ read.left → read.address + item_size (scalars_of payload) * n < 2 ^ 32
 room_behind guests payload read n h s a l =
     let front = not_out-front _ (scalars_of payload) read.address read.left n l h.inside in
     address_room (sizes_of guests) read.guest (scalars_of payload) read.address n h.there front s a

@@ -3,8 +3,8 @@
 //! Meaning: `ReaderTurn.antt` of `strm_host_machine`. Source: wasmtime, `futures_and_streams.rs`,
 //! `guest_write` with `ReadState::HostReady`, and what `set_consumer` makes of it.
 
-ghost use Rattle.std.specs.Prelude.{◌≡◌, ◌≤◌, true, sum, Some};
-ghost use Rattle.strm_machine.specs.Soundness.{sizes_of, IsPlaced};
+ghost use Rattle.std.specs.Prelude.{◌≡◌, true, Some};
+ghost use Rattle.strm_machine.specs.Soundness.{sizes_of, AreSmall, IsPlaced};
 ghost use Rattle.strm_host_machine.specs.Settling.{since_after};
 ghost use Rattle.strm_channels.specs.Guests.{guests_of};
 ghost use Rattle.strm_host_turns.specs.ReaderTurns.{reader_scene, reader_verdict, IsReaderTurn};
@@ -78,7 +78,7 @@ fn poll_reader_once(
     requires waiting { stream.old.writer.operation ≡ Some write }
     requires open { write.is_open ≡ true }
     requires placed { IsPlaced (sizes_of (guests_of guests.old.items)) stream.old.payload write }
-    requires sizes { sum (sizes_of (guests_of guests.old.items)) ≤ 268435456 }
+    requires sizes { AreSmall (sizes_of (guests_of guests.old.items)) }
     requires payload { (reader_tells reader.old).payload ≡ stream.old.payload }
     ensures { IsReaderTurn result
         (reader_scene (guests_of guests.old.items) stream.old consumer.old
@@ -114,7 +114,7 @@ pub fn reader_turn(
     requires open { write.now.is_open ≡ true }
     requires placed { IsPlaced (sizes_of (guests_of guests.old.items)) stream.old.payload
         write.now }
-    requires sizes { sum (sizes_of (guests_of guests.old.items)) ≤ 268435456 }
+    requires sizes { AreSmall (sizes_of (guests_of guests.old.items)) }
     requires payload { (reader_tells reader.old).payload ≡ stream.old.payload }
     ensures { IsReaderTurn result
         (reader_scene (guests_of guests.old.items) stream.old consumer.old

@@ -3,12 +3,12 @@
 //! Meaning: `WriterTurn.antt` of `strm_host_machine`. Source: wasmtime, `futures_and_streams.rs`,
 //! `guest_read` with `WriteState::HostReady`, and what `set_producer` makes of it.
 
-ghost use Rattle.std.specs.Prelude.{◌≡◌, ◌+◌, ◌^◌, ◌<◌, ◌≤◌, ◌||◌, [], true, nat_lt, sum, Some};
+ghost use Rattle.std.specs.Prelude.{◌≡◌, ◌+◌, ◌^◌, ◌<◌, ◌||◌, [], true, nat_lt, Some};
 ghost use Rattle.strm_codes.specs.declared.codes.StreamResult.TheVariants.{Dropped};
 ghost use Rattle.strm_machine.specs.declared.streams.Side.TheVariants.{Reading};
 ghost use Rattle.strm_host_machine.specs.WriterTurn.{is_last};
 ghost use Rattle.strm_host_machine.specs.Settling.{moved_on};
-ghost use Rattle.strm_machine.specs.Soundness.{sizes_of, IsPlaced};
+ghost use Rattle.strm_machine.specs.Soundness.{sizes_of, AreSmall, IsPlaced};
 ghost use Rattle.strm_channels.specs.Guests.{guests_of};
 ghost use Rattle.strm_host_turns.specs.WriterTurns.{writer_scene, writer_verdict, handed_over, IsWriterPoll, IsWriterTurn};
 
@@ -90,7 +90,7 @@ fn hand_over(
     requires waiting { stream.old.reader.operation ≡ Some read }
     requires open { read.is_open ≡ true }
     requires placed { IsPlaced (sizes_of (guests_of guests.old.items)) stream.old.payload read }
-    requires sizes { sum (sizes_of (guests_of guests.old.items)) ≤ 268435456 }
+    requires sizes { AreSmall (sizes_of (guests_of guests.old.items)) }
     requires payload { (writer_tells writer.old).payload ≡ stream.old.payload }
     ensures { writer_scene (guests_of guests.new.items) stream.new producer.new
         (writer_tells writer.new)
@@ -144,7 +144,7 @@ fn poll_writer_once(
     requires waiting { stream.old.reader.operation ≡ Some read }
     requires open { read.is_open ≡ true }
     requires placed { IsPlaced (sizes_of (guests_of guests.old.items)) stream.old.payload read }
-    requires sizes { sum (sizes_of (guests_of guests.old.items)) ≤ 268435456 }
+    requires sizes { AreSmall (sizes_of (guests_of guests.old.items)) }
     requires payload { (writer_tells writer.old).payload ≡ stream.old.payload }
     requires nothing_held { (writer_tells writer.old).holds ≡ [] }
     ensures { IsWriterPoll result
@@ -186,7 +186,7 @@ pub fn writer_turn(
     requires waiting { stream.old.reader.operation ≡ Some read.now }
     requires open { read.now.is_open ≡ true }
     requires placed { IsPlaced (sizes_of (guests_of guests.old.items)) stream.old.payload read.now }
-    requires sizes { sum (sizes_of (guests_of guests.old.items)) ≤ 268435456 }
+    requires sizes { AreSmall (sizes_of (guests_of guests.old.items)) }
     requires payload { (writer_tells writer.old).payload ≡ stream.old.payload }
     ensures { IsWriterTurn result
         (writer_scene (guests_of guests.old.items) stream.old producer.old

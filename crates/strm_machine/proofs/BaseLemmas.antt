@@ -1,17 +1,19 @@
 -- What each step leaves of where memories lie: all of it.
-use Rattle.std.proofs.Common.{◌≡◌, ℕ, zero, suc, ℤ, List, [], ◌∷◌, ◌++◌, length, get_or, set, Option, Some, None, min, refl, sym, ap, ◌∙◌}
+use Rattle.std.proofs.Common.{◌≡◌, ◌≢◌, ℕ, zero, suc, ℤ, List, [], ◌∷◌, ◌++◌, length, get_or, set, Option, Some, None, min, refl, sym, ap, ◌∙◌}
 use Rattle.std.specs.Prelude.{replicate}
 use Rattle.std.specs.Option.{option_map}
 use Rattle.std.proofs.Math.Seq.{map-set_same}
 use Rattle.std.proofs.Math.ListN.{get_or-map}
 use Rattle.std.proofs.lemmas.Bool.{cond_both}
+use Rattle.std.proofs.lemmas.List.{get_or-set_other}
 use Rattle.strm_handles.specs.Handles.{inserted}
 use Rattle.strm_waitable_sets.specs.Sets.{handle_left}
 use Rattle.strm_machine.specs.Words.{Guest, Handles, Sets, no_handles, no_sets, Entry, removed, ReturnCode, TransmitIndex, Reaction, goes, operates, written_back, end_of, opposite, same_side, IsSound, State, guest_in, no_guest, sets_in, with_handles, with_memory, with_table, memory_in, scalars_of, stored_at, items_at, named, stream_named, Operated, Operation, Side, Reading, Writing, Stream, Act, Make}
 use Rattle.std.specs.Ptr.{Ptr}
+use Rattle.strm_memory.specs.Linear.{Base, told_at, own_part}
 use Rattle.strm_machine.specs.Bases.{base_in, with_base, BasesStay}
 use Rattle.strm_machine.proofs.TurnLemmas.{GuestsKeep}
-use Rattle.strm_machine.specs.State.{is_gone, with_bytes}
+use Rattle.strm_machine.specs.State.{is_gone, with_bytes, own_size}
 use Rattle.strm_machine.specs.Making.{read_entry, end_entry, with_stream}
 use Rattle.strm_codes.specs.declared.refusals.Refusal.{Refusal}
 use Rattle.strm_machine.specs.Refusals.{first_of, lower_context_reasons}
@@ -36,7 +38,7 @@ base_in-set guests g new e k =
 base_in-with_table : (guests : List Guest) (g : ℕ) (handles : Handles) (sets : Sets) (k : ℕ) → base_in (with_table guests g handles sets) k ≡ base_in guests k
 base_in-with_table guests g handles sets k = base_in-set guests g (record (guest_in guests g) { handles = handles; sets = sets }) refl k
 
-base_in-with_memory : (guests : List Guest) (g : ℕ) (memory : List ℕ) (k : ℕ) → base_in (with_memory guests g memory) k ≡ base_in guests k
+pub base_in-with_memory : (guests : List Guest) (g : ℕ) (memory : List ℕ) (k : ℕ) → base_in (with_memory guests g memory) k ≡ base_in guests k
 base_in-with_memory guests g memory k = base_in-set guests g (record (guest_in guests g) { memory = memory }) refl k
 
 base_in-freed : (guests : List Guest) (o : Option (ℕ × ℕ)) (k : ℕ) → base_in (guests_freed guests o) k ≡ base_in guests k
@@ -130,12 +132,29 @@ lowered-bases state number g =
     cond_both state.trapped _ _ (λ (r : Reaction). BasesStay state.guests r.state.guests) (λ e k. refl)
     (λ e. shared-bases state number g (first_of (lower_context_reasons state number g)))
 
+-- whose bytes they are stays where it is told where they lie
+own_told : (o : Option Base) (at : Ptr) (size : ℕ) → own_part (Some (told_at o at)) size ≡ own_part o size
+own_told None at size = refl
+own_told (Some base) at size = refl
+
 -- to tell where a memory lies changes nothing else
-pub with_base-keeps : (guests : List Guest) (g : ℕ) (base : Ptr) → GuestsKeep guests (with_base guests g base)
-with_base-keeps guests g base =
-    let new : Guest = record (guest_in guests g) { base = Some base } in
+pub with_base-keeps : (guests : List Guest) (g : ℕ) (at : Ptr) → GuestsKeep guests (with_base guests g at)
+with_base-keeps guests g at =
+    let new : Guest = record (guest_in guests g) { base = Some (told_at (base_in guests g) at) } in
     record {
       sizes = map-set_same (λ (h : Guest). length h.memory) guests g new no_guest refl;
+      own = map-set_same own_size guests g new no_guest (own_told (base_in guests g) at (length (memory_in guests g)));
       handles = map-set_same (λ (h : Guest). h.handles) guests g new no_guest refl;
       sets = map-set_same (λ (h : Guest). h.sets) guests g new no_guest refl;
     }
+
+-- what of another guest stays where one is added, and where one is told of
+pub base_in-behind_but : (guests : List Guest) (x : Guest) (k : ℕ) → k ≢ length guests → base_in (guests ++ x ∷ []) k ≡ base_in guests k
+base_in-behind_but [] x zero ne = absurd (ne refl)
+base_in-behind_but [] x (suc k) ne = refl
+base_in-behind_but (g ∷ guests) x zero ne = refl
+base_in-behind_but (g ∷ guests) x (suc k) ne = base_in-behind_but guests x k (λ e. ne (ap suc e))
+
+pub base_in-with_base_but : (guests : List Guest) (g : ℕ) (at : Ptr) (k : ℕ) → k ≢ g → base_in (with_base guests g at) k ≡ base_in guests k
+base_in-with_base_but guests g at k ne =
+    ap (λ (h : Guest). h.base) (get_or-set_other guests g k (record (guest_in guests g) { base = Some (told_at (base_in guests g) at) }) no_guest ne)

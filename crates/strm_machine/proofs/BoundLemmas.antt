@@ -1,10 +1,10 @@
 -- Regions of items: what the test of their bounds says, what is left of one, and what storing into one keeps.
 use Rattle.std.proofs.Common.{◌≡◌, ℕ, ◌+◌, ◌-◌, ◌*◌, ◌<◌, ◌≤◌, ℤ, zero, suc, Some, false, List, [], ◌∷◌, ◌++◌, length, take, drop, get_or, add-zero, arith, length-append, length-take, length-drop}
 use Rattle.std.proofs.lemmas.Bool.Decides.{nat_tests}
-use Rattle.std.proofs.lemmas.List.Sums.{get_or-le-sum_by}
-use Rattle.std.specs.Prelude.{nat_lt, ◌&&◌, ◌^◌, sum}
+use Rattle.std.specs.Prelude.{nat_lt, ◌&&◌, ◌^◌}
 use Rattle.strm_machine.specs.Words.{item_size, Scalar, items_at, stored_at, put_at}
-use Rattle.strm_machine.specs.State.{memory_limit}
+use Rattle.strm_machine.specs.State.{size_limit}
+use Rattle.strm_machine.specs.Soundness.{AreSmall}
 use Rattle.strm_memory.specs.Region.{is_out_of_bounds, bytes_out_of_bounds}
 use Rattle.strm_memory.proofs.RegionLemmas.{length-items, length-stored}
 use Rattle.strm_memory.proofs.ByteLemmas.{length-put_at}
@@ -56,12 +56,12 @@ length-stored_front ss memory to n xs l h =
 pub length-stored_region : (ss : List Scalar) (source memory : List ℕ) (from to n : ℕ) (xs : List (List ℤ)) → items_at ss source from n ≡ Some xs → is_out_of_bounds (length memory) ss to n ≡ false → length (stored_at ss memory to xs) ≡ length memory
 length-stored_region ss source memory from to n xs i h = length-stored_front ss memory to n xs (omega (arith, length-items ss (drop from source) n xs i)) h
 
--- the address behind n items that lie in a memory of at most 2^28 bytes
-pub address_room : (sizes : List ℕ) (g : ℕ) (ss : List Scalar) (address n : ℕ) → g < length sizes → is_out_of_bounds (get_or sizes g 0) ss address n ≡ false → sum sizes ≤ memory_limit → address < 2 ^ 32 → address + item_size ss * n < 2 ^ 32
+-- the address behind n items that lie in a memory of fewer than 2^32 bytes
+pub address_room : (sizes : List ℕ) (g : ℕ) (ss : List Scalar) (address n : ℕ) → g < length sizes → is_out_of_bounds (get_or sizes g 0) ss address n ≡ false → AreSmall sizes → address < 2 ^ 32 → address + item_size ss * n < 2 ^ 32
 address_room sizes g ss address n l h s a =
-    room (get_or sizes g 0) (item_size ss) address n (λ p q. within (get_or sizes g 0) ss address n h p q) (omega (arith, get_or-le-sum_by (λ k. k) sizes g 0 l, s)) a
+    room (get_or sizes g 0) (item_size ss) address n (λ p q. within (get_or sizes g 0) ss address n h p q) (s g) a
   where
-    room : (size w address n : ℕ) → (0 < n → 0 < w → address + w * n ≤ size) → size ≤ memory_limit → address < 2 ^ 32 → address + w * n < 2 ^ 32
+    room : (size w address n : ℕ) → (0 < n → 0 < w → address + w * n ≤ size) → size < size_limit → address < 2 ^ 32 → address + w * n < 2 ^ 32
     room size zero address n k s a = omega arith
     room size (suc w) address zero k s a = omega arith
     room size (suc w) address (suc n) k s a = omega (arith, k (omega arith) (omega arith))

@@ -26,7 +26,7 @@ pub IsSound-empty : (tag : ℕ) (limits : Limits) → IsSound (empty tag limits)
 IsSound-empty tag limits = record {
   named = All-nil (AreNamed []);
   placed = All-nil (StreamIsPlaced []);
-  small = omega arith;
+  small = λ g. omega arith;
   sets = HoldSets-none;
   contexts = HoldsContexts-none;
 }

@@ -9,6 +9,7 @@ pub mod StateLemmas
 pub mod RefusalLemmas
 pub mod NameLemmas
 pub mod ReactionLemmas
+pub mod GrowthLemmas
 pub mod CarryLemmas
 pub mod Changes
 pub mod EndLemmas

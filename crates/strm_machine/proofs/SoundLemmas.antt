@@ -1,12 +1,11 @@
 -- Each change of the machine leaves a sound state.
-use Rattle.std.proofs.Common.{◌≡◌, true, ℕ, zero, suc, ◌+◌, ◌<◌, ◌≤◌, List, [], ◌∷◌, ◌++◌, length, set, Option, Some, None, refl, sym, ap, ◌∙◌, subst, inl, inr, arith, length-append}
-use Rattle.std.specs.Prelude.{All, sum, is_ok}
+use Rattle.std.proofs.Common.{◌≡◌, true, ℕ, zero, suc, ◌+◌, ◌<◌, List, [], ◌∷◌, ◌++◌, length, set, Option, Some, None, refl, sym, ap, ◌∙◌, subst, inl, inr, arith, length-append}
+use Rattle.std.specs.Prelude.{All, is_ok}
 use Rattle.std.proofs.Math.Seq.{map-set_same}
 use Rattle.std.proofs.Math.ListN.{get_or-map}
 use Rattle.std.proofs.lemmas.Bool.{cases_lt}
 use Rattle.std.proofs.lemmas.List.{get_or_past, length-map, map-append, get_or_append_left, map-set, get_or_push}
 use Rattle.std.proofs.lemmas.List.Elements.{All-set, All-push, All-weaker, All-get_or, All-nil}
-use Rattle.std.proofs.lemmas.List.Sums.{sum_by-append}
 use Rattle.strm_machine.specs.Words.{Guest, TransmitIndex, Payload, kind_of, payload_of, Handles, removed, no_handles, Entry, Sets, no_sets, State, no_guest, no_stream, guest_in, sets_in, with_handles, with_table, without_handle, end_named, HoldsSets, HoldSets, stream_at, Operated, ReturnCode, end_of, with_end, End, Writing, Reading, Side, sizes_of, IsPlaced, OperationIsPlaced, StreamIsPlaced, IsSound, Operation, Stream}
 use Rattle.strm_codes.specs.declared.codes.TransmitIndex.TheVariants as index
 use Rattle.strm_codes.specs.declared.payloads.Payload.TheVariants.{Nothing}
@@ -17,12 +16,12 @@ use Rattle.strm_error_contexts.specs.Contexts.{Contexts}
 use Rattle.strm_handles.specs.declared.entries.Entry.TheVariants as entries
 use Rattle.strm_handles.specs.declared.entries.TransmitEnd.{TransmitEnd}
 use Rattle.strm_handles.specs.Ends.{read_end, write_end}
-use Rattle.strm_machine.specs.State.{memory_limit}
+use Rattle.strm_machine.specs.State.{size_limit, own_size}
 use Rattle.strm_events.specs.Reports.{left_pending}
 use Rattle.strm_machine.specs.Endings.{asked_to_finish}
 use Rattle.strm_machine.specs.Making.{read_entry, write_entry, end_entry, with_read_end, with_ends, writer_index, made_stream, made_pair, with_stream}
-use Rattle.strm_machine.specs.Soundness.{handles_of, type_with, type_of, types_of, is_idle_state, IsNamed, EntryIsNamed, AreNamed, HoldsContexts}
-use Rattle.strm_machine.proofs.TurnLemmas.{GuestsKeep, TurnKeeps}
+use Rattle.strm_machine.specs.Soundness.{handles_of, type_with, type_of, types_of, is_idle_state, IsNamed, EntryIsNamed, AreNamed, HoldsContexts, AreSmall}
+use Rattle.strm_machine.proofs.TurnLemmas.{GuestsKeep, TurnKeeps, own_sizes_of}
 use Rattle.strm_machine.proofs.WaitableSetLemmas.{end_some, HoldsSets-freed, HoldsSets-given_end, HoldSets-with, HoldSets-kept, HoldSets-more}
 use Rattle.strm_machine.proofs.ErrorContextLemmas.{end_leads_nowhere, all_handles-same, HoldsContexts-same, HoldsContexts-more, HoldsContexts-given, HoldsContexts-freed}
 use Rattle.strm_machine.proofs.EndLemmas.{IsLeft, Unchanged, Ended, left_by, with_end-type}
@@ -77,16 +76,22 @@ StreamIsPlaced-more sizes n stream p = record {
   reader = OperationIsPlaced-more sizes n stream.payload stream.reader.operation p.reader;
 }
 
+-- each memory keeps its limit where there is one more that does
+AreSmall-more : (sizes : List ℕ) (n : ℕ) → n < size_limit → AreSmall sizes → AreSmall (sizes ++ n ∷ [])
+AreSmall-more [] n l h zero = l
+AreSmall-more [] n l h (suc g) = omega arith
+AreSmall-more (k ∷ sizes) n l h zero = h zero
+AreSmall-more (k ∷ sizes) n l h (suc g) = AreSmall-more sizes n l (λ j. h (suc j)) g
+
 -- one guest more
-pub IsSound-guest : (state : State) (guest : Guest) → guest.handles ≡ no_handles → guest.sets ≡ no_sets → sum (sizes_of state.guests) + length guest.memory ≤ memory_limit → IsSound state → IsSound (record state { guests = state.guests ++ guest ∷ [] })
+pub IsSound-guest : (state : State) (guest : Guest) → guest.handles ≡ no_handles → guest.sets ≡ no_sets → length guest.memory < size_limit → IsSound state → IsSound (record state { guests = state.guests ++ guest ∷ [] })
 IsSound-guest state guest e f l h =
     let sizes : sizes_of (state.guests ++ guest ∷ []) ≡ sizes_of state.guests ++ length guest.memory ∷ [] = map-append (λ g. length g.memory) state.guests (guest ∷ []) in
     let handles : handles_of (state.guests ++ guest ∷ []) ≡ handles_of state.guests ++ guest.handles ∷ [] = map-append (λ g. g.handles) state.guests (guest ∷ []) in
-    let total = sum_by-append (λ n. n) (sizes_of state.guests) (length guest.memory ∷ []) in
     record {
       named = rw (handles, e) (All-push (AreNamed (types_of state.streams)) (handles_of state.guests) no_handles h.named (All-nil (EntryIsNamed (types_of state.streams))));
       placed = rw sizes (All-weaker (StreamIsPlaced (sizes_of state.guests)) (StreamIsPlaced (sizes_of state.guests ++ length guest.memory ∷ [])) (StreamIsPlaced-more (sizes_of state.guests) (length guest.memory)) state.streams h.placed);
-      small = rw sizes (omega (arith, l, total));
+      small = rw sizes (AreSmall-more (sizes_of state.guests) (length guest.memory) l h.small);
       sets = HoldSets-more state.guests guest e f h.sets;
       contexts = HoldsContexts-more state.guests guest state.contexts e h.contexts;
     }
@@ -150,6 +155,13 @@ sizes_of-with_table guests g handles sets = map-set_same (λ h. length h.memory)
 
 pub sizes_of-with_handles : (guests : List Guest) (g : ℕ) (handles : Handles) → sizes_of (with_handles guests g handles) ≡ sizes_of guests
 sizes_of-with_handles guests g handles = sizes_of-with_table guests g handles (sets_in guests g)
+
+-- nor of how many of their bytes are the store's
+pub own_sizes_of-with_table : (guests : List Guest) (g : ℕ) (handles : Handles) (sets : Sets) → own_sizes_of (with_table guests g handles sets) ≡ own_sizes_of guests
+own_sizes_of-with_table guests g handles sets = map-set_same own_size guests g (record (guest_in guests g) { handles = handles; sets = sets }) no_guest refl
+
+pub own_sizes_of-with_handles : (guests : List Guest) (g : ℕ) (handles : Handles) → own_sizes_of (with_handles guests g handles) ≡ own_sizes_of guests
+own_sizes_of-with_handles guests g handles = own_sizes_of-with_table guests g handles (sets_in guests g)
 
 pub AreNamed-at : (types : List TransmitIndex) (guests : List Guest) (g : ℕ) → All (AreNamed types) (handles_of guests) → AreNamed types (guest_in guests g).handles
 AreNamed-at types guests g h =

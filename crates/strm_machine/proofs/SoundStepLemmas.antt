@@ -1,10 +1,8 @@
 -- Every step leaves a sound state, by its shape.
 use Rattle.std.proofs.Common.{◌≡◌, ℕ, arith, List, [], ◌∷◌, ◌++◌, length, Option, Some, None, refl}
-use Rattle.std.specs.Prelude.{replicate, sum}
+use Rattle.std.specs.Prelude.{replicate}
 use Rattle.std.proofs.lemmas.List.{length-replicate}
-use Rattle.std.proofs.lemmas.List.Sums.{sum-map}
 use Rattle.strm_machine.specs.Words.{Guest, ReturnCode, no_handles, no_sets, put_at, State, memory_in, with_memory, stream_at, Operated, named, stream_named, Reaction, written_back, sizes_of, IsSound, NamedEnd, Act, Make, Side}
-use Rattle.strm_machine.specs.State.{bytes_in_use}
 use Rattle.strm_machine.specs.Refusals.{refusal}
 use Rattle.strm_machine.specs.Reactions.{makes, on_set, on_context, reaction}
 use Rattle.strm_machine.specs.WaitableSets.{with_set}
@@ -42,8 +40,7 @@ pub guest-sound : (state : State) (size : ℕ) → GuestFits state size → IsSo
 guest-sound state size fits h =
     let guest : Guest = record { memory = replicate size 0; base = None; handles = no_handles; sets = no_sets } in
     let many : length guest.memory ≡ size = length-replicate {A = ℕ} size 0 in
-    let total : sum (sizes_of state.guests) ≡ bytes_in_use state = sum-map (λ k. length k.memory) state.guests in
-    IsSound-guest state guest refl refl (omega (arith, total, many, fits.bytes)) h
+    IsSound-guest state guest refl refl (omega (arith, many, fits.bytes)) h
 
 pub shape-sound : (state : State) (act : Act) (r : Reaction) → IsSound state → Shape state act r → IsSound r.state
 shape-sound state act r h (ByTurn side end address count a e o) =

@@ -7,7 +7,8 @@ use Rattle.std.proofs.lemmas.Bool.{cond_both}
 use Rattle.std.specs.Option.{option_map}
 use Rattle.strm_machine.specs.Words.{Guest, Sets, Payload, Scalar, scalars_of, items_at, stored_at, no_guest, guest_in, memory_in, with_memory, opposite, same_side, end_of, with_operation, advanced, carried, Operated, with_received, sizes_of, IsPlaced, OperationIsPlaced, StreamIsPlaced, Side, Writing, Reading, Operation, Stream}
 use Rattle.strm_memory.specs.Region.{is_out_of_bounds}
-use Rattle.strm_machine.specs.State.{is_gone}
+use Rattle.strm_memory.specs.Linear.{own_part}
+use Rattle.strm_machine.specs.State.{is_gone, own_size}
 use Rattle.strm_machine.specs.Sides.{write_of, read_of}
 use Rattle.strm_machine.specs.Operating.{waits, moves, completes_alone, rendezvous_by, finds, operate}
 use Rattle.strm_machine.specs.Soundness.{handles_of}
@@ -19,9 +20,14 @@ use Rattle.strm_machine.proofs.SideLemmas.{StreamKeeps, kept, kept_on, end_place
 abbrev pub sets_of : List Guest → List Sets
 sets_of guests = map (λ g. g.sets) guests
 
--- guests with the handles, the sets and the memory lengths of others
+-- the bytes of each memory that the store has
+abbrev pub own_sizes_of : List Guest → List ℕ
+own_sizes_of guests = map own_size guests
+
+-- guests with the handles, the sets and the memory lengths of others, of which as many bytes are the store's
 pub record GuestsKeep (old new : List Guest) : Type 0 where
   pub sizes : sizes_of new ≡ sizes_of old
+  pub own : own_sizes_of new ≡ own_sizes_of old
   pub handles : handles_of new ≡ handles_of old
   pub sets : sets_of new ≡ sets_of old
 
@@ -30,12 +36,13 @@ pub record TurnKeeps (before : List Guest) (old : Stream) (t : Operated) : Type 
   pub stream : StreamKeeps (sizes_of before) old t.stream
 
 pub all_kept : (guests : List Guest) → GuestsKeep guests guests
-all_kept guests = record { sizes = refl; handles = refl; sets = refl }
+all_kept guests = record { sizes = refl; own = refl; handles = refl; sets = refl }
 
 -- another memory of the same length
 pub with_memory-keeps : (guests : List Guest) (g : ℕ) (memory : List ℕ) → length memory ≡ length (memory_in guests g) → GuestsKeep guests (with_memory guests g memory)
 with_memory-keeps guests g memory e = record {
   sizes = map-set_same (λ h. length h.memory) guests g (record (guest_in guests g) { memory = memory }) no_guest e;
+  own = map-set_same own_size guests g (record (guest_in guests g) { memory = memory }) no_guest (ap (own_part (guest_in guests g).base) e);
   handles = map-set_same (λ h. h.handles) guests g (record (guest_in guests g) { memory = memory }) no_guest refl;
   sets = map-set_same (λ h. h.sets) guests g (record (guest_in guests g) { memory = memory }) no_guest refl;
 }

@@ -12,6 +12,7 @@ pub mod Moves
 pub mod WaitableSets
 pub mod ErrorContexts
 pub mod Reactions
+pub mod Growth
 pub mod Plays
 pub mod Asked
 pub mod Soundness

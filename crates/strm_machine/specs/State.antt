@@ -3,11 +3,11 @@
 -- Component Model, "Stream State", "Waitable State" and `ErrorContext`; wasmtime,
 -- futures_and_streams.rs.
 use Rattle.std.specs.Prelude.{ℕ, ℤ, ◌+◌, ◌*◌, Bool, false, true, ◌&&◌, not, List, [], length, replicate, slice_index_or, slice_set, sum_by, count_by, Option, None}
-use Rattle.std.specs.Ptr.{Ptr}
 use Rattle.strm_codes.specs.declared.codes.TransmitKind.TheVariants.{Stream as AStream}
 use Rattle.strm_codes.specs.declared.payloads.Payload.TheVariants.{Nothing}
 use Rattle.strm_handles.specs.Handles.{Handles, no_handles, live_of}
 use Rattle.strm_memory.specs.Bytes.{put_at}
+use Rattle.strm_memory.specs.Linear.{Base, own_part}
 use Rattle.strm_waitable_sets.specs.Sets.{Sets, no_sets}
 use Rattle.strm_error_contexts.specs.Contexts.{Contexts, no_contexts, len as contexts_there}
 use Rattle.strm_machine.specs.declared.limits.Limits.{Limits}
@@ -22,9 +22,9 @@ use Rattle.strm_machine.specs.declared.streams.Stream.{Stream}
 -- a guest's bytes, what its handles stand for, and its waitable sets
 pub record Guest : Type 0 where
   pub memory : List ℕ
-  -- where the first of its bytes lies, once that was told, which no step changes. wasmtime,
-  -- `VMMemoryDefinition::base`
-  pub base : Option Ptr
+  -- where the first of its bytes lies, once that was told, and whether an engine lent them, which no step
+  -- changes. wasmtime, `VMMemoryDefinition::base`
+  pub base : Option Base
   pub handles : Handles
   pub sets : Sets
 
@@ -72,9 +72,13 @@ empty tag limits = record {
   trapped = false;
 }
 
--- the bytes of all memories together, at most. Ours
+-- the bytes of all memories of the store's own together, at most. Ours
 abbrev pub memory_limit : ℕ
 memory_limit = 268435456
+
+-- the bytes of one memory are fewer: the place behind each is an address. WebAssembly has so many at most
+abbrev pub size_limit : ℕ
+size_limit = 4294967296
 
 -- the guests, at most. Ours
 abbrev pub guest_limit : ℕ
@@ -192,6 +196,10 @@ with_bytes state g address bytes = record state {
   guests = with_memory state.guests g (put_at (memory_in state.guests g) address bytes);
 }
 
--- bytes of all memories together
+-- the bytes of a guest's memory that the store has: none of one that an engine lent
+abbrev pub own_size : Guest → ℕ
+own_size g = own_part g.base (length g.memory)
+
+-- those of all memories together
 abbrev pub bytes_in_use : State → ℕ
-bytes_in_use state = sum_by (λ g. length g.memory) state.guests
+bytes_in_use state = sum_by own_size state.guests

@@ -8,3 +8,6 @@ pub mod ColumnLemmas
 pub mod RegionLemmas
 pub mod AppendLemmas
 pub mod GoodLemmas
+pub mod RangeLemmas
+pub mod JoinLemmas
+pub mod BaseLemmas

@@ -10,6 +10,7 @@ mod field_lists;
 mod fields;
 pub mod good_items;
 pub mod items;
+mod joins;
 pub mod laws;
 mod limits;
 pub mod memories;

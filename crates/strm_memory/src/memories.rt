@@ -2,39 +2,50 @@
 //!
 //! Source: wasmtime, `futures_and_streams.rs`, `check_bounds`; Canonical ABI, `BufferGuestImpl`.
 
-ghost use Rattle.std.specs.Prelude.{◌≡◌, ℕ, ◌+◌, ◌*◌, ◌<◌, ◌≤◌, ◌↔◌, [], ◌++◌, length, replicate, drop, is_err, IsTrue, IsNone, IfOk, OnOk, OnErr, IsOk, IsErr, IsErrOf, IsSomeAnd, IfSome, Some, vec_len, vec_capacity};
+ghost use Rattle.std.specs.Prelude.{◌≡◌, ℕ, ◌+◌, ◌*◌, ◌^◌, ◌<◌, ◌≤◌, ◌↔◌, [], ◌++◌, length, replicate, take, drop, true, is_err, IsTrue, IfOk, OnOk, OnErr, IsOk, IsErr, IsErrOf, IsSomeAnd, IfSome, Some, None, vec_len, vec_capacity};
 ghost use Rattle.strm_codes.specs.Layout.{scalars_of, item_size};
+ghost use Rattle.std.specs.List.{slice_range};
 ghost use Rattle.std.specs.Vec.{vec_ptr};
-ghost use Rattle.std.specs.Bool.{then_some};
-ghost use Rattle.strm_memory.specs.Linear.{untold, with_contents};
+ghost use Rattle.strm_memory.specs.Linear.{untold, of_engine, is_lent_base, told_at, with_contents};
+ghost use denote.RawPtr.{◌+ₚ◌};
 ghost use Rattle.strm_memory.specs.Bytes.{put_at, bytes_at};
 ghost use Rattle.strm_memory.specs.Items.{items_at, stored_at, AreItems, IsFirstBadItem, is_number_or_none};
 
 use crate::copies::{BadItem, copy_region};
 use crate::items::{LiftError, lift_fields, lower_fields};
-use crate::moves::copy_within_items;
+use crate::joins::join;
+use crate::moves::{append_zeros, copy_within_items};
 use std::alloc::Global;
 use std::marker::Model;
+use std::mem;
+use std_alloc::vec::Lodged;
 use strm_codes::counts::{ItemCount, OutOfMemory};
 use strm_codes::payloads::Payload;
 use strm_codes::values::Value;
 use thiserror::Error;
 
 /// The bytes of a guest. Addresses begin at 0. Once somebody was told where they lie, they lie there.
+/// They are the memory's own, which are freed with it; or an engine lent them, where they lie, and they are
+/// never freed.
 #[derive(Drop)]
 pub struct GuestMemory {
-    bytes: Vec<u8>,
+    own: Vec<u8>,
+    // Whether somebody was told where the memory's own bytes lie.
     is_told: bool,
+    lent: Vec<u8, Lodged>,
+    is_lent: bool,
 }
 
 impl Model for GuestMemory {
+    ghost use Rattle.std.specs.Prelude.{if◌then◌else◌};
     ghost use Rattle.std.specs.Vec.{vec_ptr};
     ghost use Rattle.std.specs.Bool.{then_some};
-    ghost use Rattle.strm_memory.specs.Linear.{LinearMemory};
+    ghost use Rattle.strm_memory.specs.Linear.{LinearMemory, own_at, of_engine};
 
     ghost Value = { LinearMemory };
 
-    ghost view = { λ m. record { bytes = m.bytes.items; base = then_some m.is_told (vec_ptr m.bytes) } };
+    ghost view = { λ m. if m.is_lent then of_engine m.lent.items (vec_ptr m.lent)
+        else record { bytes = m.own.items; base = then_some m.is_told (own_at (vec_ptr m.own)) } };
 }
 
 /// Some bytes pass the memory's end.
@@ -55,7 +66,7 @@ pub enum RegionError {
 
 impl GuestMemory {
     ghost use Rattle.std.specs.Borrow.{sem};
-    ghost use Rattle.strm_memory.specs.Lending.{LendsBytes};
+    ghost use Rattle.strm_memory.specs.Lending.{LendsBytes, LendsRange};
     ghost use Rattle.strm_memory.specs.Region.{region_of, bytes_out_of_bounds};
 
     /// So many zero bytes. After `OutOfMemory` nothing was kept.
@@ -77,48 +88,130 @@ impl GuestMemory {
     pub fn of_bytes(bytes: Vec<u8>) -> GuestMemory
         ensures { result ≡ untold bytes.items }
     {
-        GuestMemory::of_parts(bytes, false)
+        GuestMemory {
+            own: bytes,
+            is_told: false,
+            lent: Vec::new(Lodged),
+            is_lent: false,
+        }
     }
 
-    /// The memory that consists of these bytes, and whether somebody was told where they lie. Takes no
-    /// memory.
-    pub fn of_parts(bytes: Vec<u8>, is_told: bool) -> GuestMemory
-        ensures { result
-            ≡ record { bytes = bytes.items; base = then_some is_told (vec_ptr bytes) } }
+    /// The memory that consists of these bytes, which an engine lends, where they lie. They are touched only
+    /// as the guest's memory is, and never freed. Takes no memory.
+    pub fn lent(alloc: Global, bytes: Vec<u8, Lodged>) -> GuestMemory
+        ensures { result ≡ of_engine bytes.items (vec_ptr bytes) }
     {
-        GuestMemory { bytes, is_told }
+        GuestMemory {
+            own: Vec::new(alloc),
+            is_told: true,
+            lent: bytes,
+            is_lent: true,
+        }
     }
 
-    /// All bytes, and whether somebody was told where they lie; and no memory behind. Takes no memory.
-    pub fn into_parts(self) -> (Vec<u8>, bool)
-        ensures bytes { result.0.items ≡ self.bytes }
-        ensures base { then_some result.1 (vec_ptr result.0) ≡ self.base }
+    /// Whether an engine lent the bytes.
+    pub fn is_lent(&self) -> bool
+        ensures { result ≡ is_lent_base self.now.base }
     {
-        let GuestMemory { bytes, is_told } = self;
-        (bytes, is_told)
+        self.is_lent
+    }
+
+    /// A memory that an engine lent has these bytes too, which lie behind its end. It lies where it lay, and
+    /// none of the bytes is touched. Takes no memory.
+    pub fn grown(&mut self, more: Vec<u8, Lodged>)
+        requires lent { is_lent_base self.old.base ≡ true }
+        requires behind { IfSome self.old.base
+            (λ base. vec_ptr more ≡ base.at +ₚ length self.old.bytes) }
+        requires small { length self.old.bytes + length more.items < 2 ^ 63 }
+        ensures { self.new ≡ with_contents self.old (self.old.bytes ++ more.items) }
+    {
+        if !self.is_lent {
+            unreachable!()
+        }
+        let bytes = mem::replace(&mut self.lent, Vec::new(Lodged));
+        self.lent = join(bytes, more);
+    }
+
+    /// A memory that an engine lent goes on in these bytes, which begin with all of its own, at another
+    /// place. Answers the bytes in which it was; none of either is touched. Takes no memory.
+    pub fn moved(&mut self, bytes: Vec<u8, Lodged>) -> Vec<u8, Lodged>
+        requires lent { is_lent_base self.old.base ≡ true }
+        requires begins { take (length self.old.bytes) bytes.items ≡ self.old.bytes }
+        ensures moved { self.new ≡ of_engine bytes.items (vec_ptr bytes) }
+        ensures left { of_engine result.items (vec_ptr result) ≡ self.old }
+    {
+        if !self.is_lent {
+            unreachable!()
+        }
+        mem::replace(&mut self.lent, bytes)
+    }
+
+    /// All bytes of a memory of which nobody was told where they lie, and no memory behind: they are its
+    /// own. Takes no memory.
+    pub fn into_bytes(self) -> Vec<u8>
+        requires { self.base ≡ None }
+        ensures { result.items ≡ self.bytes }
+    {
+        let GuestMemory {
+            own,
+            is_told: _,
+            lent: _,
+            is_lent,
+        } = self;
+        if is_lent {
+            unreachable!()
+        }
+        own
+    }
+
+    /// Cuts bytes off at a place, and appends so many that are 0, where nobody was told where they lie.
+    /// After `OutOfMemory` nothing has changed.
+    pub fn append_zeros(&mut self, at: usize, count: usize) -> Result<(), OutOfMemory>
+        requires untold { self.old.base ≡ None }
+        requires inside { at ≤ length self.old.bytes }
+        ensures ok { OnOk result
+            (self.new ≡ untold (take at self.old.bytes ++ replicate count 0)) }
+        ensures err { OnErr result (self.new ≡ self.old) }
+    {
+        if self.is_lent {
+            unreachable!()
+        }
+        append_zeros(&mut self.own, at, count)
+    }
+
+    /// What a memory of its own is taken from.
+    pub fn alloc(&self) -> Global {
+        *self.own.allocator()
     }
 
     /// Where the first byte lies, which is told: from now on they lie there.
     pub fn tell_base(&mut self) -> *const u8
-        ensures told { self.new ≡ record self.old { base = Some result } }
-        ensures again { IfSome self.old.base (λ base. result ≡ base) }
+        ensures told { self.new ≡ record self.old { base = Some (told_at self.old.base result) } }
+        ensures again { IfSome self.old.base (λ base. result ≡ base.at) }
     {
+        if self.is_lent {
+            return self.lent.as_ptr();
+        }
         self.is_told = true;
-        self.bytes.as_ptr()
+        self.own.as_ptr()
     }
 
     /// How many bytes there are.
     pub fn len(&self) -> usize
         ensures { result ≡ length self.now.bytes }
     {
-        self.bytes.len()
+        self.bytes().len()
     }
 
     /// All bytes.
     pub fn bytes(&self) -> &[u8]
         ensures { result.now ≡ self.now.bytes }
     {
-        self.bytes.as_slice()
+        if self.is_lent {
+            self.lent.as_slice()
+        } else {
+            self.own.as_slice()
+        }
     }
 
     /// All bytes, to write.
@@ -126,7 +219,25 @@ impl GuestMemory {
         ensures value { result.now ≡ self.old.bytes }
         ensures* lends { sem 𝓛 (LendsBytes self.entry result) }
     {
-        self.bytes.as_mut_slice()
+        if self.is_lent {
+            self.lent.as_mut_slice()
+        } else {
+            self.own.as_mut_slice()
+        }
+    }
+
+    /// The bytes from a place up to another, to write.
+    pub fn range_mut(&mut self, from: usize, to: usize) -> &mut [u8]
+        requires order { from ≤ to }
+        requires inside { to ≤ length self.old.bytes }
+        ensures value { result.now ≡ slice_range self.old.bytes from to }
+        ensures* lends { sem 𝓛 (LendsRange self.entry from result) }
+    {
+        if self.is_lent {
+            self.lent.slice_mut(from..to)
+        } else {
+            self.own.slice_mut(from..to)
+        }
     }
 
     /// So many bytes from an address on.
@@ -134,7 +245,7 @@ impl GuestMemory {
         requires { address + len ≤ length self.now.bytes }
         ensures { result.now ≡ bytes_at self.now.bytes address len }
     {
-        &self.bytes[address as usize..address as usize + len as usize]
+        &self.bytes()[address as usize..address as usize + len as usize]
     }
 
     /// Writes bytes from an address on. No bytes look at no address. Takes no memory.
@@ -150,11 +261,11 @@ impl GuestMemory {
             return Ok(());
         }
         let from = address as usize;
-        let size = self.bytes.len();
+        let size = self.len();
         if bytes.len() > size || from > size - bytes.len() {
             return Err(OutOfBounds);
         }
-        self.bytes[from..from + bytes.len()].copy_from_slice(bytes);
+        self.bytes_mut()[from..from + bytes.len()].copy_from_slice(bytes);
         Ok(())
     }
 
@@ -172,7 +283,7 @@ impl GuestMemory {
         if len == 0 {
             return Ok(());
         }
-        if self.bytes.len() < address as usize + len {
+        if self.len() < address as usize + len {
             return Err(RegionError::OutOfBounds);
         }
         if !payload.is_aligned(address) {
@@ -210,9 +321,9 @@ impl GuestMemory {
     {
         let to = address as usize;
         copy_region(
-            source.bytes.as_slice(),
+            source.bytes(),
             from as usize,
-            self.bytes.as_mut_slice(),
+            self.bytes_mut(),
             to,
             payload,
             count.as_usize(),
@@ -230,7 +341,7 @@ impl GuestMemory {
             (λ xs. self.new
             ≡ with_contents self.old (stored_at (scalars_of payload) self.old.bytes to xs)) }
     {
-        copy_within_items(self.bytes.as_mut_slice(), from, to, payload, count);
+        copy_within_items(self.bytes_mut(), from, to, payload, count);
     }
 
     /// Appends so many items from an address on.
@@ -252,7 +363,7 @@ impl GuestMemory {
         ensures err { OnErr result (out.new.items ≡ out.old.items) }
     {
         lift_fields(
-            self.bytes.as_slice(),
+            self.bytes(),
             address as usize,
             payload.scalars(),
             payload.size() as usize,
@@ -273,7 +384,7 @@ impl GuestMemory {
             items,
             payload.scalars(),
             payload.size() as usize,
-            self.bytes.as_mut_slice(),
+            self.bytes_mut(),
             address as usize,
         );
     }

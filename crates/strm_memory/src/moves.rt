@@ -2,13 +2,13 @@
 //!
 //! Source: wasmtime, `futures_and_streams.rs`, the plain copies of `copy`. The calls are ours.
 
-ghost use Rattle.std.specs.Prelude.{◌≡◌, ◌+◌, ◌*◌, ◌≤◌, length, IsTrue, IsSomeAnd};
+ghost use Rattle.std.specs.Prelude.{◌≡◌, ◌+◌, ◌*◌, ◌≤◌, ◌++◌, length, take, replicate, IsTrue, IsSomeAnd, OnOk, OnErr};
 ghost use Rattle.strm_codes.specs.Layout.{scalars_of, item_size};
 ghost use Rattle.strm_memory.specs.Bytes.{put_at, bytes_at};
 ghost use Rattle.strm_memory.specs.Items.{items_at, stored_at, is_number_or_none};
 
 use crate::numbers::hold_bytes;
-use strm_codes::counts::ItemCount;
+use strm_codes::counts::{ItemCount, OutOfMemory};
 use strm_codes::payloads::Payload;
 
 /// Copies all bytes. Takes no memory.
@@ -49,6 +49,24 @@ pub fn copy_within_items(memory: &mut [u8], from: u32, to: u32, payload: Payload
     hold_bytes(memory);
     let len = payload.size() as usize * count.as_usize();
     move_region(memory, from as usize, to as usize, len);
+}
+
+/// Cuts bytes off at a place, and appends so many that are 0. After `OutOfMemory` nothing has changed.
+pub fn append_zeros(bytes: &mut Vec<u8>, at: usize, count: usize) -> Result<(), OutOfMemory>
+    requires { at ≤ length bytes.old.items }
+    ensures ok { OnOk result (bytes.new.items ≡ take at bytes.old.items ++ replicate count 0) }
+    ensures err { OnErr result (bytes.new.items ≡ bytes.old.items) }
+{
+    let behind = bytes.len() - at;
+    if bytes.reserve(count.saturating_sub(behind)).is_err() {
+        return Err(OutOfMemory);
+    }
+    bytes.truncate(at);
+    match bytes.resize(at + count, 0) {
+        Ok(()) => {}
+        Err(_) => unreachable!(),
+    }
+    Ok(())
 }
 
 // So many bytes from one slice to another, as they are.

@@ -15,7 +15,7 @@ use Rattle.strm_machine.specs.Words.{Guest, TransmitIndex, Name, State, guest_in
 use Rattle.strm_machine.specs.declared.acts.NamedEnd.{NamedEnd}
 use Rattle.strm_machine.specs.declared.streams.Side.{Side}
 use Rattle.strm_machine.specs.declared.streams.Stream.{Stream}
-use Rattle.strm_machine.specs.State.{is_live, handles_in_use, sets_in_use, places_in_use, bytes_in_use, with_bytes}
+use Rattle.strm_machine.specs.State.{is_live, handles_in_use, sets_in_use, places_in_use, bytes_in_use, own_size, with_bytes}
 use Rattle.strm_machine.specs.Making.{end_entry}
 use Rattle.strm_machine.specs.Tests.{named_by, side_of, side_named, is_unknown_guest, are_handles_full, are_places_full}
 use Rattle.strm_machine.specs.WaitableSets.{set_named, number_named, is_in_set, has_some, has_member, report_of_named, is_ready, ready_member, ready_in, sets_changed}
@@ -91,7 +91,7 @@ module _ (f : ℕ → ℕ) (state : State) (streams : List Stream) where
   are_handles_full-as n = ap (λ k. nat_lt state.limits.handles (k + n)) handles_in_use-as
 
   pub bytes_in_use-as : bytes_in_use other ≡ bytes_in_use state
-  bytes_in_use-as = sum_by-as f (λ g. length g.memory) (λ k. refl) state.guests
+  bytes_in_use-as = sum_by-as f own_size (λ k. refl) state.guests
 
   sets_in_use-as : sets_in_use other ≡ sets_in_use state
   sets_in_use-as = sum_by-as f (λ g. count_by (λ there. there) g.sets.there) (λ k. refl) state.guests

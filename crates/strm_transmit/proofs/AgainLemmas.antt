@@ -7,7 +7,7 @@ use Rattle.strm_handles.specs.Counters.{Counter, counted}
 use Rattle.strm_machine.specs.State as machine
 use Rattle.strm_handles.specs.Handles.{next_index}
 use Rattle.strm_machine.specs.State.{State, guest_in, no_stream, is_live, is_host, producer_at, consumer_at, places_in_use}
-use Rattle.strm_machine.specs.Soundness.{IsSound, sizes_of}
+use Rattle.strm_machine.specs.Soundness.{IsSound}
 use Rattle.strm_machine.specs.Sides.{end_of}
 use Rattle.strm_machine.specs.Making.{with_ends, made_stream, writer_index}
 use Rattle.strm_machine.specs.Refusals.{refusal}
@@ -40,7 +40,8 @@ use Rattle.strm_transmit.specs.declared.errors.StoreError.{StoreError}
 use Rattle.strm_transmit.specs.declared.errors.StoreError.TheVariants as errors
 use Rattle.strm_transmit.specs.Telling.{Retells, member_of}
 use Rattle.strm_transmit.specs.declared.store.Store.TheInside.{Inside}
-use Rattle.strm_transmit.proofs.MakingLemmas.{nobodys, stream_made, numbers_of, as_pair, sizes-made, sets-made, members-made}
+use Rattle.strm_machine.proofs.TurnLemmas.{own_sizes_of}
+use Rattle.strm_transmit.proofs.MakingLemmas.{nobodys, stream_made, numbers_of, as_pair, own_sizes-made, sets-made, members-made}
 use Rattle.strm_transmit.proofs.ServedLemmas.{AreServed-set}
 use Rattle.strm_transmit.proofs.StepLemmas.{IsAdmitted, meets_not_admitted}
 use Rattle.strm_transmit.proofs.StoreLemmas.{SameBut, Agrees, IsStore-counted}
@@ -115,7 +116,7 @@ module _ (old new : Inside) (n writer reader : ℕ) (ty : TransmitIndex) (h : Ma
           within = rw h.counter (omega (arith, fits.handles, i.limit, i.live));
         };
         sets = h.live_sets ∙ i.sets ∙ sym (ap sets_among h.guests ∙ sets-made (guests_of old.guests.items) writer reader ty n);
-        sizes = ap sizes_of h.guests ∙ sizes-made (guests_of old.guests.items) writer reader ty n;
+        sizes = ap own_sizes_of h.guests ∙ own_sizes-made (guests_of old.guests.items) writer reader ty n;
         bytes = h.bytes;
       })
       (record {

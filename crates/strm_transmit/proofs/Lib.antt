@@ -37,6 +37,7 @@ pub mod BadItemLemmas
 pub mod SetLemmas
 pub mod ContextLemmas
 pub mod NextLemmas
+pub mod EngineLemmas
 pub mod GuestLemmas
 -- what a guest is asked of its handles
 pub mod QueryLemmas

@@ -8,7 +8,7 @@ use Rattle.strm_handles.specs.Counters.{Counter, counted}
 use Rattle.strm_handles.specs.Handles.{next_index}
 use Rattle.strm_machine.specs.State as machine
 use Rattle.strm_machine.specs.State.{State, guest_in, sets_in, no_stream}
-use Rattle.strm_machine.specs.Soundness.{IsSound, sizes_of}
+use Rattle.strm_machine.specs.Soundness.{IsSound}
 use Rattle.strm_machine.specs.Sides.{end_of}
 use Rattle.strm_machine.specs.Refusals.{refusal}
 use Rattle.strm_machine.specs.Reactions.{goes, performs}
@@ -16,7 +16,8 @@ use Rattle.strm_machine.specs.declared.acts.Making.TheVariants.{Guest, Between}
 use Rattle.strm_machine.specs.declared.acts.Act.TheVariants.{Make}
 use Rattle.strm_machine.specs.declared.replies.Reply.TheVariants as replies
 use Rattle.strm_machine.proofs.RefusalLemmas.{PairFits, pair_fits}
-use Rattle.strm_machine.proofs.SoundLemmas.{IsSound-with_stream, sizes_of-with_handles}
+use Rattle.strm_machine.proofs.SoundLemmas.{IsSound-with_stream, own_sizes_of-with_handles}
+use Rattle.strm_machine.proofs.TurnLemmas.{own_sizes_of}
 use Rattle.strm_codes.specs.declared.codes.TransmitIndex.{TransmitIndex}
 use Rattle.strm_machine.specs.Making.{with_read_end, with_ends, made_stream, made_pair, with_stream}
 use Rattle.strm_machine.specs.declared.replies.Pair.{Pair}
@@ -63,9 +64,9 @@ performs-made old new writer reader ty pair h e =
     ap (λ (s : State). goes (replies.Pair (made_pair (state_of old) writer reader ty)) s) (sym (state_of-made old new writer reader ty h))
     ∙ ap (λ (p : Pair). goes (replies.Pair p) (state_of new)) (sym e)
 
-pub sizes-made : (guests : List machine.Guest) (writer reader : ℕ) (ty : TransmitIndex) (s : ℕ) → sizes_of (with_ends guests writer reader ty s) ≡ sizes_of guests
-sizes-made guests writer reader ty s =
-    sizes_of-with_handles (with_read_end guests reader ty s) writer _ ∙ sizes_of-with_handles guests reader _
+pub own_sizes-made : (guests : List machine.Guest) (writer reader : ℕ) (ty : TransmitIndex) (s : ℕ) → own_sizes_of (with_ends guests writer reader ty s) ≡ own_sizes_of guests
+own_sizes-made guests writer reader ty s =
+    own_sizes_of-with_handles (with_read_end guests reader ty s) writer _ ∙ own_sizes_of-with_handles guests reader _
 
 pub sets-made : (guests : List machine.Guest) (writer reader : ℕ) (ty : TransmitIndex) (s : ℕ) → sets_among (with_ends guests writer reader ty s) ≡ sets_among guests
 sets-made guests writer reader ty s =
@@ -105,7 +106,7 @@ IsStore-made old new writer reader ty h e i =
         within = rw h.counter (omega (arith, fits.handles, i.limit, i.live));
       };
       sets = h.live_sets ∙ i.sets ∙ sym (ap sets_among h.guests ∙ sets-made guests writer reader ty (length old.streams.items));
-      sizes = ap sizes_of h.guests ∙ sizes-made guests writer reader ty (length old.streams.items);
+      sizes = ap own_sizes_of h.guests ∙ own_sizes-made guests writer reader ty (length old.streams.items);
       bytes = h.bytes;
     })
     (record {

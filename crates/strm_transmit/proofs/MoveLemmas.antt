@@ -11,7 +11,7 @@ use Rattle.strm_machine.specs.Moves.{without_handle, with_owner}
 use Rattle.strm_machine.specs.Tests.{named, end_named, stream_named, side_named}
 use Rattle.strm_machine.specs.Refusals.{refusal}
 use Rattle.strm_machine.specs.Reactions.{Reaction, goes, transfers, lowers, performs}
-use Rattle.strm_machine.specs.Soundness.{sizes_of, IsSound}
+use Rattle.strm_machine.specs.Soundness.{IsSound}
 use Rattle.strm_machine.specs.declared.acts.NamedEnd.{NamedEnd}
 use Rattle.strm_machine.specs.declared.acts.Act.{Act}
 use Rattle.strm_machine.specs.declared.acts.Act.TheVariants.{Transfer, OnLoose}
@@ -26,7 +26,8 @@ use Rattle.strm_machine.proofs.EndLemmas.{Unchanged}
 use Rattle.strm_machine.proofs.HostLemmas.{no_host}
 use Rattle.strm_machine.proofs.ReactionLemmas.{reaction-performs}
 use Rattle.strm_machine.proofs.RefusalLemmas.{move_fits, lower_fits, close_fits}
-use Rattle.strm_machine.proofs.SoundLemmas.{IsSound-set, IsSound-freed, sizes_of-with_table, sizes_of-with_handles}
+use Rattle.strm_machine.proofs.SoundLemmas.{IsSound-set, IsSound-freed, own_sizes_of-with_table, own_sizes_of-with_handles}
+use Rattle.strm_machine.proofs.TurnLemmas.{own_sizes_of}
 use Rattle.strm_machine.proofs.SoundStepLemmas.{reaction-sound}
 use Rattle.strm_channels.specs.Changes.{AddsHandle, FreesHandle, MovesEnd}
 use Rattle.strm_channels.specs.Guests.{guests_of, live_in, sets_among, without_handle_in, with_end_in}
@@ -169,7 +170,7 @@ module _ (old new : Inside) (s : ℕ) (side : Side) (owner : Owner) (between : R
       (record {
         handles = less_counted old new o.same.limits h.counter h.live i;
         sets = as_many (ap sets_among h.guests ∙ sets-with_table (guests_of old.guests.items) g _ _ refl);
-        sizes = ap sizes_of h.guests ∙ sizes_of-with_table (guests_of old.guests.items) g _ _;
+        sizes = ap own_sizes_of h.guests ∙ own_sizes_of-with_table (guests_of old.guests.items) g _ _;
         bytes = o.bytes;
       })
       counts
@@ -247,7 +248,7 @@ module _ (old new : Inside) (s : ℕ) (side : Side) (end : NamedEnd) (to number 
       (record {
         handles = kept_counted old new o.same.limits m.counter m.live i;
         sets = o.live_sets ∙ i.sets ∙ sym (ap sets_among m.guests ∙ sets-with_table freed to _ (sets_in freed to) refl ∙ sets-with_table guests end.guest _ (handle_left (sets_in guests end.guest) end.handle) refl);
-        sizes = ap sizes_of m.guests ∙ sizes_of-with_handles freed to _ ∙ sizes_of-with_table guests end.guest _ _;
+        sizes = ap own_sizes_of m.guests ∙ own_sizes_of-with_handles freed to _ ∙ own_sizes_of-with_table guests end.guest _ _;
         bytes = o.bytes;
       })
       (counts old new s side (Held to number) between (moved_made (state_of old) end to s e stream_is i.sound) refl o i)
@@ -299,7 +300,7 @@ module _ (old new : Inside) (s g : ℕ) (ty : TransmitIndex) (number : ℕ) (o :
       (record {
         handles = more_counted old new o.same.limits m.counter m.live (fits_below old i fits.handles) i;
         sets = o.live_sets ∙ i.sets ∙ sym (ap sets_among m.guests ∙ sets-with_table guests g _ (sets_in guests g) refl);
-        sizes = ap sizes_of m.guests ∙ sizes_of-with_handles guests g _;
+        sizes = ap own_sizes_of m.guests ∙ own_sizes_of-with_handles guests g _;
         bytes = o.bytes;
       })
       (counts old new s Reading (Held g number) old.ready.items (lower_made (state_of old) s g ty e) refl o i)

@@ -13,12 +13,13 @@ use Rattle.strm_machine.specs.State.{Guest, State, no_guest, guest_in, sets_in, 
 use Rattle.strm_machine.specs.Tests.{end_named}
 use Rattle.strm_machine.specs.WaitableSets.{set_named, number_named, has_some, has_member, is_ready, ready_member, sets_changed}
 use Rattle.strm_machine.specs.Refusals.{slot_reasons, joined_reasons, first_of, refusal}
-use Rattle.strm_machine.specs.Soundness.{IsSound, sizes_of}
+use Rattle.strm_machine.specs.Soundness.{IsSound}
 use Rattle.strm_machine.specs.declared.acts.Act.TheVariants.{Make, OnSet}
 use Rattle.strm_machine.specs.declared.acts.Making.TheVariants.{Set}
 use Rattle.strm_machine.specs.declared.acts.SetAct.TheVariants.{Join, Drop}
 use Rattle.strm_machine.proofs.RefusalLemmas.{none_of_both}
-use Rattle.strm_machine.proofs.SoundLemmas.{sizes_of-with_table}
+use Rattle.strm_machine.proofs.SoundLemmas.{own_sizes_of-with_table}
+use Rattle.strm_machine.proofs.TurnLemmas.{own_sizes_of}
 use Rattle.strm_machine.proofs.SetStepLemmas.{set_fits, on_set_fits, set_found, set_drop_fits, ready_member-least, ready_member-none}
 use Rattle.strm_machine.proofs.SoundStepLemmas.{on_set-sound, with_set-sound}
 use Rattle.strm_channels.specs.Guests.{guests_of, live_in, sets_among, with_set_in, without_set_in}
@@ -72,7 +73,7 @@ IsStore-made_set old new g k h e i =
     (record {
       handles = more_counted old new k.same.limits h.counter h.live (fits_below old i fits.handles) i;
       sets = omega (arith, h.live_sets, i.sets, h.sets);
-      sizes = ap sizes_of h.guests ∙ sizes_of-with_table (guests_of old.guests.items) g _ _;
+      sizes = ap own_sizes_of h.guests ∙ own_sizes_of-with_table (guests_of old.guests.items) g _ _;
       bytes = k.bytes;
     })
     (subst IsSound (sym (state_with old new k (with_set_in (guests_of old.guests.items) g) h.guests)) (with_set-sound (state_of old) g i.sound e))
@@ -108,7 +109,7 @@ module _ (old new : Inside) (k : KeepsStreams old new) (n : KeepsCounts old new)
       (record {
         handles = kept_counted old new k.same.limits n.counter (ap live_in e) i;
         sets = n.live_sets ∙ i.sets ∙ sym (ap sets_among e);
-        sizes = ap sizes_of e;
+        sizes = ap own_sizes_of e;
         bytes = k.bytes;
       })
       (subst IsSound (sym (state_with old new k (guests_of old.guests.items) e)) i.sound)
@@ -126,7 +127,7 @@ module _ (old new : Inside) (k : KeepsStreams old new) (n : KeepsCounts old new)
       (record {
         handles = kept_counted old new k.same.limits n.counter (ap live_in e ∙ live-with_sets (guests_of old.guests.items) g sets) i;
         sets = n.live_sets ∙ i.sets ∙ sym (ap sets_among e ∙ sets-with_table (guests_of old.guests.items) g handles sets many);
-        sizes = ap sizes_of e ∙ sizes_of-with_table (guests_of old.guests.items) g handles sets;
+        sizes = ap own_sizes_of e ∙ own_sizes_of-with_table (guests_of old.guests.items) g handles sets;
         bytes = k.bytes;
       })
       (subst IsSound (sym (state_with old new k (with_sets (guests_of old.guests.items) g sets) e)) sound)
@@ -227,7 +228,7 @@ IsStore-dropped_set old new g set number k h may is i =
     (record {
       handles = less_counted old new k.same.limits h.counter h.live i;
       sets = omega (arith, h.live_sets, i.sets, h.sets);
-      sizes = ap sizes_of h.guests ∙ sizes_of-with_table (guests_of old.guests.items) g _ _;
+      sizes = ap own_sizes_of h.guests ∙ own_sizes_of-with_table (guests_of old.guests.items) g _ _;
       bytes = k.bytes;
     })
     (subst IsSound (sym (state_with old new k (without_set_in (guests_of old.guests.items) g set (number_named (set_named (state_of old) g set))) (h.guests ∙ ap (without_set_in (guests_of old.guests.items) g set) is)))

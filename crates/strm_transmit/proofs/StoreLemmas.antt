@@ -1,8 +1,8 @@
 -- The store's counters after each change.
-use Rattle.std.proofs.Common.{◌≡◌, ℕ, get_or, set, ◌+◌, ◌<◌, ◌≤◌, List, [], ◌∷◌, ◌++◌, length, map, sum_by, refl, sym, ap, ◌∙◌, subst, None, replicate, arith, length-append}
+use Rattle.std.proofs.Common.{◌≡◌, ℕ, Bool, true, get_or, set, ◌+◌, ◌<◌, ◌≤◌, List, [], ◌∷◌, ◌++◌, length, map, sum_by, refl, sym, ap, ◌∙◌, subst, Some, None, take, drop, replicate, arith, length-append}
 use Rattle.std.specs.Prelude.{sum, count_by, nat_lt, ◌*◌}
 use Rattle.std.proofs.Math.Seq.{map-set_same}
-use Rattle.std.proofs.lemmas.List.{map-append, length-map, length-replicate, length-set, get_or_default, get_or-set_same}
+use Rattle.std.proofs.lemmas.List.{map-append, length-map, length-set, get_or_default, get_or-set_same, set-set}
 use Rattle.std.proofs.lemmas.List.Sums.{sum_by_push, sum-map}
 use Rattle.std.proofs.lemmas.Simd.{map-map}
 use Rattle.strm_machine.specs.Operating.{Operated}
@@ -14,17 +14,19 @@ use Rattle.strm_handles.specs.Handles.{Handles, no_handles, live_of}
 use Rattle.strm_handles.proofs.HandleLemmas.{live_of-no_handles}
 use Rattle.strm_machine.specs.State as machine
 use Rattle.strm_memory.specs.Bytes.{put_at}
-use Rattle.strm_memory.specs.Linear.{untold}
+use Rattle.strm_memory.specs.Linear.{LinearMemory, untold, of_engine, lent_at, told_at, own_part}
 use Rattle.strm_waitable_sets.specs.Sets.{Sets, no_sets, is_member}
 use Rattle.strm_error_contexts.specs.Contexts.{len as contexts_there}
-use Rattle.strm_machine.specs.State.{State, guest_in, no_guest, sets_in, no_stream, stream_at, memory_in, with_memory, with_sets, with_table, is_live, handles_in_use, sets_in_use, bytes_in_use}
-use Rattle.strm_machine.specs.Bases.{with_base, with_base_in}
+use Rattle.strm_machine.specs.State.{State, guest_in, no_guest, sets_in, no_stream, stream_at, memory_in, with_memory, with_sets, with_table, is_live, handles_in_use, sets_in_use, bytes_in_use, own_size}
+use Rattle.strm_machine.specs.Bases.{base_in, is_lent_in, with_base, with_base_in}
 use Rattle.strm_machine.proofs.BaseLemmas.{with_base-keeps}
 use Rattle.std.specs.Ptr.{Ptr}
-use Rattle.strm_machine.specs.Soundness.{IsSound, sizes_of, handles_of}
+use Rattle.strm_machine.specs.Soundness.{IsSound, handles_of}
+use Rattle.strm_machine.specs.Growth.{with_guest_at, grown, moved_to, MayGrow}
+use Rattle.strm_machine.proofs.GrowthLemmas.{GuestAtFits, IsSound-grown, own-grown, handles-grown, sets-grown, begins_more}
 use Rattle.strm_machine.specs.Tests.{are_places_full}
 use Rattle.strm_machine.specs.Refusals.{refusal}
-use Rattle.strm_machine.specs.Reactions.{goes, performs}
+use Rattle.strm_machine.specs.Reactions.{Reaction, goes, performs}
 use Rattle.strm_machine.specs.declared.acts.Making.TheVariants.{Guest}
 use Rattle.strm_machine.specs.declared.acts.MemoryAct.TheVariants.{Poke}
 use Rattle.strm_machine.specs.declared.acts.Act.TheVariants.{Make, OnMemory}
@@ -32,8 +34,8 @@ use Rattle.strm_machine.specs.declared.replies.Reply.TheVariants as replies
 use Rattle.strm_machine.proofs.RefusalLemmas.{BytesFit, guest_fits, poke_fits}
 use Rattle.strm_machine.proofs.SoundLemmas.{IsSound-guest, IsSound-guests, IsSound-turn}
 use Rattle.strm_machine.proofs.BoundLemmas.{length-poked}
-use Rattle.strm_machine.proofs.TurnLemmas.{GuestsKeep, TurnKeeps, all_kept, with_memory-keeps, sets_of}
-use Rattle.strm_channels.specs.Guests.{guest_of, guests_of, live_in, sets_among}
+use Rattle.strm_machine.proofs.TurnLemmas.{GuestsKeep, TurnKeeps, all_kept, with_memory-keeps, sets_of, own_sizes_of}
+use Rattle.strm_channels.specs.Guests.{guest_of, guests_of, with_linear, live_in, sets_among}
 use Rattle.strm_transmit.specs.Inside.{state_of, AreServed, HavePlaces, IsStore}
 use Rattle.strm_transmit.specs.Places.{ArePlaces}
 use Rattle.strm_transmit.proofs.PlaceLemmas.{ArePlaces-kept}
@@ -61,22 +63,23 @@ guests_of-push guests g = map-append guest_of guests (g ∷ [])
 
 -- ## One guest more
 
--- one guest more, of so many zero bytes
-pub record AddsGuest (old new : Inside) (g : ours.Guest) (size : ℕ) : Type 0 where
+-- one guest more, with this memory of so many bytes; those that an engine lent do not count
+pub record AddsGuest (old new : Inside) (g : ours.Guest) (memory : LinearMemory) (size : ℕ) : Type 0 where
   pub same : SameBut old new
   pub counter : new.counter ≡ old.counter
   pub streams : new.streams ≡ old.streams
   pub places : new.places ≡ old.places
   pub live_sets : new.live_sets ≡ old.live_sets
   pub guests : new.guests.items ≡ old.guests.items ++ g ∷ []
-  pub bytes : new.bytes ≡ old.bytes + size
-  pub memory : g.memory ≡ untold (replicate size 0)
+  pub bytes : new.bytes ≡ old.bytes + own_part memory.base size
+  pub many : length memory.bytes ≡ size
+  pub memory : g.memory ≡ memory
   pub handles : g.table.handles ≡ no_handles
   pub sets : g.sets ≡ no_sets
   pub ready : new.ready ≡ old.ready
 
-state_of-guest : (old new : Inside) (g : ours.Guest) (size : ℕ) → AddsGuest old new g size → state_of new ≡ record (state_of old) { guests = guests_of old.guests.items ++ guest_of g ∷ [] }
-state_of-guest old new g size h =
+state_of-guest : (old new : Inside) (g : ours.Guest) (memory : LinearMemory) (size : ℕ) → AddsGuest old new g memory size → state_of new ≡ record (state_of old) { guests = guests_of old.guests.items ++ guest_of g ∷ [] }
+state_of-guest old new g memory size h =
     rw (h.same.tag, h.same.limits, h.same.producers, h.same.kept, h.same.consumers, h.same.contexts, h.same.trapped, h.streams, h.guests, guests_of-push old.guests.items g) refl
 
 -- how many sets are there
@@ -87,18 +90,17 @@ how_many sets = count_by (λ there. there) sets.there
 abbrev pub sets_held : machine.Guest → ℕ
 sets_held g = how_many g.sets
 
-pub IsStore-guest : (old new : Inside) (g : ours.Guest) (size : ℕ) → AddsGuest old new g size → refusal (state_of old) (Make (Guest size)) ≡ None → IsStore old → IsStore new
-IsStore-guest old new g size h e s =
-    let fits = guest_fits (state_of old) size e in
-    let many : length g.memory.bytes ≡ size = rw h.memory (length-replicate size 0) in
-    let total : sum (sizes_of (guests_of old.guests.items)) ≡ bytes_in_use (state_of old) = sum-map (λ k. length k.memory) (guests_of old.guests.items) in
-    let sound = IsSound-guest (state_of old) (guest_of g) h.handles h.sets (omega (arith, total, many, fits.bytes)) s.sound in
-    let after = state_of-guest old new g size h in
+pub IsStore-guest : (old new : Inside) (g : ours.Guest) (memory : LinearMemory) (size : ℕ) → AddsGuest old new g memory size → GuestAtFits (state_of old) size → IsStore old → IsStore new
+IsStore-guest old new g memory size h fits s =
+    let many : length g.memory.bytes ≡ size = ap (λ (m : LinearMemory). length m.bytes) h.memory ∙ h.many in
+    let sound = IsSound-guest (state_of old) (guest_of g) h.handles h.sets (omega (arith, many, fits.small)) s.sound in
+    let after = state_of-guest old new g memory size h in
     let none : live_of g.table.handles ≡ 0 = rw h.handles live_of-no_handles in
     let live : handles_in_use (state_of old) ≡ handles_in_use (state_of new) = added _ _ _ (sum_by_push (λ k. live_of k.handles) (guests_of old.guests.items) (guest_of g)) none ∙ sym (ap handles_in_use after) in
     let no_set : sets_held (guest_of g) ≡ 0 = ap how_many h.sets in
     let sets : sets_in_use (state_of old) ≡ sets_in_use (state_of new) = added _ _ _ (sum_by_push sets_held (guests_of old.guests.items) (guest_of g)) no_set ∙ sym (ap sets_in_use after) in
-    let bytes : bytes_in_use (state_of old) + length g.memory.bytes ≡ bytes_in_use (state_of new) = sym (sum_by_push (λ k. length k.memory) (guests_of old.guests.items) (guest_of g)) ∙ sym (ap bytes_in_use after) in
+    let own : own_size (guest_of g) ≡ own_part memory.base size = ap (λ (m : LinearMemory). own_part m.base (length m.bytes)) h.memory ∙ ap (own_part memory.base) h.many in
+    let bytes : bytes_in_use (state_of old) + own_size (guest_of g) ≡ bytes_in_use (state_of new) = sym (sum_by_push own_size (guests_of old.guests.items) (guest_of g)) ∙ sym (ap bytes_in_use after) in
     record {
       sound = rw after sound;
       held = subst StateIsHeld (sym after) (IsHeld-same (guests_of old.guests.items) (guests_of old.guests.items ++ guest_of g ∷ []) old.streams.items old.streams.items (λ k. handles-more (guests_of old.guests.items) (guest_of g) k h.handles) (λ k side. refl) s.held);
@@ -110,7 +112,7 @@ IsStore-guest old new g size h e s =
       served = rw (h.same.producers, h.same.consumers, h.streams) s.served;
       kept = rw (h.same.producers, h.same.kept, h.streams) s.kept;
       sets = h.live_sets ∙ s.sets ∙ sets;
-      bytes = omega (arith, h.bytes, s.bytes, bytes, many);
+      bytes = omega (arith, h.bytes, s.bytes, bytes, own);
       few_guests = rw h.guests (omega (arith, fits.count, length-map old.guests.items guest_of, length-append old.guests.items (g ∷ [])));
       few_streams = rw h.streams s.few_streams;
     }
@@ -118,10 +120,24 @@ IsStore-guest old new g size h e s =
     added : (n m k : ℕ) → m ≡ n + k → k ≡ 0 → n ≡ m
     added n m k e z = omega arith
 
-pub performs-guest : (old new : Inside) (g : ours.Guest) (size n : ℕ) → AddsGuest old new g size → n ≡ length old.guests.items → performs (state_of old) (Make (Guest size)) ≡ goes (replies.Number n) (state_of new)
+pub performs-guest : (old new : Inside) (g : ours.Guest) (size n : ℕ) → AddsGuest old new g (untold (replicate size 0)) size → n ≡ length old.guests.items → performs (state_of old) (Make (Guest size)) ≡ goes (replies.Number n) (state_of new)
 unfolding performs
 performs-guest old new g size n h e =
-    rw (state_of-guest old new g size h, h.memory, h.handles, h.sets, e, length-map old.guests.items guest_of) refl
+    rw (state_of-guest old new g (untold (replicate size 0)) size h, h.memory, h.handles, h.sets, e, length-map old.guests.items guest_of) refl
+
+-- and one over bytes that an engine lent
+abbrev pub added_at : State → List ℕ → Ptr → Reaction
+added_at state bytes base = goes (replies.Number (length state.guests)) (with_guest_at state bytes base)
+
+pub adds-guest_at : (old new : Inside) (g : ours.Guest) (bytes : List ℕ) (base : Ptr) (size n : ℕ) → AddsGuest old new g (of_engine bytes base) size → n ≡ length old.guests.items → added_at (state_of old) bytes base ≡ goes (replies.Number n) (state_of new)
+adds-guest_at old new g bytes base size n h e =
+    rw (state_of-guest old new g (of_engine bytes base) size h, h.memory, h.handles, h.sets, e, length-map old.guests.items guest_of) refl
+
+-- of a memory of the store's own it is known too that it is small enough
+pub own_fits : (state : State) (size : ℕ) → refusal state (Make (Guest size)) ≡ None → GuestAtFits state size
+own_fits state size e =
+    let fits = guest_fits state size e in
+    record { small = omega (arith, fits.bytes); count = fits.count }
 
 by_map : {X : Type 0} (f : machine.Guest → X) (g : X → ℕ) (xs : List machine.Guest) → sum_by g (map f xs) ≡ sum_by (λ x. g (f x)) xs
 by_map f g xs = sym (sum-map g (map f xs)) ∙ ap sum (map-map g f xs) ∙ sum-map (λ x. g (f x)) xs
@@ -142,11 +158,11 @@ sets-with_table guests g handles sets e =
     ∙ ap sum (map-set_same sets_held guests g (record (guest_in guests g) { handles = handles; sets = sets }) no_guest e)
     ∙ sum-map sets_held guests
 
-pub same_bytes : (old new : List machine.Guest) → sizes_of new ≡ sizes_of old → sum_by (λ (g : machine.Guest). length g.memory) new ≡ sum_by (λ (g : machine.Guest). length g.memory) old
-same_bytes old new e = sym (sum-map (λ (g : machine.Guest). length g.memory) new) ∙ ap sum e ∙ sum-map (λ (g : machine.Guest). length g.memory) old
+pub same_bytes : (old new : List machine.Guest) → own_sizes_of new ≡ own_sizes_of old → sum_by own_size new ≡ sum_by own_size old
+same_bytes old new e = sym (sum-map own_size new) ∙ ap sum e ∙ sum-map own_size old
 
-pub same_count : (old new : List machine.Guest) → sizes_of new ≡ sizes_of old → length new ≡ length old
-same_count old new e = sym (length-map new (λ (g : machine.Guest). length g.memory)) ∙ ap length e ∙ length-map old (λ (g : machine.Guest). length g.memory)
+pub same_count : (old new : List machine.Guest) → own_sizes_of new ≡ own_sizes_of old → length new ≡ length old
+same_count old new e = sym (length-map new own_size) ∙ ap length e ∙ length-map old own_size
 
 -- ## The parts of a store's invariant
 
@@ -184,11 +200,11 @@ module _ (old new : Inside) (limits : new.limits ≡ old.limits) where
 pub fits_below : (s : Inside) → IsStore s → live_in (guests_of s.guests.items) + 1 ≤ s.limits.handles → s.counter.live < s.counter.limit
 fits_below s i h = omega (arith, h, i.limit, i.live)
 
--- handles and sets are counted, and each memory has its length
+-- handles and sets are counted, and of each memory as many bytes are the store's
 pub record CountsTables (old new : Inside) : Type 0 where
   pub handles : IsCounted new
   pub sets : new.live_sets ≡ sets_in_use (state_of new)
-  pub sizes : sizes_of (guests_of new.guests.items) ≡ sizes_of (guests_of old.guests.items)
+  pub sizes : own_sizes_of (guests_of new.guests.items) ≡ own_sizes_of (guests_of old.guests.items)
   pub bytes : new.bytes ≡ old.bytes
 
 -- guests with the handles, the sets and the memory lengths of those before
@@ -203,7 +219,7 @@ pub kept_tables : (old new : Inside) → KeepsGuests old new → IsStore old →
 kept_tables old new k i = record {
   handles = kept_counted old new k.limits k.counter (same_handles (guests_of old.guests.items) (guests_of new.guests.items) k.guests.handles) i;
   sets = k.live_sets ∙ i.sets ∙ sym (same_sets (guests_of old.guests.items) (guests_of new.guests.items) k.guests.sets);
-  sizes = k.guests.sizes;
+  sizes = k.guests.own;
   bytes = k.bytes;
 }
 
@@ -234,11 +250,14 @@ pub record Agrees (new : Inside) : Type 0 where
   pub told : AreTold (guests_of new.guests.items) new.streams.items new.ready.items
 
 -- guests that keep their handles and sets, beside the same streams
-pub agrees_still : (old new : Inside) → GuestsKeep (guests_of old.guests.items) (guests_of new.guests.items) → new.streams.items ≡ old.streams.items → new.ready ≡ old.ready → IsStore old → Agrees new
-agrees_still old new guests streams ready i = record {
-  held = rw streams (IsHeld-same (guests_of old.guests.items) (guests_of new.guests.items) old.streams.items old.streams.items (λ k. handles-same (guests_of old.guests.items) (guests_of new.guests.items) k guests.handles) (λ k side. refl) i.held);
-  told = rw (streams, ready) (told-same (guests_of old.guests.items) (guests_of new.guests.items) old.streams.items old.ready.items (members-sets (guests_of old.guests.items) (guests_of new.guests.items) guests.sets) i.told);
+agrees_alike : (old new : Inside) → handles_of (guests_of new.guests.items) ≡ handles_of (guests_of old.guests.items) → sets_of (guests_of new.guests.items) ≡ sets_of (guests_of old.guests.items) → new.streams.items ≡ old.streams.items → new.ready ≡ old.ready → IsStore old → Agrees new
+agrees_alike old new handles sets streams ready i = record {
+  held = rw streams (IsHeld-same (guests_of old.guests.items) (guests_of new.guests.items) old.streams.items old.streams.items (λ k. handles-same (guests_of old.guests.items) (guests_of new.guests.items) k handles) (λ k side. refl) i.held);
+  told = rw (streams, ready) (told-same (guests_of old.guests.items) (guests_of new.guests.items) old.streams.items old.ready.items (members-sets (guests_of old.guests.items) (guests_of new.guests.items) sets) i.told);
 }
+
+pub agrees_still : (old new : Inside) → GuestsKeep (guests_of old.guests.items) (guests_of new.guests.items) → new.streams.items ≡ old.streams.items → new.ready ≡ old.ready → IsStore old → Agrees new
+agrees_still old new guests streams ready i = agrees_alike old new guests.handles guests.sets streams ready i
 
 -- the parts are the whole
 pub IsStore-counted : (old new : Inside) → CountsTables old new → CountsStreams new → IsSound (state_of new) → Agrees new → IsStore old → IsStore new
@@ -316,7 +335,11 @@ PutsMemory old new g memory = PutsGuests old new (with_memory (guests_of old.gue
 
 -- the state then
 pub puts-state : (old new : Inside) (g : ℕ) (memory : List ℕ) → PutsMemory old new g memory → state_of new ≡ record (state_of old) { guests = with_memory (guests_of old.guests.items) g memory }
-puts-state old new g memory h =
+puts-state old new g memory h = guests-state old new _ h
+
+-- the state then, whatever was put
+pub guests-state : (old new : Inside) (guests : List machine.Guest) → PutsGuests old new guests → state_of new ≡ record (state_of old) { guests = guests }
+guests-state old new guests h =
     rw (h.same.tag, h.same.limits, h.same.producers, h.same.kept, h.same.consumers, h.same.contexts, h.same.trapped, h.streams, h.guests) refl
 
 -- somebody was told where the memory of a guest lies
@@ -325,8 +348,7 @@ TellsBase old new g base = PutsGuests old new (with_base (guests_of old.guests.i
 
 -- the state then
 pub tells-state : (old new : Inside) (g : ℕ) (base : Ptr) → TellsBase old new g base → state_of new ≡ with_base_in (state_of old) g base
-tells-state old new g base h =
-    rw (h.same.tag, h.same.limits, h.same.producers, h.same.kept, h.same.consumers, h.same.contexts, h.same.trapped, h.streams, h.guests) refl
+tells-state old new g base h = guests-state old new _ h
 
 -- guests with the memory lengths, the handles and the sets of those before
 IsStore-guests : (old new : Inside) (guests : List machine.Guest) → PutsGuests old new guests → GuestsKeep (guests_of old.guests.items) guests → IsStore old → IsStore new
@@ -341,6 +363,74 @@ IsStore-guests old new guests h keeps i =
 
 pub IsStore-base : (old new : Inside) (g : ℕ) (base : Ptr) → TellsBase old new g base → IsStore old → IsStore new
 IsStore-base old new g base h i = IsStore-guests old new _ h (with_base-keeps (guests_of old.guests.items) g base) i
+
+-- guests with the handles and the sets of others, of whose bytes as many are the store's
+record AreAlike (were guests : List machine.Guest) : Type 0 where
+  pub own : own_sizes_of guests ≡ own_sizes_of were
+  pub handles : handles_of guests ≡ handles_of were
+  pub sets : sets_of guests ≡ sets_of were
+
+IsStore-alike : (old new : Inside) (guests : List machine.Guest) → PutsGuests old new guests → AreAlike (guests_of old.guests.items) guests → IsSound (record (state_of old) { guests = guests }) → IsStore old → IsStore new
+IsStore-alike old new guests h alike sound i =
+    let were : List machine.Guest = guests_of old.guests.items in
+    let are : List machine.Guest = guests_of new.guests.items in
+    let handles' : handles_of are ≡ handles_of were = ap handles_of h.guests ∙ alike.handles in
+    let sets' : sets_of are ≡ sets_of were = ap sets_of h.guests ∙ alike.sets in
+    IsStore-counted old new
+    (record {
+      handles = kept_counted old new h.same.limits h.counter (same_handles were are handles') i;
+      sets = h.live_sets ∙ i.sets ∙ sym (same_sets were are sets');
+      sizes = ap own_sizes_of h.guests ∙ alike.own;
+      bytes = h.count;
+    })
+    (kept_streams old new h.streams h.places (record { producers = h.same.producers; kept = h.same.kept; consumers = h.same.consumers }) i)
+    (subst IsSound (sym (guests-state old new guests h)) sound)
+    (agrees_alike old new handles' sets' (ap (λ (v : _). v.items) h.streams) h.ready i) i
+
+-- a memory that an engine lent has more bytes behind its end
+abbrev pub GrowsMemory : Inside → Inside → ℕ → List ℕ → Type 0
+GrowsMemory old new g more = PutsGuests old new (grown (state_of old) g more).guests
+
+pub IsStore-grown : (old new : Inside) (g : ℕ) (more : List ℕ) → GrowsMemory old new g more → MayGrow (state_of old) g more → IsStore old → IsStore new
+IsStore-grown old new g more h may i =
+    let guests : List machine.Guest = guests_of old.guests.items in
+    let memory : List ℕ = memory_in guests g ++ more in
+    IsStore-alike old new (with_memory guests g memory) h
+    (record { own = own-grown guests g memory may.lent; handles = handles-grown guests g memory; sets = sets-grown guests g memory })
+    (IsSound-grown (state_of old) g more may i.sound) i
+
+-- and lies there from then on
+abbrev pub MovesMemory : Inside → Inside → ℕ → List ℕ → Ptr → Type 0
+MovesMemory old new g more at = PutsGuests old new (moved_to (state_of old) g more at).guests
+
+pub IsStore-moved : (old new : Inside) (g : ℕ) (more : List ℕ) (at : Ptr) → MovesMemory old new g more at → MayGrow (state_of old) g more → IsStore old → IsStore new
+IsStore-moved old new g more at h may i =
+    let guests : List machine.Guest = guests_of old.guests.items in
+    let memory : List ℕ = memory_in guests g ++ more in
+    let longer : List machine.Guest = with_memory guests g memory in
+    let told = with_base-keeps longer g at in
+    IsStore-alike old new (with_base longer g at) h
+    (record { own = told.own ∙ own-grown guests g memory may.lent; handles = told.handles ∙ handles-grown guests g memory; sets = told.sets ∙ sets-grown guests g memory })
+    (IsSound-guests (record (state_of old) { guests = longer }) (with_base longer g at) told (IsSound-grown (state_of old) g more may i.sound)) i
+
+-- a memory that goes on in bytes which begin with all of its own
+abbrev pub longer_by : List machine.Guest → ℕ → List ℕ → List ℕ
+longer_by guests g bytes = memory_in guests g ++ drop (length (memory_in guests g)) bytes
+
+abbrev pub BeginsSo : List machine.Guest → ℕ → List ℕ → Type 0
+BeginsSo guests g bytes = take (length (memory_in guests g)) bytes ≡ memory_in guests g
+
+pub with_linear-moved : (guests : List machine.Guest) (g : ℕ) (bytes : List ℕ) (at : Ptr) → g < length guests → is_lent_in guests g ≡ true → BeginsSo guests g bytes
+    → with_linear guests g (of_engine bytes at) ≡ with_base (with_memory guests g (longer_by guests g bytes)) g at
+with_linear-moved guests g bytes at l lent e =
+    let memory : List ℕ = longer_by guests g bytes in
+    let first : machine.Guest = record (guest_in guests g) { memory = memory } in
+    let second : machine.Guest = record first { base = Some (lent_at at) } in
+    let here : guest_in (with_memory guests g memory) g ≡ first = get_or-set_same guests g first no_guest l in
+    sym (ap (λ (x : machine.Guest). set (set guests g first) g (record x { base = Some (told_at x.base at) })) here
+    ∙ set-set guests g first (record first { base = Some (told_at (base_in guests g) at) })
+    ∙ ap (λ (b : Bool). set guests g (record first { base = Some (record { at = at; is_lent = b }) })) lent
+    ∙ ap (λ (b : List ℕ). set guests g (record second { memory = b })) (begins_more (memory_in guests g) bytes e))
 
 -- bytes as many as before
 pub IsStore-memory : (old new : Inside) (g : ℕ) (memory : List ℕ) → PutsMemory old new g memory → length memory ≡ length (memory_in (guests_of old.guests.items) g) → IsStore old → IsStore new

@@ -3,9 +3,9 @@
 //! Ours. A call of the store takes any type that is `HostEnds`, and its clauses say `H.tells hosts.old`.
 //! Boxes (`Hosts`) are one such type.
 
-ghost use Rattle.std.specs.Prelude.{◌≡◌, ◌<◌, ◌≤◌, [], true, All, length, sum, Some, OnOk, OnErr};
+ghost use Rattle.std.specs.Prelude.{◌≡◌, ◌<◌, [], true, All, length, Some, OnOk, OnErr};
 ghost use Rattle.strm_buffers.specs.Tells.{Tells, HoldsItems, told_by, ClosesWriter, told_by_reader};
-ghost use Rattle.strm_machine.specs.Soundness.{sizes_of, IsPlaced};
+ghost use Rattle.strm_machine.specs.Soundness.{sizes_of, AreSmall, IsPlaced};
 ghost use Rattle.strm_channels.specs.Guests.{guests_of};
 ghost use Rattle.strm_host_turns.specs.WriterTurns.{writer_scene, IsWriterTurn};
 ghost use Rattle.strm_host_turns.specs.ReaderTurns.{reader_scene, IsReaderTurn};
@@ -110,7 +110,7 @@ pub trait HostEnds {
         requires open { read.now.is_open ≡ true }
         requires placed { IsPlaced (sizes_of (guests_of guests.old.items)) stream.old.payload
             read.now }
-        requires sizes { sum (sizes_of (guests_of guests.old.items)) ≤ 268435456 }
+        requires sizes { AreSmall (sizes_of (guests_of guests.old.items)) }
         requires there { number < length (tells self.old).writers }
         requires payload { (told_by (tells self.old) number).payload ≡ stream.old.payload }
         ensures turns { IsWriterTurn result
@@ -135,7 +135,7 @@ pub trait HostEnds {
         requires open { write.now.is_open ≡ true }
         requires placed { IsPlaced (sizes_of (guests_of guests.old.items)) stream.old.payload
             write.now }
-        requires sizes { sum (sizes_of (guests_of guests.old.items)) ≤ 268435456 }
+        requires sizes { AreSmall (sizes_of (guests_of guests.old.items)) }
         requires there { number < length (tells self.old).readers }
         requires payload { (told_by_reader (tells self.old) number).payload ≡ stream.old.payload }
         ensures takes { IsReaderTurn result

@@ -103,7 +103,7 @@ pub struct Store {
     places: StreamPlaces,
     // Waitable sets of all guests together.
     live_sets: u32,
-    // The bytes of all memories together.
+    // The bytes of all memories of the store's own together.
     bytes: u32,
     is_trapped: bool,
     // What is known of the ready members of each guest's sets.

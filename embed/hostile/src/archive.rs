@@ -2,11 +2,13 @@
 
 use crate::allocations::granting;
 use crate::calls::Call;
+use crate::lent::{Block, SIZE_LIMIT, wide};
 use crate::limits::GuestLimits;
 use crate::sys::{self, BadItem, Count, Handle, Limits, Member, Pair, StoreHandle};
 use crate::words::side_word;
 use plain::payload::TransmitKind::{Future, Stream};
 use plain::streams::Side::{Read, Write};
+use std::collections::HashMap;
 
 /// The words at `out`, as many as the call has of them; the others are what they were.
 pub type Words = [u64; 9];
@@ -42,6 +44,9 @@ type MoveCall = unsafe extern "C" fn(Handles, u32, u64, u32, u32, &mut u32) -> u
 pub struct Archive {
     store: StoreHandle,
     memories: Vec<(*mut u8, usize)>,
+    // The blocks of memories that are lent, by guest, and those in which some were.
+    lent: HashMap<u32, Block>,
+    gone: Vec<Block>,
     granted: Option<u32>,
     was_refused: bool,
 }
@@ -59,13 +64,16 @@ impl Archive {
         // SAFETY: the handle is of none, and nobody else's.
         let (status, _) =
             granting(granted, || unsafe { sys::strm_store_new(&mut store, tag, handles, places) });
-        (Archive { store, memories: Vec::new(), granted: None, was_refused: false }, status)
+        let (memories, lent, gone) = (Vec::new(), HashMap::new(), Vec::new());
+        (Archive { store, memories, lent, gone, granted: None, was_refused: false }, status)
     }
 
     fn free(&mut self) {
         self.memories.clear();
         // SAFETY: a handle of a store or of none, that this value has.
         unsafe { sys::strm_store_free(&mut self.store) }
+        assert!(self.gone.iter().all(Block::is_given_up), "a block was written after its memory moved");
+        (self.lent, self.gone) = (HashMap::new(), Vec::new());
     }
 
     /// Whether an allocation was refused in the last call.
@@ -97,7 +105,8 @@ impl Archive {
             Call::SetNew { .. } | Call::SetJoin { .. } | Call::SetPoll { .. } | Call::SetDrop { .. } => {
                 self.answer_set(call, before)
             }
-            Call::AddGuest { .. } => self.answer_guest(call, before),
+            Call::AddGuest { .. } | Call::AddGuestAt { .. } => self.answer_guest(call, before),
+            Call::MemoryGrown { .. } | Call::MemoryMoved { .. } => self.answer_growth(call, before),
             Call::MemoryWrite { .. } | Call::MemoryRead { .. } | Call::MemoryAt { .. } => {
                 self.answer_memory(call, before)
             }
@@ -227,13 +236,67 @@ impl Archive {
     }
 
     fn answer_guest(&mut self, call: &Call, before: Words) -> Answer {
-        let Call::AddGuest { size } = *call else { unreachable!("a call of another family") };
-        let answer = self.word(before, |store, out| unsafe { sys::strm_add_guest(store, size, out) });
+        let block = Block::new();
+        let answer = match *call {
+            Call::AddGuest { size } => {
+                self.word(before, |store, out| unsafe { sys::strm_add_guest(store, size, out) })
+            }
+            Call::AddGuestAt { size } => {
+                let at = if size < SIZE_LIMIT { block.at() } else { wide() };
+                self.word(before, |store, out| unsafe {
+                    sys::strm_add_guest_at(store, at, size as usize, out)
+                })
+            }
+            _ => unreachable!("a call of another family"),
+        };
         if answer.status == 0 {
-            let (mut at, mut len) = (std::ptr::null_mut(), 0);
             let guest = answer.words[0] as u32;
-            unsafe { sys::strm_memory_at(&mut self.store, guest, &mut at, &mut len) };
-            self.memories.push((at, len));
+            let place = self.place(guest);
+            self.memories.push(place);
+            if matches!(call, Call::AddGuestAt { .. }) {
+                self.lent.insert(guest, block);
+            }
+        }
+        answer
+    }
+
+    // Where a guest's memory is said to lie, and how many bytes it has.
+    fn place(&mut self, guest: u32) -> (*mut u8, usize) {
+        let (mut at, mut len) = (std::ptr::null_mut(), 0);
+        unsafe { sys::strm_memory_at(&mut self.store, guest, &mut at, &mut len) };
+        (at, len)
+    }
+
+    // A memory that is lent has more bytes of its block, or goes on in a new one.
+    fn answer_growth(&mut self, call: &Call, before: Words) -> Answer {
+        let new = Block::new();
+        let (Call::MemoryGrown { guest, .. } | Call::MemoryMoved { guest, .. }) = *call else {
+            unreachable!("a call of another family")
+        };
+        let len = self.memories.get(guest as usize).map_or(0, |(_, len)| *len);
+        let old = self.lent.get(&guest);
+        let answer = match *call {
+            Call::MemoryGrown { more, .. } => {
+                let at = old.unwrap_or(&new).behind(if old.is_some() { len } else { 0 });
+                self.done(before, |store| unsafe { sys::strm_memory_grown(store, guest, at, more as usize) })
+            }
+            Call::MemoryMoved { size, .. } => {
+                if let Some(old) = old {
+                    new.begin_with(old, len);
+                }
+                let at = if size < SIZE_LIMIT { new.at() } else { wide() };
+                self.done(before, |store| unsafe { sys::strm_memory_moved(store, guest, at, size as usize) })
+            }
+            _ => unreachable!("a call of another family"),
+        };
+        if answer.status == 0 {
+            self.memories[guest as usize] = self.place(guest);
+            if let Call::MemoryMoved { .. } = call
+                && let Some(old) = self.lent.insert(guest, new)
+            {
+                old.give_up();
+                self.gone.push(old);
+            }
         }
         answer
     }

@@ -2,6 +2,7 @@
 //! wrong in them.
 
 use crate::calls::{Bytes, Call, Likeness};
+use crate::lent::{ROOM, SIZE_LIMIT};
 use crate::limits::GuestLimits;
 use crate::profiles::{Family, Profile, SIZES};
 use crate::words::{FUTURE, type_word};
@@ -208,6 +209,7 @@ impl<'a> Draws<'a> {
             Family::Context => self.context_call(),
             Family::Memory => Some(self.memory_call()),
             Family::AddGuest => Some(self.add_guest()),
+            Family::Grow => Some(self.grow()),
             Family::Query => self.query(),
             Family::Limits => Some(self.limits_call()),
         };
@@ -289,13 +291,38 @@ impl Draws<'_> {
 
     /// A guest, or one whose memory is the least that is too big.
     pub fn add_guest(&mut self) -> Call {
-        let bytes: usize = self.store.guests.iter().map(|guest| guest.memory.len()).sum();
+        let own = self.store.guests.iter().filter(|guest| !guest.is_lent);
+        let bytes: usize = own.map(|guest| guest.memory.len()).sum();
         let is_too_big = self.goes_wrong() || self.store.guests.len() >= MOST_GUESTS;
+        if self.random.chance(40) {
+            let size = if is_too_big { SIZE_LIMIT } else { self.random.pick(&SIZES).into() };
+            return Call::AddGuestAt { size };
+        }
         let size = match is_too_big {
             true => self.random.pick(&[(1 << 28) + 1 - bytes as u32, 1 << 29, u32::MAX]),
             false => self.random.pick(&SIZES),
         };
         Call::AddGuest { size }
+    }
+
+    // A memory that is lent grows where it lies, or moves; some other does neither.
+    fn grow(&mut self) -> Call {
+        let store = self.store;
+        let mut tries = (0..TRIES).map(|_| self.guest());
+        let is_lent = |guest: &u32| store.guests.get(*guest as usize).is_none_or(|found| found.is_lent);
+        let found = tries.find(is_lent);
+        let guest = found.unwrap_or_else(|| self.guest());
+        let memory = self.memory_of(guest);
+        let more = self.random.pick(&[0, 1, 16, 100, 1024]);
+        if memory + more > ROOM || self.goes_wrong() {
+            let size = self.random.pick(&[memory.saturating_sub(1), 0, memory, ROOM]).into();
+            let size = if self.random.chance(20) { SIZE_LIMIT } else { size };
+            return Call::MemoryMoved { guest, size };
+        }
+        match self.random.chance(50) {
+            true => Call::MemoryGrown { guest, more },
+            false => Call::MemoryMoved { guest, size: (memory + more).into() },
+        }
     }
 
     fn moving(&mut self) -> Option<Call> {

@@ -12,6 +12,7 @@ mod archive;
 mod calls;
 mod draws;
 mod history;
+mod lent;
 mod limits;
 mod model;
 mod profiles;

@@ -3,6 +3,7 @@
 
 use crate::archive::{Answer, Words, over};
 use crate::calls::Call;
+use crate::lent;
 use crate::limits::Limits as GuestLimits;
 use crate::queries::queried;
 use crate::sys;
@@ -60,7 +61,7 @@ impl Model {
 
     fn answer_with_status(&mut self, call: &Call, before: Words, seen: &Answer) -> Answer {
         let Some(store) = &mut self.store else { return answer_of_none(call, before) };
-        if let Some(answer) = queried(store, call, before) {
+        if let Some(answer) = queried(store, call, before).or_else(|| lent::answer(store, call, before)) {
             return answer;
         }
         if let Some(answer) = self.limits.answer(store, call, before, seen) {
@@ -133,6 +134,7 @@ impl Step<'_> {
         let ty = self.ty.unwrap_or(TransmitIndex::stream(Payload::Nothing));
         Ok(match *self.call {
             Call::AddGuest { size } => Reply::Number(store.add_guest(size)?),
+            Call::AddGuestAt { size } => Reply::Number(lent::add(store, size)?),
             Call::MemoryWrite { guest, address, bytes } => store.poke(guest, address, &bytes.list())?,
             Call::New { guest, .. } => make(store, guest, guest, ty, seen)?,
             Call::NewBetween { writer, reader, .. } => make(store, writer, reader, ty, seen)?,

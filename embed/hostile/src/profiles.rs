@@ -17,13 +17,15 @@ pub enum Family {
     Context,
     Memory,
     AddGuest,
+    /// A memory that is lent grows.
+    Grow,
     Query,
     /// The limits of a guest, set or told.
     Limits,
 }
 
 /// How often each family is drawn where the store is not drawn to make more or less of it.
-const SHARES: [(Family, u32); 11] = [
+const SHARES: [(Family, u32); 12] = [
     (Family::Operate, 450),
     (Family::Event, 150),
     (Family::End, 120),
@@ -33,6 +35,7 @@ const SHARES: [(Family, u32); 11] = [
     (Family::Context, 60),
     (Family::Memory, 40),
     (Family::AddGuest, 3),
+    (Family::Grow, 6),
     (Family::Query, 60),
     (Family::Limits, 4),
 ];

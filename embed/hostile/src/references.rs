@@ -22,9 +22,9 @@ type Origin = (usize, usize);
 #[rustfmt::skip]
 fn names_of(call: &mut Call) -> Vec<(Role, &mut u32)> {
     match call {
-        Call::Free | Call::Tag | Call::Streams | Call::AddGuest { .. } => Vec::new(),
+        Call::Free | Call::Tag | Call::Streams | Call::AddGuest { .. } | Call::AddGuestAt { .. } => Vec::new(),
         Call::Moved { stream } | Call::TransmitIndex { stream } => vec![(Role::Stream, stream)],
-        Call::MemoryWrite { guest, .. } | Call::MemoryRead { guest, .. } | Call::MemoryAt { guest } | Call::NextHandle { guest, .. } | Call::HandleCount { guest } | Call::SetGuestLimits { guest, .. } | Call::GuestLimits { guest }
+        Call::MemoryWrite { guest, .. } | Call::MemoryRead { guest, .. } | Call::MemoryAt { guest } | Call::MemoryGrown { guest, .. } | Call::MemoryMoved { guest, .. } | Call::NextHandle { guest, .. } | Call::HandleCount { guest } | Call::SetGuestLimits { guest, .. } | Call::GuestLimits { guest }
         | Call::New { guest, .. } | Call::SetNew { guest } | Call::ContextNew { guest, .. } => vec![(Role::Guest, guest)],
         Call::Operate { guest, handle, .. } | Call::FindBadItem { guest, handle, .. } | Call::Cancel { guest, handle, .. } | Call::Drop { guest, handle, .. }
         | Call::TakeEvent { guest, handle } | Call::HandleInfo { guest, handle } | Call::Lift { guest, handle, .. } | Call::SetPoll { guest, set: handle }
@@ -51,7 +51,7 @@ fn made_by(call: &Call, answer: &Answer) -> Vec<(usize, Role)> {
         return Vec::new();
     }
     match *call {
-        Call::AddGuest { .. } => vec![(0, Role::Guest)],
+        Call::AddGuest { .. } | Call::AddGuestAt { .. } => vec![(0, Role::Guest)],
         Call::New { guest, .. } => {
             vec![(0, Role::HandleOf(guest)), (1, Role::HandleOf(guest)), (2, Role::Stream)]
         }

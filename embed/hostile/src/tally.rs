@@ -94,7 +94,9 @@ fn listed() -> BTreeMap<&'static str, Vec<&'static str>> {
 fn can_come(export: &str, name: &str, is_scarce: bool) -> bool {
     match name {
         "INDEX_OVERFLOW" | "NO_STORE" => false,
-        "FULL" => export != "add_guest",
+        "FULL" => !export.starts_with("add_guest"),
+        // No block has 2^32 bytes behind a memory's end.
+        "MEMORY_TOO_BIG" => export != "memory_grown",
         "OUT_OF_MEMORY" => is_scarce,
         _ => true,
     }

@@ -123,6 +123,8 @@ pub fn name_of(status: u32) -> String {
         sys::NO_STORE => "NoStore".to_owned(),
         sys::GUEST_LIMIT => "GuestLimit".to_owned(),
         sys::NO_BAD_ITEM => "NoBadItem".to_owned(),
+        sys::NOT_LENT => "NotLent".to_owned(),
+        sys::SHORTER => "Shorter".to_owned(),
         number => match sys::REFUSALS.get(number as usize - 1) {
             Some(refusal) => format!("{refusal:?}"),
             None => return number.to_string(),

@@ -1,8 +1,9 @@
 //! The raw declarations of the proved archive, whose every call is one step of its machine: the exports, their
 //! statuses and refusals. The build script links the archive; the crate `strm` is the safe one above.
 //!
-//! Written by `embed/declare`. A slice crosses as a pointer and a length, and a [`StoreHandle`] is one word. What
-//! the caller owes stands at the head of `strm.h`; all else is answered, whatever numbers are passed.
+//! Written by `embed/declare`. A slice crosses as a pointer and a length, as bytes that are lent do, and a
+//! [`StoreHandle`] is one word. What the caller owes stands at the head of `strm.h`; all else is answered, whatever
+//! numbers are passed.
 #![no_std]
 #![allow(missing_docs)] // What a struct says of itself is said of its fields too.
 
@@ -276,6 +277,12 @@ pub const GUEST_LIMIT: u32 = 72;
 /// A read or write with these arguments stops at no item.
 pub const NO_BAD_ITEM: u32 = 73;
 
+/// The guest's memory is the store's own, which neither grows nor moves.
+pub const NOT_LENT: u32 = 74;
+
+/// There are fewer bytes than the guest's memory has.
+pub const SHORTER: u32 = 75;
+
 /// The handle is of an end of a stream or future.
 pub const KIND_END: u32 = 1;
 
@@ -327,16 +334,30 @@ unsafe extern "C" {
     /// other.
     pub fn strm_transmit_index(store: *mut StoreHandle, stream: u32, out: &mut u64) -> u32;
     /// Adds a guest with a memory of `size` zero bytes, and puts its number at `out`; the first is 0. Refused:
-    /// MemoryTooBig (268,435,456 bytes of all guests together), Full (1,048,576 guests). OUT_OF_MEMORY.
+    /// MemoryTooBig (268,435,456 bytes of all guests together, without those that were lent), Full (1,048,576
+    /// guests). OUT_OF_MEMORY.
     pub fn strm_add_guest(store: *mut StoreHandle, size: u32, out: &mut u32) -> u32;
+    /// Adds a guest whose memory is `len` bytes that the caller lends, from `bytes` on, and puts its number at
+    /// `out`. They stay where they are, are touched only as the guest's memory is, and are not freed: they are the
+    /// caller's again once the store is given up, or at once where nothing is added. There is no limit on those of
+    /// all guests. Refused: MemoryTooBig (4,294,967,296 bytes or more), Full (1,048,576 guests). OUT_OF_MEMORY.
+    pub fn strm_add_guest_at(store: *mut StoreHandle, bytes: *mut u8, len: usize, out: &mut u32) -> u32;
+    /// Tells that a memory which the caller lent has `len` bytes more, from `more` on, which lie directly behind
+    /// its end: it grew where it lies. Reads and writes that wait go on. Refused: UnknownGuest, MemoryTooBig
+    /// (4,294,967,296 bytes or more in all). NOT_LENT.
+    pub fn strm_memory_grown(store: *mut StoreHandle, guest: u32, more: *mut u8, len: usize) -> u32;
+    /// Tells that a memory which the caller lent goes on in `len` bytes from `bytes` on, which begin with all that
+    /// it had: it grew, and lies elsewhere. Reads and writes that wait go on there, and the bytes where it was are
+    /// the caller's again. Refused: UnknownGuest, MemoryTooBig (4,294,967,296 bytes or more). NOT_LENT, SHORTER.
+    pub fn strm_memory_moved(store: *mut StoreHandle, guest: u32, bytes: *mut u8, len: usize) -> u32;
     /// Copies `len` bytes into a guest's memory, from `address` on. Refused: UnknownGuest, OutOfBounds.
     pub fn strm_memory_write(store: *mut StoreHandle, guest: u32, address: u32, bytes: *const u8, len: usize) -> u32;
     /// Copies `len` bytes of a guest's memory out, from `address` on. Refused: UnknownGuest, OutOfBounds.
     pub fn strm_memory_read(store: *mut StoreHandle, guest: u32, address: u32, out: *mut u8, len: usize) -> u32;
     /// Puts at `out` where a guest's memory lies, and at `len` how many bytes it has; of no bytes `out` is an
-    /// address that may not be read. They lie there until the store is given up, from the beginning of a block of
-    /// malloc's on, at a multiple of 16. The caller may read and write them between calls, and must not during one.
-    /// Refused: UnknownGuest.
+    /// address that may not be read. The store's own lie there until the store is given up, from the beginning of a
+    /// block of malloc's on, at a multiple of 16; those that the caller lent until it tells that they moved. The
+    /// caller may read and write them between calls, and must not during one. Refused: UnknownGuest.
     pub fn strm_memory_at(store: *mut StoreHandle, guest: u32, out: &mut *mut u8, len: &mut usize) -> u32;
     /// Makes a stream whose two ends the guest gets, and puts their handles and the stream's number at `out`,
     /// which may be that of a stream both of whose ends are gone. `canon stream.new`. Refused: UnknownGuest,

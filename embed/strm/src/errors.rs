@@ -47,6 +47,12 @@ pub enum Error {
     OutOfMemory,
     /// A guest would get more than its limits allow, which is told before any refusal. Nothing has changed.
     GuestLimit,
+    /// The guest's memory is the store's own, which neither grows nor moves; or it is none that
+    /// [`Store::grow_memory`](crate::Store::grow_memory) can make longer, since the store was not given it. Nothing
+    /// has changed.
+    NotLent,
+    /// A memory would move to fewer bytes than it has. Nothing has changed.
+    Shorter,
     /// The two guests of a call are one, whose memory can't be lent twice. Nothing has changed.
     SameGuest,
     /// The other end is gone, and not all items were received, or no value came.
@@ -74,6 +80,8 @@ impl fmt::Display for Error {
             Error::BadItem(item) => return item.fmt(f),
             Error::OutOfMemory => "out of memory",
             Error::GuestLimit => "the guest's limit would be passed",
+            Error::NotLent => "the guest's memory is not the host's",
+            Error::Shorter => "a memory would have fewer bytes",
             Error::SameGuest => "the two guests are one",
             Error::Closed => "the other end is gone",
             Error::NoRoom => "there is no room for items in the guest's memory",
@@ -148,6 +156,8 @@ fn error(status: u32) -> Error {
     match status {
         sys::OUT_OF_MEMORY => Error::OutOfMemory,
         sys::GUEST_LIMIT => Error::GuestLimit,
+        sys::NOT_LENT => Error::NotLent,
+        sys::SHORTER => Error::Shorter,
         number => Error::Refused(sys::REFUSALS[number as usize - 1]),
     }
 }

@@ -2,7 +2,8 @@
 //! proved to be one step of its machine: a count reported is a count moved.
 //!
 //! A [`Store`] has guests, each with a memory, a table of handles and waitable sets. What a guest gets wrong is an
-//! [`Error`] and changes nothing. The runtime's own ends are those of a guest too, whose memory is its buffer. There
+//! [`Error`] and changes nothing. The runtime's own ends are those of a guest too, whose memory is its buffer. A
+//! memory is the store's own, or the host's: a [`Memory`] that it gives away, or any bytes, by `unsafe` calls. There
 //! are three layers, each made of the one below:
 //!
 //! **Calls by numbers**, for runtimes whose guests bring them: the Canonical ABI's built-ins, by guest, payload and
@@ -69,6 +70,7 @@ mod errors;
 mod examples;
 mod item;
 mod loose;
+mod memory;
 mod numbers;
 mod owned;
 mod payload;
@@ -87,6 +89,7 @@ pub use ends::{
 pub use errors::{BadItem, Error};
 pub use item::{Field, Item};
 pub use loose::{Loose, LooseError, LooseFuture, LooseStream, ReadKind};
+pub use memory::Memory;
 pub use numbers::{ErrorContext, ErrorContextId, Guest, Handle, Member, Pair, StreamId, WaitableSet};
 pub use owned::{Owned, Receiver, Sender, ValueReceiver, ValueSender, future, stream};
 pub use payload::{Payload, Scalar, Type};

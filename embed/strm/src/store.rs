@@ -16,6 +16,7 @@ mod telling;
 mod typed;
 
 use crate::errors::{Error, done};
+use crate::memory::Memory;
 use crate::payload::Type;
 use crate::rooms::Rooms;
 use crate::waits::Waits;
@@ -71,6 +72,8 @@ pub struct Store {
     raw: Raw,
     pub(crate) waits: Waits,
     pub(crate) rooms: BTreeMap<Guest, Rooms>,
+    // The memories that the store was given: they are dropped after `raw` gave them up.
+    memories: BTreeMap<Guest, Memory>,
 }
 
 // The archive's store. `UnsafeCell` keeps it from being shared.
@@ -126,6 +129,7 @@ impl Store {
             raw: Raw(UnsafeCell::new(handle)),
             waits: Waits::default(),
             rooms: BTreeMap::new(),
+            memories: BTreeMap::new(),
         })
     }
 

@@ -1,8 +1,9 @@
 //! What the examples of the calls do not show: many calls, threads, tuples, and each kind of error.
 
+use core::ptr::NonNull;
 use strm::{
-    BadItem, Code, EndInfo, Error, Guest, Handle, HandleInfo, Limits, OtherEnd, Pair, Payload, Refusal,
-    Scalar, Side, Store, StreamId, Type,
+    BadItem, Code, EndInfo, Error, Guest, Handle, HandleInfo, Limits, Memory, OtherEnd, Pair, Payload,
+    Refusal, Scalar, Side, Store, StreamId, Type,
 };
 
 const BYTES: Type = Type::Stream(Payload::U8);
@@ -35,6 +36,53 @@ fn memories_stay_where_they_are() {
     let mut store = std::thread::spawn(move || store).join().unwrap();
     assert_eq!(store.memory_at(writer).unwrap(), at);
     assert_eq!(store.moved(pair.stream), Some(60_000));
+}
+
+#[test]
+fn a_memory_of_the_host_grows_while_a_read_waits() {
+    let (mut store, writer, _, _) = two();
+    for memory in [Memory::mapped(64, 1 << 20).unwrap(), Memory::from(vec![0; 64])] {
+        let reader = store.add_guest_with(memory).unwrap();
+        let pair = store.new_between(writer, reader, BYTES).unwrap();
+        let read = store.stream_read(reader, Payload::U8, pair.read, 60, 4);
+        assert_eq!(read, Ok(Code::Blocked));
+        assert_eq!(store.grow_memory(reader, 100_000), Ok(64));
+        store.memory_write(writer, 0, b"here").unwrap();
+        let write = store.stream_write(writer, Payload::U8, pair.write, 0, 4);
+        assert_eq!(write, Ok(Code::Completed(4)));
+        let memory = store.memory(reader).unwrap();
+        assert_eq!((memory.len(), &memory[60..66]), (100_064, b"here\0\0".as_slice()));
+    }
+}
+
+#[test]
+fn bytes_that_are_lent_are_the_hosts() {
+    let (mut store, own, _, _) = two();
+    let (mut small, mut large) = ([1; 8], [0; 32]);
+    let at = |bytes: &mut [u8]| NonNull::from(bytes).cast::<u8>();
+    // SAFETY: the arrays stay where they are until the store is gone, and are the store's alone meanwhile.
+    let guest = unsafe { store.add_guest_at(at(&mut small), 4) }.unwrap();
+    let end = NonNull::from(&mut small[4..]).cast::<u8>();
+    // SAFETY: there the memory ends.
+    unsafe { store.memory_grown(guest, end, 4) }.unwrap();
+    assert_eq!(store.memory(guest).unwrap(), [1; 8]);
+    large[..8].copy_from_slice(&[1; 8]);
+    // SAFETY: it begins with the bytes of the memory.
+    unsafe { store.memory_moved(guest, at(&mut large), 32) }.unwrap();
+    store.memory_mut(guest).unwrap()[0] = 7;
+    // SAFETY: none of these is done.
+    let refused = unsafe {
+        [
+            store.memory_moved(guest, at(&mut large), 8),
+            store.memory_grown(own, end, 4),
+            store.memory_grown(Guest(9), end, 4),
+        ]
+    };
+    let unknown = Error::Refused(Refusal::UnknownGuest);
+    assert_eq!(refused, [Err(Error::Shorter), Err(Error::NotLent), Err(unknown)]);
+    assert_eq!(store.grow_memory(guest, 1), Err(Error::NotLent));
+    drop(store);
+    assert_eq!((small[0], large[0]), (1, 7));
 }
 
 #[test]

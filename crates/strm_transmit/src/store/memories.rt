@@ -2,9 +2,13 @@
 //!
 //! Meaning: the making of a guest, and `on_memory` of `Reactions.antt` of `strm_machine`. Ours.
 
-ghost use Rattle.std.specs.Prelude.{◌≡◌, ◌≢◌, ◌<◌, ◌≤◌, ◌↔◌, Err, None, IsTrue, IfSome, length};
+ghost use Rattle.std.specs.Prelude.{◌≡◌, ◌≢◌, ◌+◌, ◌<◌, ◌≤◌, ◌↔◌, true, Err, None, Some, IsTrue, IfSome, length, take, drop};
+ghost use denote.RawPtr.{◌+ₚ◌};
+ghost use Rattle.std.specs.Vec.{vec_ptr};
 ghost use Rattle.strm_machine.specs.State.{memory_in};
-ghost use Rattle.strm_machine.specs.Bases.{base_in, with_base_in};
+ghost use Rattle.strm_memory.specs.Linear.{lent_at};
+ghost use Rattle.strm_machine.specs.Bases.{base_in, is_lent_in, with_base_in};
+ghost use Rattle.strm_machine.specs.Growth.{with_guest_at, guest_at_reasons, adds_guest_at, grown, moved_to};
 ghost use Rattle.strm_machine.specs.Refusals.{refusal, first_of, bytes_reasons};
 ghost use Rattle.strm_machine.specs.Reactions.{react, performs, goes};
 ghost use Rattle.strm_machine.specs.declared.acts.Act.TheVariants.{Make, OnMemory};
@@ -17,15 +21,21 @@ ghost use Rattle.strm_transmit.specs.Hosted.{StillFits};
 
 use crate::errors::StoreError;
 use crate::store::Store;
-use strm_channels::guests::{Guest, read_bytes, tell_base, write_bytes};
+use std_alloc::vec::Lodged;
+use strm_channels::guests::{
+    Guest, grow_memory, is_lent, move_memory, read_bytes, tell_base, write_bytes,
+};
 use strm_codes::refusals::Refusal;
 use strm_handles::tables::HandleTable;
 use strm_machine::chunks::Chunk;
 use strm_memory::memories::GuestMemory;
 use strm_waitable_sets::sets::WaitableSets;
 
-/// The bytes of all memories together, at most.
+/// The bytes of all memories of the store's own together, at most.
 const MOST_BYTES: u64 = 268_435_456;
+
+/// The bytes of a memory that an engine lends are fewer.
+const SIZE_LIMIT: usize = 4_294_967_296;
 
 /// The number of guests, at most.
 const MOST_GUESTS: usize = 1_048_576;
@@ -68,7 +78,7 @@ impl Store {
     }
 
     /// A guest with a memory of `size` zero bytes. Answers its number; the first is 0. Refused:
-    /// MemoryTooBig (268,435,456 bytes of all guests together), Full (1,048,576 guests). OutOfMemory.
+    /// MemoryTooBig (268,435,456 bytes of all guests together, without those that an engine lent), Full (1,048,576 guests). OutOfMemory.
     pub fn add_guest(&mut self, size: u32) -> Result<u32, StoreError>
         ensures meets { Meets self.old self.new (as_reply replies.Number result)
             (react self.old (steps.Guest size)) }
@@ -76,6 +86,89 @@ impl Store {
     {
         self.admit(self.guest_fits(size))?;
         self.push_guest(size)
+    }
+
+    // Whether a guest may be added over so many bytes.
+    fn guest_at_fits(&self, size: usize) -> Result<(), Refusal>
+        ensures { result ≡ or_found (first_of (guest_at_reasons self.now size)) tt }
+    {
+        if size >= SIZE_LIMIT {
+            return Err(Refusal::MemoryTooBig);
+        }
+        if self.guests.len() >= MOST_GUESTS {
+            return Err(Refusal::Full);
+        }
+        Ok(())
+    }
+
+    // One guest more, over these bytes. After running out of memory nothing has changed.
+    fn push_guest_at(&mut self, bytes: Vec<u8, Lodged>) -> Result<u32, StoreError>
+        requires { first_of (guest_at_reasons self.old (length bytes.items)) ≡ None }
+        ensures { Meets self.old self.new (as_reply replies.Number result)
+            (goes (replies.Number (length self.old.guests))
+            (with_guest_at self.old bytes.items (vec_ptr bytes))) }
+    {
+        let number = self.guests.len() as u32;
+        let memory = GuestMemory::lent(self.alloc, bytes);
+        self.guests.reserve(1)?;
+        self.guests.push_reserved(Guest {
+            memory,
+            table: HandleTable::new(self.alloc),
+            sets: WaitableSets::new(self.alloc),
+        });
+        Ok(number)
+    }
+
+    /// A guest whose memory is these bytes, which an engine lends, where they lie: they are touched only as the
+    /// guest's memory is, and never freed, also where the call is refused. Answers its number. Refused:
+    /// MemoryTooBig (4,294,967,296 bytes or more; there is no limit on those of all guests), Full
+    /// (1,048,576 guests). OutOfMemory.
+    pub fn add_guest_at(&mut self, bytes: Vec<u8, Lodged>) -> Result<u32, StoreError>
+        ensures meets { Meets self.old self.new (as_reply replies.Number result)
+            (adds_guest_at self.old bytes.items (vec_ptr bytes)) }
+        ensures fits { StillFits self.old self.new }
+    {
+        self.admit(self.guest_at_fits(bytes.len()))?;
+        self.push_guest_at(bytes)
+    }
+
+    /// Whether an engine lent a guest's memory. `has_guest` tells whether the guest is there.
+    pub fn is_lent(&self, guest: u32) -> bool
+        requires { guest < length self.now.guests }
+        ensures { result ≡ is_lent_in self.now.guests guest }
+    {
+        is_lent(&self.guests, guest as usize)
+    }
+
+    /// A guest's memory, which an engine lent, has these bytes too, which lie behind its end; also of a store
+    /// that was trapped. It lies where it lay, and so do the regions of reads and writes that wait. Takes no
+    /// memory. `is_lent` tells whether an engine lent it.
+    pub fn memory_grown(&mut self, guest: u32, more: Vec<u8, Lodged>)
+        requires there { guest < length self.old.guests }
+        requires lent { is_lent_in self.old.guests guest ≡ true }
+        requires behind { IfSome (base_in self.old.guests guest)
+            (λ base. vec_ptr more ≡ base.at +ₚ length (memory_in self.old.guests guest)) }
+        requires small { length (memory_in self.old.guests guest) + length more.items < 4294967296 }
+        ensures { self.new ≡ grown self.old guest more.items }
+    {
+        grow_memory(&mut self.guests, guest as usize, more);
+    }
+
+    /// A guest's memory, which an engine lent, goes on in these bytes, which begin with all of its own, at
+    /// another place; also of a store that was trapped. Answers the bytes in which it was. Reads and writes
+    /// that wait go on there. Takes no memory. `is_lent` tells whether an engine lent it.
+    pub fn memory_moved(&mut self, guest: u32, bytes: Vec<u8, Lodged>) -> Vec<u8, Lodged>
+        requires there { guest < length self.old.guests }
+        requires lent { is_lent_in self.old.guests guest ≡ true }
+        requires begins { take (length (memory_in self.old.guests guest)) bytes.items
+            ≡ memory_in self.old.guests guest }
+        requires small { length bytes.items < 4294967296 }
+        ensures moved { self.new ≡ moved_to self.old guest
+            (drop (length (memory_in self.old.guests guest)) bytes.items) (vec_ptr bytes) }
+        ensures left { result.items ≡ memory_in self.old.guests guest }
+        ensures lay { base_in self.old.guests guest ≡ Some (lent_at (vec_ptr result)) }
+    {
+        move_memory(&mut self.guests, guest as usize, bytes)
     }
 
     /// Whether there is a guest of this number.
@@ -103,7 +196,7 @@ impl Store {
     pub fn memory_base(&mut self, guest: u32) -> *const u8
         requires { guest < length self.old.guests }
         ensures told { self.new ≡ with_base_in self.old guest result }
-        ensures again { IfSome (base_in self.old.guests guest) (λ base. result ≡ base) }
+        ensures again { IfSome (base_in self.old.guests guest) (λ base. result ≡ base.at) }
     {
         tell_base(&mut self.guests, guest as usize)
     }

@@ -1,13 +1,13 @@
 //! Guests and their memories.
 
 use crate::errors::{done, wrote};
-use crate::{Error, Guest, Store};
+use crate::{Error, Guest, Memory, Store};
 use core::ptr::NonNull;
 use strm_sys as sys;
 
 /// Guests and their memories.
 impl Store {
-    /// A guest with a memory of so many zero bytes: 268,435,456 of all guests together at most.
+    /// A guest with a memory of so many zero bytes of the store's own: 268,435,456 of all guests together at most.
     ///
     /// # Errors
     ///
@@ -24,6 +24,116 @@ impl Store {
     pub fn add_guest(&mut self, size: u32) -> Result<Guest, Error> {
         // SAFETY: above.
         wrote(|out| unsafe { sys::strm_add_guest(self.at(), size, out) }).map(Guest)
+    }
+
+    /// A guest whose memory the host gives: fewer than 4,294,967,296 bytes, and no limit on those of all guests.
+    /// None of them is touched or copied.
+    ///
+    /// # Errors
+    ///
+    /// As of [`Store::add_guest_at`]; the memory is dropped then.
+    ///
+    /// ```
+    /// # use strm::Memory;
+    /// # let (mut store, _, _, _) = strm::example()?;
+    /// let guest = store.add_guest_with(Memory::mapped(65536, 1 << 30)?)?;
+    /// store.memory_mut(guest)?[0] = 7;
+    /// assert_eq!(store.grow_memory(guest, 65536)?, 65536);
+    /// assert_eq!((store.memory(guest)?.len(), store.memory(guest)?[0]), (131072, 7));
+    /// # Ok::<(), strm::Error>(())
+    /// ```
+    pub fn add_guest_with(&mut self, memory: Memory) -> Result<Guest, Error> {
+        // SAFETY: the bytes are the memory's own, which the store keeps until it gave them up.
+        let guest = unsafe { self.add_guest_at(memory.at(), memory.len()) }?;
+        self.memories.insert(guest, memory);
+        Ok(guest)
+    }
+
+    /// The memory that the host gave for a guest has so many zero bytes more behind its end: where it lies, if
+    /// it was mapped with room for them, and else at another place. Answers how many bytes it had.
+    ///
+    /// # Errors
+    ///
+    /// As of [`Store::memory_grown`]. [`Error::OutOfMemory`] where there is none for the longer memory.
+    ///
+    /// ```
+    /// # use strm::{Error, Memory};
+    /// # let (mut store, own, _, _) = strm::example()?;
+    /// let guest = store.add_guest_with(Memory::from(vec![7u8; 3]))?;
+    /// assert_eq!(store.grow_memory(guest, 2)?, 3);
+    /// assert_eq!(store.memory(guest)?, [7, 7, 7, 0, 0]);
+    /// assert_eq!(store.grow_memory(own, 2), Err(Error::NotLent));
+    /// # Ok::<(), Error>(())
+    /// ```
+    pub fn grow_memory(&mut self, guest: Guest, more: usize) -> Result<usize, Error> {
+        let (_, len) = self.place(guest)?;
+        let memory = self.memories.get(&guest).ok_or(Error::NotLent)?;
+        match memory.behind(more) {
+            // SAFETY: the zeros lie behind the end of the bytes that the store has, which are this memory's.
+            Some(at) => unsafe { self.memory_grown(guest, at, more) }?,
+            None => {
+                let longer = memory.longer(more)?;
+                // SAFETY: it begins with the bytes that the store has, and those go only once it moved.
+                unsafe { self.memory_moved(guest, longer.at(), longer.len()) }?;
+                self.memories.insert(guest, longer);
+                return Ok(len);
+            }
+        }
+        if let Some(memory) = self.memories.get_mut(&guest) {
+            memory.grew(more);
+        }
+        Ok(len)
+    }
+
+    /// A guest whose memory is bytes that the host lends: none of them is touched, copied or freed by this
+    /// call, and there is no limit on those of all guests.
+    ///
+    /// # Errors
+    ///
+    /// Refused, in this order: `MemoryTooBig` (4,294,967,296 bytes or more), `Full`. [`Error::OutOfMemory`]
+    /// where memory is short.
+    ///
+    /// # Safety
+    ///
+    /// From this call on until the store is dropped, or told by [`Store::memory_moved`] that they moved, the
+    /// bytes may be read and written, and stay where they are; no other guest's memory has one of them; and
+    /// nobody else reads or writes them while a call is made, or while the memory is borrowed of the store.
+    pub unsafe fn add_guest_at(&mut self, bytes: NonNull<u8>, len: usize) -> Result<Guest, Error> {
+        // SAFETY: above, and the caller's.
+        wrote(|out| unsafe { sys::strm_add_guest_at(self.at(), bytes.as_ptr(), len, out) }).map(Guest)
+    }
+
+    /// A memory that the host lent has so many bytes more, which lie directly behind its end. Reads and writes
+    /// that wait go on.
+    ///
+    /// # Errors
+    ///
+    /// Refused, in this order: `UnknownGuest`, `MemoryTooBig` (4,294,967,296 bytes or more in all).
+    /// [`Error::NotLent`] of a memory of the store's own.
+    ///
+    /// # Safety
+    ///
+    /// What [`Store::add_guest_at`] asks of the bytes; and `more` is where the memory ends, as
+    /// [`Store::memory_at`] tells it.
+    pub unsafe fn memory_grown(&mut self, guest: Guest, more: NonNull<u8>, len: usize) -> Result<(), Error> {
+        // SAFETY: above, and the caller's.
+        done(unsafe { sys::strm_memory_grown(self.at(), guest.0, more.as_ptr(), len) })
+    }
+
+    /// A memory that the host lent goes on in these bytes, at another place. Reads and writes that wait go on
+    /// there, and those where it was are the host's again.
+    ///
+    /// # Errors
+    ///
+    /// Refused, in this order: `UnknownGuest`, `MemoryTooBig` (4,294,967,296 bytes or more). [`Error::NotLent`]
+    /// of a memory of the store's own, [`Error::Shorter`] where the memory has more bytes.
+    ///
+    /// # Safety
+    ///
+    /// What [`Store::add_guest_at`] asks of the bytes; and they begin with all that the memory has.
+    pub unsafe fn memory_moved(&mut self, guest: Guest, bytes: NonNull<u8>, len: usize) -> Result<(), Error> {
+        // SAFETY: above, and the caller's.
+        done(unsafe { sys::strm_memory_moved(self.at(), guest.0, bytes.as_ptr(), len) })
     }
 
     // Where a guest's memory lies, and how many bytes it has. Of no bytes it is an address that a slice may
@@ -49,8 +159,9 @@ impl Store {
     /// ```
     pub fn memory(&self, guest: Guest) -> Result<&[u8], Error> {
         let (at, len) = self.place(guest)?;
-        // SAFETY: the bytes are the guest's, in one block that stays where it is until the store is given
-        // up, and calls by `&self` write none of them; none have an address that is not null.
+        // SAFETY: the bytes are the guest's, in one block that stays where it is until the store is given up
+        // or, by `&mut self`, it moves, and calls by `&self` write none of them; none have an address that is
+        // not null.
         Ok(unsafe { core::slice::from_raw_parts(at, len) })
     }
 
@@ -68,8 +179,8 @@ impl Store {
     /// ```
     pub fn memory_mut(&mut self, guest: Guest) -> Result<&mut [u8], Error> {
         let (at, len) = self.place(guest)?;
-        // SAFETY: the bytes are the guest's, in one block that stays where it is until the store is given
-        // up, and `&mut self` leaves them to this borrow; none have an address that is not null.
+        // SAFETY: the bytes are the guest's, in one block that stays where it is until the store is given up
+        // or it moves, and `&mut self` leaves them to this borrow; none have an address that is not null.
         Ok(unsafe { core::slice::from_raw_parts_mut(at, len) })
     }
 
@@ -94,7 +205,7 @@ impl Store {
             return Err(Error::SameGuest);
         }
         // SAFETY: the bytes are two guests', each in a block of its own that stays where it is until the store is
-        // given up, and `&mut self` leaves them to these borrows; none have an address that is not null.
+        // given up or it moves, and `&mut self` leaves them to these borrows; none have an address that is not null.
         Ok(unsafe {
             (
                 core::slice::from_raw_parts_mut(a_at, a_len),
@@ -103,8 +214,8 @@ impl Store {
         })
     }
 
-    /// Where a guest's memory lies, and how many bytes it has: the same until the store is dropped; of no
-    /// bytes a dangling address. It is for a runtime whose guests use their memory in place. A write there
+    /// Where a guest's memory lies, and how many bytes it has: the same until the store is dropped, or the memory
+    /// grows; of no bytes a dangling address. It is for a runtime whose guests use their memory in place. A write there
     /// while a call is made, or while the memory is borrowed, is undefined.
     ///
     /// # Errors

@@ -6,7 +6,7 @@ use Rattle.strm_buffers.proofs.WindowLemmas.{lying_nowhere, lies_there}
 use Rattle.strm_buffers.proofs.windows.Window.mark.Goals as goal
 
 pub invariant_of-self : goal.invariant_of-self
-invariant_of-self c = (marked_on c.self.inside.payload c.self.inside.bytes.items _ _ _ _ _ _ _ (lying_nowhere c.args.self.now) c.self.invariant (ap lying_nowhere c.self.view_is) c.requires.bytes (subst IsBytes c.deref.ensures.value c.are_bytes.ensures) (omega (arith, c.requires.there))).is_window
+invariant_of-self c = ((marked_on c.self.inside.payload c.self.inside.memory.bytes _ _ _ _ _ _ _ (lying_nowhere c.args.self.now) c.self.invariant.0 (ap lying_nowhere c.self.view_is) c.requires.bytes (subst IsBytes c.bytes.ensures c.are_bytes.ensures) (omega (arith, c.requires.there))).is_window, c.self.invariant.1)
 
 pub returns : goal.returns
-returns c = lies_there _ _ _ ((marked_on c.self.inside.payload c.self.inside.bytes.items _ _ _ _ _ _ _ (lying_nowhere c.args.self.now) c.self.invariant (ap lying_nowhere c.self.view_is) c.requires.bytes (subst IsBytes c.deref.ensures.value c.are_bytes.ensures) (omega (arith, c.requires.there))).is) (ap (λ (w : Lent). w.base) c.self.view_is)
+returns c = lies_there _ _ _ ((marked_on c.self.inside.payload c.self.inside.memory.bytes _ _ _ _ _ _ _ (lying_nowhere c.args.self.now) c.self.invariant.0 (ap lying_nowhere c.self.view_is) c.requires.bytes (subst IsBytes c.bytes.ensures c.are_bytes.ensures) (omega (arith, c.requires.there))).is) (ap (λ (w : Lent). w.base) c.self.view_is)

@@ -1,10 +1,10 @@
-use Rattle.std.proofs.Common.{arith}
+use Rattle.std.proofs.Common.{refl, arith}
 use Rattle.strm_buffers.proofs.MarkLemmas.{over_memory}
 use Rattle.strm_buffers.proofs.WindowLemmas.{lies_there}
 use Rattle.strm_buffers.proofs.windows.Window.over.Goals as goal
 
 pub invariant_of-result : goal.invariant_of-result
-invariant_of-result c = (over_memory c.args.payload c.args.memory.bytes c.into_parts-bytes.result.0.items c.new.result.items _ c.args.address _ c.into_parts-bytes.ensures.bytes c.new.ensures.items (omega (arith, c.requires)) (omega (arith, c.ranges.room.fits))).is_window
+invariant_of-result c = ((over_memory c.args.payload c.args.memory.bytes c.args.memory.bytes c.new.result.items _ c.args.address _ refl c.new.ensures.items (omega (arith, c.requires)) (omega (arith, c.ranges.room.fits))).is_window, λ e. cc)
 
 pub returns : goal.returns
-returns c = lies_there _ _ _ ((over_memory c.args.payload c.args.memory.bytes c.into_parts-bytes.result.0.items c.new.result.items 0 c.args.address _ c.into_parts-bytes.ensures.bytes c.new.ensures.items (omega (arith, c.requires)) (omega (arith, c.ranges.room.fits))).is) c.into_parts-bytes.ensures.base
+returns c = lies_there _ _ _ ((over_memory c.args.payload c.args.memory.bytes c.args.memory.bytes c.new.result.items 0 c.args.address _ refl c.new.ensures.items (omega (arith, c.requires)) (omega (arith, c.ranges.room.fits))).is) refl

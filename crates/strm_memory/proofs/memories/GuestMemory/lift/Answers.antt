@@ -1,7 +1,5 @@
-use Rattle.std.proofs.Common.{ap}
-use Rattle.strm_memory.specs.Linear.{LinearMemory}
 use Rattle.strm_memory.proofs.memories.GuestMemory.lift.Goals as goal
 
 pub returns-clause-bad_item : goal.returns-clause-bad_item
 returns-clause-bad_item c = λ index e.
-    rw (c.scalars.ensures.exact, c.as_u32.ensures.exact, c.as_slice.ensures.value, ap (λ (m : LinearMemory). m.bytes) c.self.view_is) at (c.lift_fields.ensures.bad_item index e)
+    rw (c.scalars.ensures.exact, c.as_u32.ensures.exact, c.bytes.ensures) at (c.lift_fields.ensures.bad_item index e)

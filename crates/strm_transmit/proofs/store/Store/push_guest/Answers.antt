@@ -1,7 +1,9 @@
-use Rattle.std.proofs.Common.{◌+◌, ◌∙◌, refl, arith}
+use Rattle.std.proofs.Common.{◌+◌, ◌∙◌, replicate, refl, arith}
+use Rattle.std.proofs.lemmas.List.{length-replicate}
+use Rattle.strm_memory.specs.Linear.{untold}
 use Rattle.strm_transmit.specs.Inside.{state_of}
 use Rattle.strm_machine.proofs.RefusalLemmas.{guest_fits}
-use Rattle.strm_transmit.proofs.StoreLemmas.{IsStore-guest, performs-guest}
+use Rattle.strm_transmit.proofs.StoreLemmas.{IsStore-guest, performs-guest, own_fits}
 use Rattle.strm_transmit.proofs.store.Store.push_guest.Goals as goal
 
 pub overflow_add-self : goal.overflow_add-self
@@ -11,7 +13,7 @@ overflow_add-self c =
 
 pub invariant_of-self-2 : goal.invariant_of-self-2
 invariant_of-self-2 c =
-    IsStore-guest c.self.inside _ (record { memory = c.in_ok-memory.memory; table = c.new-2.result; sets = c.new-3.result }) c.args.size
+    IsStore-guest c.self.inside _ (record { memory = c.in_ok-memory.memory; table = c.new-2.result; sets = c.new-3.result }) (untold (replicate c.args.size 0)) c.args.size
     (record {
       same = record { tag = refl; limits = refl; producers = refl; kept = refl; consumers = refl; contexts = refl; trapped = refl };
       counter = refl;
@@ -20,12 +22,13 @@ invariant_of-self-2 c =
       live_sets = refl;
       guests = c.push_reserved.ensures.items ∙ rw c.in_ok-reserve.ensures.items refl;
       bytes = refl;
+      many = length-replicate c.args.size 0;
       memory = c.in_ok-memory.ensures;
       handles = c.new-2.ensures.empty;
       sets = c.new-3.ensures;
       ready = refl;
     })
-    (rw (← c.self.view_is) at c.requires) c.self.invariant
+    (own_fits (state_of c.self.inside) c.args.size (rw (← c.self.view_is) at c.requires)) c.self.invariant
 
 pub returns : goal.returns
 returns c =
@@ -39,6 +42,7 @@ returns c =
       live_sets = refl;
       guests = c.push_reserved.ensures.items ∙ rw c.in_ok-reserve.ensures.items refl;
       bytes = refl;
+      many = length-replicate c.args.size 0;
       memory = c.in_ok-memory.ensures;
       handles = c.new-2.ensures.empty;
       sets = c.new-3.ensures;
