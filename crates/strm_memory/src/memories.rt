@@ -2,7 +2,7 @@
 //!
 //! Source: wasmtime, `futures_and_streams.rs`, `check_bounds`; Canonical ABI, `BufferGuestImpl`.
 
-ghost use Rattle.std.specs.Prelude.{◌≡◌, ℕ, ◌+◌, ◌*◌, ◌^◌, ◌<◌, ◌≤◌, ◌↔◌, [], ◌++◌, length, replicate, take, drop, true, is_err, IsTrue, IfOk, OnOk, OnErr, IsOk, IsErr, IsErrOf, IsSomeAnd, IfSome, Some, None, vec_len, vec_capacity};
+ghost use Rattle.std.specs.Prelude.{◌≡◌, ℕ, ◌+◌, ◌*◌, ◌^◌, ◌<◌, ◌≤◌, ◌↔◌, [], ◌++◌, length, replicate, take, drop, true, is_err, IsTrue, IfOk, OnOk, OnErr, IsOk, IsErr, IsErrOf, IsNone, IsSomeAnd, IfSome, Some, None, vec_len, vec_capacity};
 ghost use Rattle.strm_codes.specs.Layout.{scalars_of, item_size};
 ghost use Rattle.std.specs.List.{slice_range};
 ghost use Rattle.std.specs.Vec.{vec_ptr};
