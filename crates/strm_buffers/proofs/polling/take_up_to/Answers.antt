@@ -1,4 +1,4 @@
-use Rattle.std.proofs.Common.{◌≡◌, ◌+◌, None, length, sym, ap, ◌∙◌, arith}
+use Rattle.std.proofs.Common.{◌≡◌, length, arith}
 use Rattle.strm_codes.specs.Layout.{scalars_of}
 use Rattle.strm_buffers.specs.Offers.{left_of, after_taking}
 use Rattle.strm_buffers.proofs.OfferLemmas.{length-first_lent, offer_taken}
