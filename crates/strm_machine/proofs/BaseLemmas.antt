@@ -8,12 +8,12 @@ use Rattle.std.proofs.lemmas.Bool.{cond_both}
 use Rattle.std.proofs.lemmas.List.{get_or-set_other}
 use Rattle.strm_handles.specs.Handles.{inserted}
 use Rattle.strm_waitable_sets.specs.Sets.{handle_left}
-use Rattle.strm_machine.specs.Words.{Guest, Handles, Sets, no_handles, no_sets, Entry, removed, ReturnCode, TransmitIndex, Reaction, goes, operates, written_back, end_of, opposite, same_side, IsSound, State, guest_in, no_guest, sets_in, with_handles, with_memory, with_table, memory_in, scalars_of, stored_at, items_at, named, stream_named, Operated, Operation, Side, Reading, Writing, Stream, Act, Make}
+use Rattle.strm_machine.specs.Words.{Guest, Handles, Sets, no_handles, no_sets, Entry, removed, ReturnCode, TransmitIndex, Reaction, written_back, end_of, opposite, same_side, IsSound, State, guest_in, no_guest, sets_in, with_handles, with_memory, with_table, memory_in, scalars_of, stored_at, items_at, named, stream_named, Operated, Operation, Side, Reading, Writing, Stream, Act}
 use Rattle.std.specs.Ptr.{Ptr}
 use Rattle.strm_memory.specs.Linear.{Base, told_at, own_part}
 use Rattle.strm_machine.specs.Bases.{base_in, with_base, BasesStay}
 use Rattle.strm_machine.proofs.TurnLemmas.{GuestsKeep}
-use Rattle.strm_machine.specs.State.{is_gone, with_bytes, own_size}
+use Rattle.strm_machine.specs.State.{is_gone, own_size}
 use Rattle.strm_machine.specs.Making.{read_entry, end_entry, with_stream}
 use Rattle.strm_codes.specs.declared.refusals.Refusal.{Refusal}
 use Rattle.strm_machine.specs.Refusals.{first_of, lower_context_reasons}
@@ -23,7 +23,7 @@ use Rattle.strm_machine.specs.Operating.{completes_alone, finds, rendezvous_by, 
 use Rattle.strm_machine.specs.declared.acts.Making.TheVariants as makings
 use Rattle.strm_machine.specs.declared.streams.Meeting.{Meeting}
 use Rattle.strm_machine.specs.declared.streams.Meeting.TheVariants.{BothComplete, ReadCompletes, WriteCompletes}
-use Rattle.strm_machine.proofs.Shapes.{Owning, guests_freed, guests_given, guests_by, stream_on, begun_on, turn_on, set_by, owned_by, tabled_by, Shape, ByTurn, BySetting, ByOwner, ByTable, ByPair, ByGuest, ByPut, ByRest}
+use Rattle.strm_machine.proofs.Shapes.{Owning, guests_freed, guests_given, guests_by, stream_on, begun_on, turn_on, Shape, ByTurn, BySetting, ByOwner, ByTable, ByPair, ByGuest, ByPut, ByRest}
 use Rattle.strm_machine.proofs.ShapeLemmas.{reaction-shape}
 
 -- ## Guests

@@ -2,7 +2,7 @@
 use Rattle.std.proofs.Common.{◌≡◌, ℕ, arith, List, [], ◌∷◌, ◌++◌, length, Option, Some, None, refl}
 use Rattle.std.specs.Prelude.{replicate}
 use Rattle.std.proofs.lemmas.List.{length-replicate}
-use Rattle.strm_machine.specs.Words.{Guest, ReturnCode, no_handles, no_sets, put_at, State, memory_in, with_memory, stream_at, Operated, named, stream_named, Reaction, written_back, sizes_of, IsSound, NamedEnd, Act, Make, Side}
+use Rattle.strm_machine.specs.Words.{Guest, ReturnCode, no_handles, no_sets, put_at, State, memory_in, with_memory, stream_at, Operated, named, stream_named, Reaction, written_back, IsSound, NamedEnd, Act, Make, Side}
 use Rattle.strm_machine.specs.Refusals.{refusal}
 use Rattle.strm_machine.specs.Reactions.{makes, on_set, on_context, reaction}
 use Rattle.strm_machine.specs.WaitableSets.{with_set}
