@@ -5,7 +5,6 @@ use Rattle.std.proofs.lemmas.List.{get_or-map, get_or-set_same, map-set, set-get
 use Rattle.std.proofs.lemmas.List.Sums.{sum_by-set}
 use Rattle.strm_codes.specs.declared.codes.TransmitIndex.{TransmitIndex}
 use Rattle.strm_codes.specs.declared.codes.TransmitIndex.TheVariants as index
-use Rattle.strm_codes.specs.declared.payloads.Payload.{Payload}
 use Rattle.strm_handles.specs.Handles.{Handles, Table, entry_at, lends_of, live_of}
 use Rattle.strm_handles.specs.Ends.{without_value}
 use Rattle.strm_handles.specs.Lookups.{◌>>=◌, stream_end_of, future_end_of, end_rep_of}
