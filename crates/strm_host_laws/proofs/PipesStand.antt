@@ -124,8 +124,8 @@ module _ (side : Side) (state : State) (s n : ℕ) (x : Stream) (o : (end_of sid
       loose = loose_set state (with_stream_at state s x) s x refl left_loose h.loose
 
       by : (side : Side) → HostsHold (with_done side state s n x) → Holds (with_done side state s n x)
-      by Writing k = record { sound = record { named = left_sound.named; placed = left_sound.placed; small = left_sound.small; sets = left_sound.sets; contexts = left_sound.contexts }; held = held; hosts = k; loose = loose }
-      by Reading k = record { sound = record { named = left_sound.named; placed = left_sound.placed; small = left_sound.small; sets = left_sound.sets; contexts = left_sound.contexts }; held = held; hosts = k; loose = loose }
+      by Writing k = record { sound = record { named = left_sound.named; placed = left_sound.placed; small = left_sound.small; own = left_sound.own; sets = left_sound.sets; contexts = left_sound.contexts }; held = held; hosts = k; loose = loose }
+      by Reading k = record { sound = record { named = left_sound.named; placed = left_sound.placed; small = left_sound.small; own = left_sound.own; sets = left_sound.sets; contexts = left_sound.contexts }; held = held; hosts = k; loose = loose }
 
 -- both host ends of a stream, for which nothing is kept
 module _ (state : State) (s n r : ℕ) (x : Stream) (is : stream_at state s ≡ x) (made : s < length state.streams) (e : x.writer.owner ≡ Host n) (f : x.reader.owner ≡ Host r) (none : kept_at state n ≡ []) (h : Holds state) where
@@ -262,7 +262,7 @@ module _ (old : State) (s r : ℕ) (h : Holds old) (known : r < host_limit) (unu
       let placed = placed_at old s made h.sound in
       let sound = IsSound-stream old s the_pipe refl (record { writer = withdrawn_placed (sizes_of old.guests) (stream_at old s).payload (stream_at old s).writer.operation placed.writer; reader = placed.reader }) h.sound in
       record {
-        sound = record { named = sound.named; placed = sound.placed; small = sound.small; sets = sound.sets; contexts = sound.contexts };
+        sound = record { named = sound.named; placed = sound.placed; small = sound.small; own = sound.own; sets = sound.sets; contexts = sound.contexts };
         held = IsHeld-either old.guests old.guests old.streams (set old.streams s the_pipe) (λ g. refl) (set_either old.streams s the_pipe made pipe_free) h.held;
         hosts = record {
           all = h.hosts.all;
@@ -352,7 +352,7 @@ module _ (old new : State) (s : ℕ) (p : Passes old new s) (h : Holds old) wher
         let sound = IsSound-stream old s received_stream (type_of-same received_stream (stream_at old s) (some_received-payload (stream_at old s) p.count) (some_received-kind (stream_at old s) p.count))
         (some_received-by (StreamIsPlaced (sizes_of old.guests)) (stream_at old s) p.count placed (record { writer = placed.writer; reader = placed.reader })) h.sound in
         record {
-          sound = record { named = sound.named; placed = sound.placed; small = sound.small; sets = sound.sets; contexts = sound.contexts };
+          sound = record { named = sound.named; placed = sound.placed; small = sound.small; own = sound.own; sets = sound.sets; contexts = sound.contexts };
           held =
               IsHeld-either old.guests old.guests old.streams (set old.streams s received_stream) (λ g. refl)
               (set_either old.streams s received_stream made (λ side. inl (ap (λ (x : End). x.owner) (some_received-end side (stream_at old s) p.count)))) h.held;

@@ -161,7 +161,7 @@ module _ (side : Side) (old new : State) (s n : ℕ) (operation : Operation) (h 
         let placed = moves-placed side (sizes_of old.guests) (stream_at old s) after operation t.count t.result moves t.few p (placed_at old s stream_made h.sound) in
         let set = IsSound-stream old s after (type_of-same after (stream_at old s) moves.payload moves.kind) placed h.sound in
         let both = IsSound-guests (with_stream_at old s after) t.guests guests_keep set in
-        record { named = both.named; placed = both.placed; small = both.small; sets = both.sets; contexts = both.contexts }
+        record { named = both.named; placed = both.placed; small = both.small; own = both.own; sets = both.sets; contexts = both.contexts }
 
     owners_free : (k : Side) → StaysOrFree (owner_in old.streams s k) (end_of k after).owner
     owners_free =
@@ -302,6 +302,7 @@ IsSound-hosted state stream ps p h = record {
       (All-weaker (AreNamed (types_of state.streams)) (AreNamed (types_of state.streams ++ type_of stream ∷ [])) (AreNamed-more (types_of state.streams) (type_of stream)) (handles_of state.guests) h.named);
   placed = All-push (StreamIsPlaced (sizes_of state.guests)) state.streams stream h.placed p;
   small = h.small;
+  own = h.own;
   sets = h.sets;
   contexts = h.contexts;
 }

@@ -27,6 +27,7 @@ IsSound-empty tag limits = record {
   named = All-nil (AreNamed []);
   placed = All-nil (StreamIsPlaced []);
   small = λ g. omega arith;
+  own = omega arith;
   sets = HoldSets-none;
   contexts = HoldsContexts-none;
 }

@@ -16,10 +16,10 @@ use Rattle.strm_machine.specs.Reactions.{goes}
 use Rattle.strm_machine.specs.declared.replies.Reply.TheVariants as replies
 use Rattle.strm_codes.specs.declared.refusals.Refusal.{Refusal}
 use Rattle.strm_machine.specs.Growth.{guest_at, with_guest_at, guest_at_reasons, adds_unless, adds_guest_at, grown, MayGrow}
-use Rattle.strm_machine.specs.Soundness.{AreSmall, handles_of}
+use Rattle.strm_machine.specs.Soundness.{AreSmall, handles_of, own_sizes_of}
 use Rattle.strm_machine.proofs.BoundLemmas.{within, not_out}
 use Rattle.strm_machine.proofs.SoundLemmas.{IsSound-guest}
-use Rattle.strm_machine.proofs.TurnLemmas.{sets_of, own_sizes_of}
+use Rattle.strm_machine.proofs.TurnLemmas.{sets_of}
 use Rattle.strm_machine.proofs.RefusalLemmas.{not_refused, not_le}
 use Rattle.strm_machine.proofs.WaitableSetLemmas.{HoldSets-kept}
 use Rattle.strm_machine.proofs.ErrorContextLemmas.{all_handles-same, HoldsContexts-same}
@@ -105,6 +105,7 @@ IsSound-grown state g more may h =
       named = rw handles h.named;
       placed = All-weaker (StreamIsPlaced (sizes_of guests)) (StreamIsPlaced (sizes_of new)) (StreamIsPlaced-longer (sizes_of guests) (sizes_of new) (grown-longer guests g more)) state.streams h.placed;
       small = small_at guests g (longer_guest guests g more) (omega (arith, length-append (memory_in guests g) more, may.small)) h.small;
+      own = rw (own-grown guests g memory may.lent) h.own;
       sets = HoldSets-kept guests new handles (sets-grown guests g memory) h.sets;
       contexts = HoldsContexts-same guests new state.contexts (λ number. all_handles-same number guests new handles) h.contexts;
     }
@@ -154,7 +155,7 @@ adds_guest_at-by P state bytes base old new = by_trap state.trapped
 pub adds_guest_at-sound : (state : State) (bytes : List ℕ) (base : Ptr) → IsSound state → IsSound (adds_guest_at state bytes base).state
 adds_guest_at-sound state bytes base h =
     adds_guest_at-by IsSound state bytes base h
-    (λ fits. IsSound-guest state (guest_at bytes base) refl refl fits.small h)
+    (λ fits. IsSound-guest state (guest_at bytes base) refl refl fits.small (omega (arith, h.own)) h)
 
 -- ## Its bytes
 

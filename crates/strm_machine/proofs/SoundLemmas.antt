@@ -1,11 +1,12 @@
 -- Each change of the machine leaves a sound state.
-use Rattle.std.proofs.Common.{◌≡◌, true, ℕ, zero, suc, ◌<◌, List, [], ◌∷◌, ◌++◌, length, set, Option, Some, None, refl, sym, ap, ◌∙◌, subst, inl, inr, arith, length-append}
-use Rattle.std.specs.Prelude.{All, is_ok}
+use Rattle.std.proofs.Common.{◌≡◌, true, ℕ, zero, suc, ◌+◌, ◌<◌, ◌≤◌, List, [], ◌∷◌, ◌++◌, length, set, Option, Some, None, refl, sym, ap, ◌∙◌, subst, inl, inr, arith, length-append}
+use Rattle.std.specs.Prelude.{All, sum, is_ok}
 use Rattle.std.proofs.Math.Seq.{map-set_same}
 use Rattle.std.proofs.Math.ListN.{get_or-map}
 use Rattle.std.proofs.lemmas.Bool.{cases_lt}
 use Rattle.std.proofs.lemmas.List.{get_or_past, length-map, map-append, get_or_append_left, map-set, get_or_push}
 use Rattle.std.proofs.lemmas.List.Elements.{All-set, All-push, All-weaker, All-get_or, All-nil}
+use Rattle.std.proofs.lemmas.List.Sums.{sum_by-append}
 use Rattle.strm_machine.specs.Words.{Guest, TransmitIndex, Payload, kind_of, payload_of, Handles, removed, no_handles, Entry, Sets, no_sets, State, no_guest, no_stream, guest_in, sets_in, with_handles, with_table, without_handle, end_named, HoldsSets, HoldSets, stream_at, Operated, ReturnCode, end_of, with_end, End, Writing, Reading, Side, sizes_of, IsPlaced, OperationIsPlaced, StreamIsPlaced, IsSound, Operation, Stream}
 use Rattle.strm_codes.specs.declared.codes.TransmitIndex.TheVariants as index
 use Rattle.strm_codes.specs.declared.payloads.Payload.TheVariants.{Nothing}
@@ -16,12 +17,12 @@ use Rattle.strm_error_contexts.specs.Contexts.{Contexts}
 use Rattle.strm_handles.specs.declared.entries.Entry.TheVariants as entries
 use Rattle.strm_handles.specs.declared.entries.TransmitEnd.{TransmitEnd}
 use Rattle.strm_handles.specs.Ends.{read_end, write_end}
-use Rattle.strm_machine.specs.State.{size_limit, own_size}
+use Rattle.strm_machine.specs.State.{size_limit, memory_limit, own_size}
 use Rattle.strm_events.specs.Reports.{left_pending}
 use Rattle.strm_machine.specs.Endings.{asked_to_finish}
 use Rattle.strm_machine.specs.Making.{read_entry, write_entry, end_entry, with_read_end, with_ends, writer_index, made_stream, made_pair, with_stream}
-use Rattle.strm_machine.specs.Soundness.{handles_of, type_with, type_of, types_of, is_idle_state, IsNamed, EntryIsNamed, AreNamed, HoldsContexts, AreSmall}
-use Rattle.strm_machine.proofs.TurnLemmas.{GuestsKeep, TurnKeeps, own_sizes_of}
+use Rattle.strm_machine.specs.Soundness.{handles_of, own_sizes_of, type_with, type_of, types_of, is_idle_state, IsNamed, EntryIsNamed, AreNamed, HoldsContexts, AreSmall}
+use Rattle.strm_machine.proofs.TurnLemmas.{GuestsKeep, TurnKeeps}
 use Rattle.strm_machine.proofs.WaitableSetLemmas.{end_some, HoldsSets-freed, HoldsSets-given_end, HoldSets-with, HoldSets-kept, HoldSets-more}
 use Rattle.strm_machine.proofs.ErrorContextLemmas.{end_leads_nowhere, all_handles-same, HoldsContexts-same, HoldsContexts-more, HoldsContexts-given, HoldsContexts-freed}
 use Rattle.strm_machine.proofs.EndLemmas.{IsLeft, Unchanged, Ended, left_by, with_end-type}
@@ -32,6 +33,7 @@ IsSound-guests state guests k h = record {
   named = rw k.handles h.named;
   placed = rw k.sizes h.placed;
   small = rw k.sizes h.small;
+  own = rw k.own h.own;
   sets = HoldSets-kept state.guests guests k.handles k.sets h.sets;
   contexts = HoldsContexts-same state.guests guests state.contexts (λ number. all_handles-same number state.guests guests k.handles) h.contexts;
 }
@@ -45,6 +47,7 @@ IsSound-stream state s stream e p h = record {
   named = rw (map-set_same type_of state.streams s stream no_stream e) h.named;
   placed = All-set (StreamIsPlaced (sizes_of state.guests)) state.streams s stream p h.placed;
   small = h.small;
+  own = h.own;
   sets = h.sets;
   contexts = h.contexts;
 }
@@ -84,14 +87,17 @@ AreSmall-more (k ∷ sizes) n l h zero = h zero
 AreSmall-more (k ∷ sizes) n l h (suc g) = AreSmall-more sizes n l (λ j. h (suc j)) g
 
 -- one guest more
-pub IsSound-guest : (state : State) (guest : Guest) → guest.handles ≡ no_handles → guest.sets ≡ no_sets → length guest.memory < size_limit → IsSound state → IsSound (record state { guests = state.guests ++ guest ∷ [] })
-IsSound-guest state guest e f l h =
+pub IsSound-guest : (state : State) (guest : Guest) → guest.handles ≡ no_handles → guest.sets ≡ no_sets → length guest.memory < size_limit → sum (own_sizes_of state.guests) + own_size guest ≤ memory_limit → IsSound state → IsSound (record state { guests = state.guests ++ guest ∷ [] })
+IsSound-guest state guest e f l o h =
     let sizes : sizes_of (state.guests ++ guest ∷ []) ≡ sizes_of state.guests ++ length guest.memory ∷ [] = map-append (λ g. length g.memory) state.guests (guest ∷ []) in
     let handles : handles_of (state.guests ++ guest ∷ []) ≡ handles_of state.guests ++ guest.handles ∷ [] = map-append (λ g. g.handles) state.guests (guest ∷ []) in
+    let own : own_sizes_of (state.guests ++ guest ∷ []) ≡ own_sizes_of state.guests ++ own_size guest ∷ [] = map-append own_size state.guests (guest ∷ []) in
+    let total = sum_by-append (λ n. n) (own_sizes_of state.guests) (own_size guest ∷ []) in
     record {
       named = rw (handles, e) (All-push (AreNamed (types_of state.streams)) (handles_of state.guests) no_handles h.named (All-nil (EntryIsNamed (types_of state.streams))));
       placed = rw sizes (All-weaker (StreamIsPlaced (sizes_of state.guests)) (StreamIsPlaced (sizes_of state.guests ++ length guest.memory ∷ [])) (StreamIsPlaced-more (sizes_of state.guests) (length guest.memory)) state.streams h.placed);
       small = rw sizes (AreSmall-more (sizes_of state.guests) (length guest.memory) l h.small);
+      own = rw own (omega (arith, o, total));
       sets = HoldSets-more state.guests guest e f h.sets;
       contexts = HoldsContexts-more state.guests guest state.contexts e h.contexts;
     }
@@ -214,10 +220,12 @@ IsSound-with_stream state writer reader ty reads writes h =
     let named1 = with_handles-named new state.guests reader (read_entry ty s) read before in
     let named2 = with_handles-named new held writer (write_entry ty s) write named1 in
     let sizes : sizes_of (with_ends state.guests writer reader ty s) ≡ sizes_of state.guests = sizes_of-with_handles held writer _ ∙ sizes_of-with_handles state.guests reader _ in
+    let own : own_sizes_of (with_ends state.guests writer reader ty s) ≡ own_sizes_of state.guests = own_sizes_of-with_handles held writer _ ∙ own_sizes_of-with_handles state.guests reader _ in
     record {
       named = rw types named2;
       placed = rw sizes (All-push (StreamIsPlaced (sizes_of state.guests)) state.streams stream h.placed (record { writer = tt; reader = tt }));
       small = rw sizes h.small;
+      own = rw own h.own;
       sets =
           HoldSets-given held writer (write_entry ty s) (end_entry-ok Writing ty s) writes
           (HoldSets-given state.guests reader (read_entry ty s) (end_entry-ok Reading ty s) reads h.sets);
@@ -241,6 +249,7 @@ module _ (state : State) (g : ℕ) (handles : Handles) (sets : Sets) (contexts :
         named = rw (handles_of-with state.guests g handles sets) (All-set (AreNamed types) (handles_of state.guests) g handles named h.named);
         placed = rw sizes h.placed;
         small = rw sizes h.small;
+        own = rw (own_sizes_of-with_table state.guests g handles sets) h.own;
         sets = HoldSets-with state.guests g handles sets holds h.sets;
         contexts = counts;
       }
@@ -269,6 +278,7 @@ module _ (state : State) (g : ℕ) (e : Entry) where
         named = with_handles-named (types_of state.streams) state.guests g e p h.named;
         placed = rw sizes h.placed;
         small = rw sizes h.small;
+        own = rw (own_sizes_of-with_handles state.guests g (inserted (guest_in state.guests g).handles e)) h.own;
         sets = HoldSets-given state.guests g e ok few h.sets;
         contexts = HoldsContexts-end state.guests state.contexts g e ok h.sets h.contexts;
       }

@@ -1,8 +1,11 @@
 -- Every step leaves a sound state, by its shape.
 use Rattle.std.proofs.Common.{◌≡◌, ℕ, arith, List, [], ◌∷◌, ◌++◌, length, Option, Some, None, refl}
-use Rattle.std.specs.Prelude.{replicate}
+use Rattle.std.specs.Prelude.{replicate, sum}
 use Rattle.std.proofs.lemmas.List.{length-replicate}
+use Rattle.std.proofs.lemmas.List.Sums.{sum-map}
 use Rattle.strm_machine.specs.Words.{Guest, ReturnCode, no_handles, no_sets, put_at, State, memory_in, with_memory, stream_at, Operated, named, stream_named, Reaction, written_back, IsSound, NamedEnd, Act, Make, Side}
+use Rattle.strm_machine.specs.State.{bytes_in_use, own_size}
+use Rattle.strm_machine.specs.Soundness.{own_sizes_of}
 use Rattle.strm_machine.specs.Refusals.{refusal}
 use Rattle.strm_machine.specs.Reactions.{makes, on_set, on_context, reaction}
 use Rattle.strm_machine.specs.WaitableSets.{with_set}
@@ -27,7 +30,7 @@ operate-keeps state side end address count o = operated-keeps side state.guests 
 written-sound : (state : State) (s : ℕ) (t : Operated) (code : Option ReturnCode) → TurnKeeps state.guests (stream_at state s) t → IsSound state → IsSound (written_back state s t code).state
 written-sound state s t (Some code) k h = IsSound-turn state s t k h
 written-sound state s t None k h =
-    let sound = IsSound-turn state s t k h in record { named = sound.named; placed = sound.placed; small = sound.small; sets = sound.sets; contexts = sound.contexts }
+    let sound = IsSound-turn state s t k h in record { named = sound.named; placed = sound.placed; small = sound.small; own = sound.own; sets = sound.sets; contexts = sound.contexts }
 
 -- bytes put where they may be keep the memory's length
 pub poke-keeps : (state : State) (g address : ℕ) (bytes : List ℕ) → BytesFit state g address (length bytes) → GuestsKeep state.guests (with_memory state.guests g (put_at (memory_in state.guests g) address bytes))
@@ -40,7 +43,8 @@ pub guest-sound : (state : State) (size : ℕ) → GuestFits state size → IsSo
 guest-sound state size fits h =
     let guest : Guest = record { memory = replicate size 0; base = None; handles = no_handles; sets = no_sets } in
     let many : length guest.memory ≡ size = length-replicate {A = ℕ} size 0 in
-    IsSound-guest state guest refl refl (omega (arith, many, fits.bytes)) h
+    let total : sum (own_sizes_of state.guests) ≡ bytes_in_use state = sum-map own_size state.guests in
+    IsSound-guest state guest refl refl (omega (arith, many, fits.bytes)) (omega (arith, total, many, fits.bytes)) h
 
 pub shape-sound : (state : State) (act : Act) (r : Reaction) → IsSound state → Shape state act r → IsSound r.state
 shape-sound state act r h (ByTurn side end address count a e o) =

@@ -11,7 +11,7 @@ use Rattle.strm_memory.specs.Linear.{own_part}
 use Rattle.strm_machine.specs.State.{is_gone, own_size}
 use Rattle.strm_machine.specs.Sides.{write_of, read_of}
 use Rattle.strm_machine.specs.Operating.{waits, moves, completes_alone, rendezvous_by, finds, operate}
-use Rattle.strm_machine.specs.Soundness.{handles_of}
+use Rattle.strm_machine.specs.Soundness.{handles_of, own_sizes_of}
 use Rattle.strm_machine.specs.declared.streams.Meeting.{Meeting}
 use Rattle.strm_machine.specs.declared.streams.Meeting.TheVariants.{BothComplete, WriteCompletes, ReadCompletes}
 use Rattle.strm_machine.proofs.BoundLemmas.{not_out-front, length-stored_region}
@@ -19,10 +19,6 @@ use Rattle.strm_machine.proofs.SideLemmas.{StreamKeeps, kept, kept_on, end_place
 
 abbrev pub sets_of : List Guest → List Sets
 sets_of guests = map (λ g. g.sets) guests
-
--- the bytes of each memory that the store has
-abbrev pub own_sizes_of : List Guest → List ℕ
-own_sizes_of guests = map own_size guests
 
 -- guests with the handles, the sets and the memory lengths of others, of which as many bytes are the store's
 pub record GuestsKeep (old new : List Guest) : Type 0 where

@@ -90,16 +90,17 @@ how_many sets = count_by (λ there. there) sets.there
 abbrev pub sets_held : machine.Guest → ℕ
 sets_held g = how_many g.sets
 
-pub IsStore-guest : (old new : Inside) (g : ours.Guest) (memory : LinearMemory) (size : ℕ) → AddsGuest old new g memory size → GuestAtFits (state_of old) size → IsStore old → IsStore new
-IsStore-guest old new g memory size h fits s =
+pub IsStore-guest : (old new : Inside) (g : ours.Guest) (memory : LinearMemory) (size : ℕ) → AddsGuest old new g memory size → GuestAtFits (state_of old) size → bytes_in_use (state_of old) + own_part memory.base size ≤ memory_limit → IsStore old → IsStore new
+IsStore-guest old new g memory size h fits room s =
     let many : length g.memory.bytes ≡ size = ap (λ (m : LinearMemory). length m.bytes) h.memory ∙ h.many in
-    let sound = IsSound-guest (state_of old) (guest_of g) h.handles h.sets (omega (arith, many, fits.small)) s.sound in
+    let own : own_size (guest_of g) ≡ own_part memory.base size = ap (λ (m : LinearMemory). own_part m.base (length m.bytes)) h.memory ∙ ap (own_part memory.base) h.many in
+    let total = sum-map own_size (guests_of old.guests.items) in
+    let sound = IsSound-guest (state_of old) (guest_of g) h.handles h.sets (omega (arith, many, fits.small)) (omega (arith, room, own, total)) s.sound in
     let after = state_of-guest old new g memory size h in
     let none : live_of g.table.handles ≡ 0 = rw h.handles live_of-no_handles in
     let live : handles_in_use (state_of old) ≡ handles_in_use (state_of new) = added _ _ _ (sum_by_push (λ k. live_of k.handles) (guests_of old.guests.items) (guest_of g)) none ∙ sym (ap handles_in_use after) in
     let no_set : sets_held (guest_of g) ≡ 0 = ap how_many h.sets in
     let sets : sets_in_use (state_of old) ≡ sets_in_use (state_of new) = added _ _ _ (sum_by_push sets_held (guests_of old.guests.items) (guest_of g)) no_set ∙ sym (ap sets_in_use after) in
-    let own : own_size (guest_of g) ≡ own_part memory.base size = ap (λ (m : LinearMemory). own_part m.base (length m.bytes)) h.memory ∙ ap (own_part memory.base) h.many in
     let bytes : bytes_in_use (state_of old) + own_size (guest_of g) ≡ bytes_in_use (state_of new) = sym (sum_by_push own_size (guests_of old.guests.items) (guest_of g)) ∙ sym (ap bytes_in_use after) in
     record {
       sound = rw after sound;
@@ -132,6 +133,10 @@ added_at state bytes base = goes (replies.Number (length state.guests)) (with_gu
 pub adds-guest_at : (old new : Inside) (g : ours.Guest) (bytes : List ℕ) (base : Ptr) (size n : ℕ) → AddsGuest old new g (of_engine bytes base) size → n ≡ length old.guests.items → added_at (state_of old) bytes base ≡ goes (replies.Number n) (state_of new)
 adds-guest_at old new g bytes base size n h e =
     rw (state_of-guest old new g (of_engine bytes base) size h, h.memory, h.handles, h.sets, e, length-map old.guests.items guest_of) refl
+
+-- the store's own bytes keep their limit
+pub own_within : (state : State) → IsSound state → bytes_in_use state ≤ memory_limit
+own_within state s = omega (arith, s.own, sum-map own_size state.guests)
 
 -- of a memory of the store's own it is known too that it is small enough
 pub own_fits : (state : State) (size : ℕ) → refusal state (Make (Guest size)) ≡ None → GuestAtFits state size

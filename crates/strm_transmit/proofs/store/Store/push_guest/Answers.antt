@@ -28,7 +28,8 @@ invariant_of-self-2 c =
       sets = c.new-3.ensures;
       ready = refl;
     })
-    (own_fits (state_of c.self.inside) c.args.size (rw (← c.self.view_is) at c.requires)) c.self.invariant
+    (own_fits (state_of c.self.inside) c.args.size (rw (← c.self.view_is) at c.requires))
+    (guest_fits (state_of c.self.inside) c.args.size (rw (← c.self.view_is) at c.requires)).bytes c.self.invariant
 
 pub returns : goal.returns
 returns c =

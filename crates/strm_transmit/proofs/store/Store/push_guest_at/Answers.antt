@@ -3,7 +3,7 @@ use Rattle.std.specs.Vec.{vec_ptr}
 use Rattle.strm_memory.specs.Linear.{of_engine}
 use Rattle.strm_transmit.specs.Inside.{state_of}
 use Rattle.strm_machine.proofs.GrowthLemmas.{guest_at_fits}
-use Rattle.strm_transmit.proofs.StoreLemmas.{IsStore-guest, adds-guest_at}
+use Rattle.strm_transmit.proofs.StoreLemmas.{IsStore-guest, adds-guest_at, own_within}
 use Rattle.strm_transmit.proofs.store.Store.push_guest_at.Goals as goal
 
 pub invariant_of-self : goal.invariant_of-self
@@ -23,7 +23,8 @@ invariant_of-self c =
       sets = c.new-2.ensures;
       ready = refl;
     })
-    (guest_at_fits (state_of c.self.inside) (length c.args.bytes.items) (rw (← c.self.view_is) at c.requires)) c.self.invariant
+    (guest_at_fits (state_of c.self.inside) (length c.args.bytes.items) (rw (← c.self.view_is) at c.requires))
+    (omega (arith, own_within (state_of c.self.inside) c.self.invariant.sound)) c.self.invariant
 
 pub returns : goal.returns
 returns c =
