@@ -7,7 +7,7 @@ use Rattle.strm_handles.specs.Counters.{Counter, counted}
 use Rattle.strm_machine.specs.State as machine
 use Rattle.strm_handles.specs.Handles.{next_index}
 use Rattle.strm_machine.specs.State.{State, guest_in, no_stream, is_live, is_host, producer_at, consumer_at, places_in_use}
-use Rattle.strm_machine.specs.Soundness.{IsSound}
+use Rattle.strm_machine.specs.Soundness.{IsSound, own_sizes_of}
 use Rattle.strm_machine.specs.Sides.{end_of}
 use Rattle.strm_machine.specs.Making.{with_ends, made_stream, writer_index}
 use Rattle.strm_machine.specs.Refusals.{refusal}
@@ -40,7 +40,6 @@ use Rattle.strm_transmit.specs.declared.errors.StoreError.{StoreError}
 use Rattle.strm_transmit.specs.declared.errors.StoreError.TheVariants as errors
 use Rattle.strm_transmit.specs.Telling.{Retells, member_of}
 use Rattle.strm_transmit.specs.declared.store.Store.TheInside.{Inside}
-use Rattle.strm_machine.proofs.TurnLemmas.{own_sizes_of}
 use Rattle.strm_transmit.proofs.MakingLemmas.{nobodys, stream_made, numbers_of, as_pair, own_sizes-made, sets-made, members-made}
 use Rattle.strm_transmit.proofs.ServedLemmas.{AreServed-set}
 use Rattle.strm_transmit.proofs.StepLemmas.{IsAdmitted, meets_not_admitted}

@@ -10,13 +10,13 @@ use Rattle.strm_machine.specs.State.{State, sets_in, with_handles}
 use Rattle.strm_machine.specs.ErrorContexts.{message_named, context_given, message_limit, bytes_of_message}
 use Rattle.strm_machine.specs.Refusals.{refusal, first_of, lower_context_reasons}
 use Rattle.strm_machine.specs.Reactions.{goes, texts, shares, lowers_context}
-use Rattle.strm_machine.specs.Soundness.{IsSound}
+use Rattle.strm_machine.specs.Soundness.{IsSound, own_sizes_of}
 use Rattle.strm_machine.specs.declared.acts.Act.TheVariants.{OnContext}
 use Rattle.strm_machine.specs.declared.acts.ContextAct.TheVariants.{Drop}
 use Rattle.strm_machine.specs.declared.replies.Reply.TheVariants as replies
 use Rattle.strm_machine.proofs.ReactionLemmas.{lowers_context-trapped, lowers_context-refused, lowers_context-performs}
 use Rattle.strm_machine.proofs.SoundLemmas.{own_sizes_of-with_handles}
-use Rattle.strm_machine.proofs.TurnLemmas.{all_kept, own_sizes_of}
+use Rattle.strm_machine.proofs.TurnLemmas.{all_kept}
 use Rattle.strm_machine.proofs.ErrorContextLemmas.{count-live}
 use Rattle.strm_machine.proofs.ContextStepLemmas.{NamesContext, context_names}
 use Rattle.strm_channels.specs.Changes.{GivesHandle}

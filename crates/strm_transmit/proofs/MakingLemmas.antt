@@ -8,7 +8,7 @@ use Rattle.strm_handles.specs.Counters.{Counter, counted}
 use Rattle.strm_handles.specs.Handles.{next_index}
 use Rattle.strm_machine.specs.State as machine
 use Rattle.strm_machine.specs.State.{State, guest_in, sets_in, no_stream}
-use Rattle.strm_machine.specs.Soundness.{IsSound}
+use Rattle.strm_machine.specs.Soundness.{IsSound, own_sizes_of}
 use Rattle.strm_machine.specs.Sides.{end_of}
 use Rattle.strm_machine.specs.Refusals.{refusal}
 use Rattle.strm_machine.specs.Reactions.{goes, performs}
@@ -17,7 +17,6 @@ use Rattle.strm_machine.specs.declared.acts.Act.TheVariants.{Make}
 use Rattle.strm_machine.specs.declared.replies.Reply.TheVariants as replies
 use Rattle.strm_machine.proofs.RefusalLemmas.{PairFits, pair_fits}
 use Rattle.strm_machine.proofs.SoundLemmas.{IsSound-with_stream, own_sizes_of-with_handles}
-use Rattle.strm_machine.proofs.TurnLemmas.{own_sizes_of}
 use Rattle.strm_codes.specs.declared.codes.TransmitIndex.{TransmitIndex}
 use Rattle.strm_machine.specs.Making.{with_read_end, with_ends, made_stream, made_pair, with_stream}
 use Rattle.strm_machine.specs.declared.replies.Pair.{Pair}

@@ -11,7 +11,7 @@ use Rattle.strm_machine.specs.Moves.{without_handle, with_owner}
 use Rattle.strm_machine.specs.Tests.{named, end_named, stream_named, side_named}
 use Rattle.strm_machine.specs.Refusals.{refusal}
 use Rattle.strm_machine.specs.Reactions.{Reaction, goes, transfers, lowers, performs}
-use Rattle.strm_machine.specs.Soundness.{IsSound}
+use Rattle.strm_machine.specs.Soundness.{IsSound, own_sizes_of}
 use Rattle.strm_machine.specs.declared.acts.NamedEnd.{NamedEnd}
 use Rattle.strm_machine.specs.declared.acts.Act.{Act}
 use Rattle.strm_machine.specs.declared.acts.Act.TheVariants.{Transfer, OnLoose}
@@ -27,7 +27,6 @@ use Rattle.strm_machine.proofs.HostLemmas.{no_host}
 use Rattle.strm_machine.proofs.ReactionLemmas.{reaction-performs}
 use Rattle.strm_machine.proofs.RefusalLemmas.{move_fits, lower_fits, close_fits}
 use Rattle.strm_machine.proofs.SoundLemmas.{IsSound-set, IsSound-freed, own_sizes_of-with_table, own_sizes_of-with_handles}
-use Rattle.strm_machine.proofs.TurnLemmas.{own_sizes_of}
 use Rattle.strm_machine.proofs.SoundStepLemmas.{reaction-sound}
 use Rattle.strm_channels.specs.Changes.{AddsHandle, FreesHandle, MovesEnd}
 use Rattle.strm_channels.specs.Guests.{guests_of, live_in, sets_among, without_handle_in, with_end_in}

@@ -13,13 +13,12 @@ use Rattle.strm_machine.specs.State.{Guest, State, no_guest, guest_in, sets_in, 
 use Rattle.strm_machine.specs.Tests.{end_named}
 use Rattle.strm_machine.specs.WaitableSets.{set_named, number_named, has_some, has_member, is_ready, ready_member, sets_changed}
 use Rattle.strm_machine.specs.Refusals.{slot_reasons, joined_reasons, first_of, refusal}
-use Rattle.strm_machine.specs.Soundness.{IsSound}
+use Rattle.strm_machine.specs.Soundness.{IsSound, own_sizes_of}
 use Rattle.strm_machine.specs.declared.acts.Act.TheVariants.{Make, OnSet}
 use Rattle.strm_machine.specs.declared.acts.Making.TheVariants.{Set}
 use Rattle.strm_machine.specs.declared.acts.SetAct.TheVariants.{Join, Drop}
 use Rattle.strm_machine.proofs.RefusalLemmas.{none_of_both}
 use Rattle.strm_machine.proofs.SoundLemmas.{own_sizes_of-with_table}
-use Rattle.strm_machine.proofs.TurnLemmas.{own_sizes_of}
 use Rattle.strm_machine.proofs.SetStepLemmas.{set_fits, on_set_fits, set_found, set_drop_fits, ready_member-least, ready_member-none}
 use Rattle.strm_machine.proofs.SoundStepLemmas.{on_set-sound, with_set-sound}
 use Rattle.strm_channels.specs.Guests.{guests_of, live_in, sets_among, with_set_in, without_set_in}

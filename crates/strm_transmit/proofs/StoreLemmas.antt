@@ -17,11 +17,11 @@ use Rattle.strm_memory.specs.Bytes.{put_at}
 use Rattle.strm_memory.specs.Linear.{LinearMemory, untold, of_engine, lent_at, told_at, own_part}
 use Rattle.strm_waitable_sets.specs.Sets.{Sets, no_sets, is_member}
 use Rattle.strm_error_contexts.specs.Contexts.{len as contexts_there}
-use Rattle.strm_machine.specs.State.{State, guest_in, no_guest, sets_in, no_stream, stream_at, memory_in, with_memory, with_sets, with_table, is_live, handles_in_use, sets_in_use, bytes_in_use, own_size}
+use Rattle.strm_machine.specs.State.{State, guest_in, no_guest, sets_in, no_stream, stream_at, memory_in, with_memory, with_sets, with_table, is_live, handles_in_use, sets_in_use, bytes_in_use, own_size, memory_limit}
 use Rattle.strm_machine.specs.Bases.{base_in, is_lent_in, with_base, with_base_in}
 use Rattle.strm_machine.proofs.BaseLemmas.{with_base-keeps}
 use Rattle.std.specs.Ptr.{Ptr}
-use Rattle.strm_machine.specs.Soundness.{IsSound, handles_of}
+use Rattle.strm_machine.specs.Soundness.{IsSound, handles_of, own_sizes_of}
 use Rattle.strm_machine.specs.Growth.{with_guest_at, grown, moved_to, MayGrow}
 use Rattle.strm_machine.proofs.GrowthLemmas.{GuestAtFits, IsSound-grown, own-grown, handles-grown, sets-grown, begins_more}
 use Rattle.strm_machine.specs.Tests.{are_places_full}
@@ -34,7 +34,7 @@ use Rattle.strm_machine.specs.declared.replies.Reply.TheVariants as replies
 use Rattle.strm_machine.proofs.RefusalLemmas.{BytesFit, guest_fits, poke_fits}
 use Rattle.strm_machine.proofs.SoundLemmas.{IsSound-guest, IsSound-guests, IsSound-turn}
 use Rattle.strm_machine.proofs.BoundLemmas.{length-poked}
-use Rattle.strm_machine.proofs.TurnLemmas.{GuestsKeep, TurnKeeps, all_kept, with_memory-keeps, sets_of, own_sizes_of}
+use Rattle.strm_machine.proofs.TurnLemmas.{GuestsKeep, TurnKeeps, all_kept, with_memory-keeps, sets_of}
 use Rattle.strm_channels.specs.Guests.{guest_of, guests_of, with_linear, live_in, sets_among}
 use Rattle.strm_transmit.specs.Inside.{state_of, AreServed, HavePlaces, IsStore}
 use Rattle.strm_transmit.specs.Places.{ArePlaces}
