@@ -62,8 +62,8 @@ fn tuple_of(fields: &[Scalar]) -> Option<Payload>
     Shape::new(fields).map(Payload::Tuple)
 }
 
-// The tuple whose fields a word has, four bits each.
-
+// The tuple whose fields a word has, four bits each. Cold, so that other payloads have the straight way.
+#[cold]
 fn tuple_at(word: u64) -> Option<Payload>
     ensures { result ≡ tuple_with (fields_at 8 word) }
 {

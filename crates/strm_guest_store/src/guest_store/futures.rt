@@ -22,6 +22,7 @@ use strm_transmit::errors::StoreError;
 #[tactic(auto, using(crate::proofs::AmongLemmas::plain_among, crate::proofs::BaseLemmas::plain_stays))]
 impl GuestStore {
     /// Writes the value that lies at an address of the guest's memory. `canon future.write`.
+    #[inline(always)]
     pub fn future_write(
         &mut self,
         guest: u32,
@@ -39,6 +40,7 @@ impl GuestStore {
     }
 
     /// Reads the value to an address of the guest's memory. `canon future.read`.
+    #[inline(always)]
     pub fn future_read(
         &mut self,
         guest: u32,

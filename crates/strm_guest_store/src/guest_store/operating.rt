@@ -37,7 +37,7 @@ impl GuestStore {
     }
 
     // Why one was not done: of an item that is none, whose it is.
-    #[inline(never)]
+    #[inline(always)]
     fn why_not(
         &self,
         error: StoreError,
@@ -51,9 +51,29 @@ impl GuestStore {
         requires memory { error ≢ StoreError.OutOfMemory }
         ensures { MeetsOrTells self.now self.now (Err result) (operation_step side end.now address count) }
     {
+        self.why_not_apart(error, side, *end, address, count)
+    }
+
+    // The same, apart from the code of what is done. It takes the end by value, so that where numbers move the
+    // end lies in registers; `why_not` is inlined, so that the end is copied only there.
+    #[cold]
+    #[inline(never)]
+    fn why_not_apart(
+        &self,
+        error: StoreError,
+        side: Side,
+        end: NamedEnd,
+        address: u32,
+        count: u32,
+    ) -> OperateError
+        requires meets { MeetsOrStays self.now self.now (Err error)
+            (react self.now (operation_step side end address count)) }
+        requires memory { error ≢ StoreError.OutOfMemory }
+        ensures { MeetsOrTells self.now self.now (Err result) (operation_step side end address count) }
+    {
         match error {
             StoreError::Refused(refusal) => OperateError::Refused(refusal),
-            StoreError::BadItem { .. } => match self.store.bad_item(side, end, address, count) {
+            StoreError::BadItem { .. } => match self.store.bad_item(side, &end, address, count) {
                 Some(item) => OperateError::BadItem(item),
                 None => unreachable!(),
             },

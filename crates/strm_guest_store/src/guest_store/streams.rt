@@ -23,6 +23,7 @@ use strm_transmit::errors::StoreError;
 impl GuestStore {
     /// Writes items from an address of the guest's memory on. `canon stream.write`. Items of a write that
     /// waits are read from the memory when they move.
+    #[inline(always)]
     pub fn stream_write(
         &mut self,
         guest: u32,
@@ -41,6 +42,7 @@ impl GuestStore {
     }
 
     /// Reads items to an address of the guest's memory on. `canon stream.read`.
+    #[inline(always)]
     pub fn stream_read(
         &mut self,
         guest: u32,
