@@ -2,7 +2,8 @@
 //! `strm_transmit`: reads, writes and events of two ends, which are made and dropped. Handles and places that
 //! are free stand in lists, and are given again.
 //!
-//! `rounds.rs`, `shared.rs` and `embed/bench` use it.
+//! `rounds.rs`, `shared.rs`, `chain.rs`, `generated.rs` and `embed/bench` use it; the last has a store beside it that
+//! keeps all that the interface for C asks for.
 
 #[derive(Clone, Copy, PartialEq, Eq)]
 #[allow(dead_code)]

@@ -1,20 +1,20 @@
-//! A write, a read and an event of some bytes, and a stream that is made and dropped, through the proved
-//! library and by plain Rust: the store of `bench/store.rs`, which makes the same tests without proofs. Both run
-//! in turn in this process, on one thread, whose processor time is taken; what is told is the median of 61 runs
-//! of each. What a runtime knows only when it runs, as the payload, the compiler does not see in either; and all
-//! memories are written before, since pages that were never written are all one page, which is read faster.
+//! A write, a read and an event of some bytes, and a stream that is made and dropped: by the calls of the archive, and
+//! by the same of `bench::plain`; through the crate for Rust, and by `bench::bare`, which is compiled with its caller.
+//! All run in turn in this process, on one thread, whose processor time is taken; what is told is the median of 61 runs
+//! of each. What a runtime knows only when it runs, as the payload, the compiler does not see in any; and all memories
+//! are written before, since pages that were never written are all one page, which is read faster.
+//!
+//! With the words `round N` or `make N` it makes so many rounds by the archive's calls alone, for what counts
+//! instructions.
 
-#[allow(dead_code, clippy::too_many_arguments)]
-#[rustfmt::skip]
-#[path = "../../../bench/store.rs"]
-mod plain;
-
+use bench::rounds::{done, repeat, wrote, Bare, Plain, Rounds, MEMORY, U8};
+use std::env::args;
 use std::hint::black_box;
+use std::slice;
 use strm::{Error, Guest, Limits, Pair, Payload, Store, Type};
+use strm_sys as sys;
 
-const MEMORY: u32 = 1 << 20;
 const RUNS: usize = 61;
-const BYTES: plain::Payload = plain::Payload::One(plain::Scalar::U8);
 
 #[repr(C)]
 struct Time {
@@ -37,6 +37,72 @@ fn spent() -> i64 {
     time.seconds * 1_000_000_000 + time.nanoseconds
 }
 
+/// The archive, by its calls.
+struct Archive {
+    store: sys::StoreHandle,
+    writer: u32,
+    reader: u32,
+    pair: sys::Pair,
+    payload: u64,
+}
+
+// SAFETY, of each call below: the handle is of a store, which is this value's alone, and what is lent is the function's
+// own.
+impl Archive {
+    fn new() -> Result<Archive, u32> {
+        let mut store = sys::StoreHandle::NONE;
+        done(unsafe { sys::strm_store_new(&mut store, 0, 1_000_000, 1_000_000) })?;
+        let writer = wrote(|out| unsafe { sys::strm_add_guest(&mut store, MEMORY, out) })?;
+        let reader = wrote(|out| unsafe { sys::strm_add_guest(&mut store, MEMORY, out) })?;
+        for guest in [writer, reader] {
+            let (mut at, mut len) = (std::ptr::null_mut(), 0);
+            done(unsafe { sys::strm_memory_at(&mut store, guest, &mut at, &mut len) })?;
+            unsafe { slice::from_raw_parts_mut(at, len) }.fill(1);
+        }
+        let pair = wrote(|out| unsafe { sys::strm_new_between(&mut store, writer, reader, U8, out) })?;
+        Ok(black_box(Archive {
+            store,
+            writer,
+            reader,
+            pair,
+            payload: U8,
+        }))
+    }
+
+    fn try_round(&mut self, address: u32, count: u32) -> Result<(), u32> {
+        let (store, bytes) = (&mut self.store, self.payload);
+        let sys::Pair { read, write, .. } = self.pair;
+        let written = wrote(|out| unsafe {
+            sys::strm_stream_write(store, self.writer, bytes, write, address, count, out)
+        })?;
+        let received = wrote(|out| unsafe {
+            sys::strm_stream_read(store, self.reader, bytes, read, address, count, out)
+        })?;
+        let told = wrote(|out| unsafe { sys::strm_take_event(store, self.writer, write, out) })?;
+        black_box((written, received, told));
+        Ok(())
+    }
+
+    fn try_make_and_drop(&mut self) -> Result<(), u32> {
+        let (store, bytes) = (&mut self.store, self.payload);
+        let made =
+            wrote(|out| unsafe { sys::strm_new_between(store, self.writer, self.reader, bytes, out) })?;
+        done(unsafe { sys::strm_stream_drop_writable(store, self.writer, bytes, made.write) })?;
+        done(unsafe { sys::strm_stream_drop_readable(store, self.reader, bytes, made.read) })
+    }
+}
+
+impl Rounds for Archive {
+    fn round(&mut self, address: u32, count: u32) {
+        self.try_round(address, count).expect("no refusal");
+    }
+
+    fn make_and_drop(&mut self) {
+        self.try_make_and_drop().expect("no refusal");
+    }
+}
+
+/// The archive, through the crate.
 struct Proved {
     store: Store,
     writer: Guest,
@@ -62,7 +128,7 @@ impl Proved {
         })
     }
 
-    fn round(&mut self, address: u32, count: u32) -> Result<(), Error> {
+    fn try_round(&mut self, address: u32, count: u32) -> Result<(), Error> {
         let written = self
             .store
             .stream_write(self.writer, self.payload, self.pair.write, address, count)?;
@@ -74,7 +140,7 @@ impl Proved {
         Ok(())
     }
 
-    fn make_and_drop(&mut self) -> Result<(), Error> {
+    fn try_make_and_drop(&mut self) -> Result<(), Error> {
         let ty = Type::Stream(self.payload);
         let pair = self.store.new_between(self.writer, self.reader, ty)?;
         self.store
@@ -84,60 +150,22 @@ impl Proved {
     }
 }
 
-struct Plain {
-    store: plain::Store,
-    read: u32,
-    write: u32,
-    payload: plain::Payload,
-}
-
-impl Plain {
-    fn new() -> Plain {
-        let mut store = plain::Store::new();
-        store.add_guest(MEMORY as usize);
-        store.add_guest(MEMORY as usize);
-        for guest in &mut store.guests {
-            guest.memory.fill(1);
-        }
-        let payload = black_box(BYTES);
-        let (read, write) = store.new_between(0, 1, plain::Kind::Stream, payload);
-        Plain {
-            store,
-            read,
-            write,
-            payload,
-        }
+impl Rounds for Proved {
+    fn round(&mut self, address: u32, count: u32) {
+        self.try_round(address, count).expect("no refusal");
     }
 
-    fn round(&mut self, address: u32, count: u32) -> Result<(), plain::Refusal> {
-        let (writing, reading) = (plain::Side::Writing, plain::Side::Reading);
-        let stream = plain::Kind::Stream;
-        let written = self
-            .store
-            .operate(writing, 0, stream, self.payload, self.write, address, count)?;
-        let read = self
-            .store
-            .operate(reading, 1, stream, self.payload, self.read, address, count)?;
-        let told = self.store.take_event(0, self.write)?;
-        black_box((written.encode(), read.encode(), told.map(plain::Code::encode)));
-        Ok(())
-    }
-
-    fn make_and_drop(&mut self) -> Result<(), plain::Refusal> {
-        let (writing, reading) = (plain::Side::Writing, plain::Side::Reading);
-        let stream = plain::Kind::Stream;
-        self.store.may_make(0, 1)?;
-        let (read, write) = self.store.new_between(0, 1, stream, self.payload);
-        self.store.drop_end(writing, 0, stream, self.payload, write)?;
-        self.store.drop_end(reading, 1, stream, self.payload, read)
+    fn make_and_drop(&mut self) {
+        self.try_make_and_drop().expect("no refusal");
     }
 }
 
-// Nanoseconds of one round, of so many.
-fn timed(rounds: u32, mut round: impl FnMut(u32)) -> f64 {
+// Nanoseconds of one round, of so many: of so many items, or of a stream that is made and dropped.
+fn timed(store: &mut impl Rounds, rounds: u32, count: Option<u32>) -> f64 {
     let from = spent();
-    for k in 0..rounds {
-        round(black_box(k % 4096 * 8));
+    match count {
+        Some(count) => (0..rounds).for_each(|k| store.round(black_box(k % 4096 * 8), black_box(count))),
+        None => (0..rounds).for_each(|_| store.make_and_drop()),
     }
     (spent() - from) as f64 / f64::from(rounds)
 }
@@ -147,35 +175,47 @@ fn median(mut figures: Vec<f64>) -> f64 {
     figures[figures.len() / 2]
 }
 
-// Tells the medians of both, of so many rounds at a time.
-fn compare(name: &str, rounds: u32, mut ours: impl FnMut(u32), mut theirs: impl FnMut(u32)) {
-    let mut figures = (Vec::new(), Vec::new());
-    for _ in 0..RUNS {
-        figures.0.push(timed(rounds, &mut ours));
-        figures.1.push(timed(rounds, &mut theirs));
+// The four that are compared.
+struct All {
+    archive: Archive,
+    plain: Plain,
+    proved: Proved,
+    bare: Bare,
+}
+
+impl All {
+    // Tells the medians, of so many rounds at a time: of the archive beside the store that keeps as much, both by their
+    // calls, and of the crate beside the bare store.
+    fn compare(&mut self, name: &str, rounds: u32, count: Option<u32>) {
+        let mut figures = [const { Vec::new() }; 4];
+        for _ in 0..RUNS {
+            figures[0].push(timed(&mut self.archive, rounds, count));
+            figures[1].push(timed(&mut self.plain, rounds, count));
+            figures[2].push(timed(&mut self.proved, rounds, count));
+            figures[3].push(timed(&mut self.bare, rounds, count));
+        }
+        let [archive, plain, proved, bare] = figures.map(median);
+        let (by_calls, by_crate) = (archive / plain, proved / bare);
+        println!("{name}: {archive:.1} ns, plain Rust {plain:.1} ns, {by_calls:.2} times");
+        println!("    through the crate {proved:.1} ns, bare plain Rust {bare:.1} ns, {by_crate:.2} times");
     }
-    let (ours, theirs) = (median(figures.0), median(figures.1));
-    println!(
-        "{name}: {ours:.1} ns, plain Rust {theirs:.1} ns, {:.2} times",
-        ours / theirs
-    );
 }
 
 fn main() -> Result<(), Error> {
-    let (mut proved, mut plain) = (Proved::new()?, Plain::new());
-    for (count, rounds) in [(8, 100_000), (64, 100_000), (4096, 30_000), (65536, 3_000)] {
-        compare(
-            &format!("{count} bytes"),
-            rounds,
-            |at| proved.round(at, black_box(count)).expect("no refusal"),
-            |at| plain.round(at, black_box(count)).expect("no refusal"),
-        );
+    let mut archive = Archive::new().expect("no refusal");
+    if let [what, rounds] = &args().skip(1).collect::<Vec<_>>()[..] {
+        repeat(&mut archive, what, rounds.parse().expect("no number"));
+        return Ok(());
     }
-    compare(
-        "a stream made and dropped",
-        10_000,
-        |_| proved.make_and_drop().expect("no refusal"),
-        |_| plain.make_and_drop().expect("no refusal"),
-    );
+    let mut all = All {
+        archive,
+        plain: Plain::new().expect("no refusal"),
+        proved: Proved::new()?,
+        bare: Bare::default(),
+    };
+    for (count, rounds) in [(8, 100_000), (64, 100_000), (4096, 30_000), (65536, 3_000)] {
+        all.compare(&format!("{count} bytes"), rounds, Some(count));
+    }
+    all.compare("a stream made and dropped", 10_000, None);
     Ok(())
 }
