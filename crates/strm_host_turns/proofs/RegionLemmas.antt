@@ -13,7 +13,7 @@ use Rattle.strm_buffers.specs.Tells.{Fills}
 use Rattle.strm_machine.specs.State.{Guest, memory_in, with_memory}
 use Rattle.strm_machine.specs.declared.streams.Operation.{Operation}
 use Rattle.strm_machine.proofs.StateLemmas.{with_memory-same}
-use Rattle.strm_memory.specs.Linear.{LinearMemory, untold}
+use Rattle.strm_memory.specs.Linear.{untold}
 use Rattle.strm_machine.proofs.CarryLemmas.{no_scalars}
 use Rattle.strm_channels.specs.Guests.{linear_in, with_linear}
 use Rattle.strm_channels.proofs.GuestLemmas.{with_linear-twice}
