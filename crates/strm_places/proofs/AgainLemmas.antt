@@ -257,6 +257,7 @@ module _ (state : State) (n : ℕ) (gone : is_live (stream_at state n) ≡ false
             (sound.named g d lt i e li));
         placed = All-set (StreamIsPlaced (sizes_of state.guests)) state.streams n (blank ty) (record { writer = tt; reader = tt }) sound.placed;
         small = sound.small;
+        own = sound.own;
         sets = sound.sets;
         contexts = sound.contexts;
       }
