@@ -1,12 +1,11 @@
 -- The store after a stream was made in the place of one that is gone.
-use Rattle.std.proofs.Common.{◌≡◌, ℕ, true, false, ◌+◌, ◌<◌, ◌≤◌, ◌||◌, length, set, Option, Some, None, Result, Ok, Err, refl, sym, ap, ◌∙◌, subst, arith}
+use Rattle.std.proofs.Common.{◌≡◌, ℕ, true, false, ◌+◌, ◌≤◌, ◌||◌, length, set, Some, None, Result, Ok, Err, refl, sym, ap, ◌∙◌, subst, arith}
 use Rattle.std.proofs.lemmas.List.{get_or-set_same, length-set}
 use Rattle.strm_codes.specs.declared.codes.TransmitIndex.{TransmitIndex}
 use Rattle.strm_codes.specs.declared.refusals.Refusal.{Refusal}
 use Rattle.strm_handles.specs.Counters.{Counter, counted}
-use Rattle.strm_machine.specs.State as machine
 use Rattle.strm_handles.specs.Handles.{next_index}
-use Rattle.strm_machine.specs.State.{State, guest_in, no_stream, is_live, is_host, producer_at, consumer_at, places_in_use}
+use Rattle.strm_machine.specs.State.{State, guest_in, no_stream, producer_at, consumer_at, places_in_use}
 use Rattle.strm_machine.specs.Soundness.{IsSound, own_sizes_of}
 use Rattle.strm_machine.specs.Sides.{end_of}
 use Rattle.strm_machine.specs.Making.{with_ends, made_stream, writer_index}
@@ -20,8 +19,6 @@ use Rattle.strm_machine.specs.declared.replies.Pair.{Pair}
 use Rattle.strm_machine.specs.declared.replies.Reply.{Reply}
 use Rattle.strm_machine.specs.declared.replies.Reply.TheVariants as replies
 use Rattle.strm_machine.specs.declared.streams.Duty.TheVariants.{Serves}
-use Rattle.strm_machine.specs.declared.streams.Side.{Side}
-use Rattle.strm_machine.specs.declared.streams.Side.TheVariants.{Writing, Reading}
 use Rattle.strm_machine.specs.declared.streams.Stream.{Stream}
 use Rattle.strm_machine.proofs.HeldLemmas.{StateIsHeld}
 use Rattle.strm_machine.proofs.HostLemmas.{no_host}
@@ -33,7 +30,7 @@ use Rattle.strm_places.proofs.AgainLemmas.{put-again, performs_at-behind, reacti
 use Rattle.strm_transmit.specs.Again.{MeetsAt, GrowsFull}
 use Rattle.strm_transmit.specs.Guests.{nobody}
 use Rattle.strm_transmit.specs.Hosted.{StillFits}
-use Rattle.strm_transmit.specs.Inside.{state_of, AreServed, HavePlaces, IsStore}
+use Rattle.strm_transmit.specs.Inside.{state_of, HavePlaces, IsStore}
 use Rattle.strm_transmit.specs.Meets.{Meets, admitted, or_found}
 use Rattle.strm_transmit.specs.Places.{IsGone, ArePlaces}
 use Rattle.strm_transmit.specs.declared.errors.StoreError.{StoreError}

@@ -19,7 +19,7 @@ use Rattle.strm_machine.specs.State.{State, Guest, no_stream, stream_at, is_gone
 use Rattle.strm_machine.specs.Acts.{act_of}
 use Rattle.strm_machine.specs.Asked.{HasBadItem}
 use Rattle.strm_machine.specs.Meetings.{begun}
-use Rattle.strm_machine.specs.Operating.{Operated, waits, moves, completes_alone, rendezvous_by, finds, operate}
+use Rattle.strm_machine.specs.Operating.{Operated, moves, completes_alone, rendezvous_by, finds, operate}
 use Rattle.strm_machine.specs.Reactions.{Reaction, goes, written_back, on_stream, reaction}
 use Rattle.strm_machine.specs.Refusals.{refusal}
 use Rattle.strm_machine.specs.Sides.{opposite, same_side, end_of, write_of}
@@ -39,7 +39,6 @@ use Rattle.strm_machine.specs.declared.streams.Owner.TheVariants.{Held}
 use Rattle.strm_machine.specs.declared.streams.Side.{Side}
 use Rattle.strm_machine.specs.declared.streams.Side.TheVariants.{Writing, Reading}
 use Rattle.strm_machine.specs.declared.streams.Stream.{Stream}
-use Rattle.strm_machine.proofs.BoundLemmas.{within}
 use Rattle.strm_machine.proofs.CarryLemmas.{no_scalars}
 use Rattle.strm_machine.proofs.HeldLemmas.{StateIsHeld}
 use Rattle.strm_machine.proofs.ReactionLemmas.{reaction-trapped, reaction-refused, refusal-on_end}

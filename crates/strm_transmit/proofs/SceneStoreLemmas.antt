@@ -1,5 +1,5 @@
 -- The store after a host end had its turn.
-use Rattle.std.proofs.Common.{◌≡◌, ℕ, ◌<◌, Bool, true, false, cond, List, length, get_or, set, refl, sym, ap, ◌∙◌, subst, inl, inr, arith}
+use Rattle.std.proofs.Common.{◌≡◌, ℕ, ◌<◌, Bool, true, false, cond, List, length, set, refl, sym, ap, ◌∙◌, subst, inl, inr}
 use Rattle.std.proofs.lemmas.List.{length-set, get_or-set_same}
 use Rattle.strm_machine.specs.State.{Guest, State, no_stream, guest_in, stream_at, producer_at, consumer_at, is_held}
 use Rattle.strm_machine.specs.Hosting.{duty_among}

@@ -64,16 +64,16 @@ guests_of-push guests g = map-append guest_of guests (g ∷ [])
 -- ## One guest more
 
 -- one guest more, with this memory of so many bytes; those that an engine lent do not count
-pub record AddsGuest (old new : Inside) (g : ours.Guest) (memory : LinearMemory) (size : ℕ) : Type 0 where
+pub record AddsGuest (old new : Inside) (g : ours.Guest) (linear : LinearMemory) (size : ℕ) : Type 0 where
   pub same : SameBut old new
   pub counter : new.counter ≡ old.counter
   pub streams : new.streams ≡ old.streams
   pub places : new.places ≡ old.places
   pub live_sets : new.live_sets ≡ old.live_sets
   pub guests : new.guests.items ≡ old.guests.items ++ g ∷ []
-  pub bytes : new.bytes ≡ old.bytes + own_part memory.base size
-  pub many : length memory.bytes ≡ size
-  pub memory : g.memory ≡ memory
+  pub bytes : new.bytes ≡ old.bytes + own_part linear.base size
+  pub many : length linear.bytes ≡ size
+  pub memory : g.memory ≡ linear
   pub handles : g.table.handles ≡ no_handles
   pub sets : g.sets ≡ no_sets
   pub ready : new.ready ≡ old.ready
@@ -290,6 +290,7 @@ IsSound-same a b g s c h = record {
   named = rw (g, s) h.named;
   placed = rw (g, s) h.placed;
   small = rw g h.small;
+  own = rw g h.own;
   sets = rw g h.sets;
   contexts = rw (g, c) h.contexts;
 }
@@ -334,6 +335,11 @@ pub record PutsGuests (old new : Inside) (put : List machine.Guest) : Type 0 whe
   pub ready : new.ready ≡ old.ready
   pub guests : guests_of new.guests.items ≡ put
 
+-- the state then
+pub guests-state : (old new : Inside) (guests : List machine.Guest) → PutsGuests old new guests → state_of new ≡ record (state_of old) { guests = guests }
+guests-state old new guests h =
+    rw (h.same.tag, h.same.limits, h.same.producers, h.same.kept, h.same.consumers, h.same.contexts, h.same.trapped, h.streams, h.guests) refl
+
 -- other bytes in the memory of a guest
 abbrev pub PutsMemory : Inside → Inside → ℕ → List ℕ → Type 0
 PutsMemory old new g memory = PutsGuests old new (with_memory (guests_of old.guests.items) g memory)
@@ -341,11 +347,6 @@ PutsMemory old new g memory = PutsGuests old new (with_memory (guests_of old.gue
 -- the state then
 pub puts-state : (old new : Inside) (g : ℕ) (memory : List ℕ) → PutsMemory old new g memory → state_of new ≡ record (state_of old) { guests = with_memory (guests_of old.guests.items) g memory }
 puts-state old new g memory h = guests-state old new _ h
-
--- the state then, whatever was put
-pub guests-state : (old new : Inside) (guests : List machine.Guest) → PutsGuests old new guests → state_of new ≡ record (state_of old) { guests = guests }
-guests-state old new guests h =
-    rw (h.same.tag, h.same.limits, h.same.producers, h.same.kept, h.same.consumers, h.same.contexts, h.same.trapped, h.streams, h.guests) refl
 
 -- somebody was told where the memory of a guest lies
 abbrev pub TellsBase : Inside → Inside → ℕ → Ptr → Type 0

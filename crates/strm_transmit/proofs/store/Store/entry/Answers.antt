@@ -1,5 +1,5 @@
 -- The guest's table is the machine's, and a sound state names what its handles stand for.
-use Rattle.std.proofs.Common.{◌≡◌, length, ap, sym, ◌∙◌, arith}
+use Rattle.std.proofs.Common.{ap, sym, ◌∙◌, arith}
 use Rattle.std.proofs.lemmas.List.{length-map}
 use Rattle.strm_handles.specs.Handles.{entry_at}
 use Rattle.strm_machine.specs.State.{Guest}

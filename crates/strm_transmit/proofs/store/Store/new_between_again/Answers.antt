@@ -2,7 +2,7 @@ use Rattle.strm_machine.specs.declared.replies.Reply.TheVariants as replies
 use Rattle.strm_host_turns.proofs.WriterTurnLemmas.{handed_on}
 use Rattle.strm_transmit.specs.Meets.{as_reply}
 use Rattle.strm_transmit.proofs.StepLemmas.{is_admitted}
-use Rattle.strm_transmit.proofs.AgainLemmas.{again_admitted, again_not_admitted, again_fits, grows_not}
+use Rattle.strm_transmit.proofs.AgainLemmas.{again_admitted, again_not_admitted, again_fits}
 use Rattle.strm_transmit.proofs.store.Store.new_between_again.Goals as goal
 
 pub make_again-made-requires-clause-may : goal.make_again-made-requires-clause-may

@@ -6,9 +6,9 @@ use Rattle.strm_machine.proofs.GrowthLemmas.{guest_at_fits}
 use Rattle.strm_transmit.proofs.StoreLemmas.{IsStore-guest, adds-guest_at, own_within}
 use Rattle.strm_transmit.proofs.store.Store.push_guest_at.Goals as goal
 
-pub invariant_of-self : goal.invariant_of-self
-invariant_of-self c =
-    IsStore-guest c.self.inside _ (record { memory = c.lent.result; table = c.new.result; sets = c.new-2.result }) (of_engine c.args.bytes.items (vec_ptr c.args.bytes)) (length c.args.bytes.items)
+pub invariant_of-self-2 : goal.invariant_of-self-2
+invariant_of-self-2 c =
+    IsStore-guest c.self.inside (record c.self.inside { guests = c.push_reserved.new.self }) (record { memory = c.lent-memory.result; table = c.new.result; sets = c.new-2.result }) (of_engine c.args.bytes.items (vec_ptr c.args.bytes)) (length c.args.bytes.items)
     (record {
       same = record { tag = refl; limits = refl; producers = refl; kept = refl; consumers = refl; contexts = refl; trapped = refl };
       counter = refl;
@@ -18,7 +18,7 @@ invariant_of-self c =
       guests = c.push_reserved.ensures.items ∙ rw c.in_ok-reserve.ensures.items refl;
       bytes = omega arith;
       many = refl;
-      memory = c.lent.ensures;
+      memory = c.lent-memory.ensures;
       handles = c.new.ensures.empty;
       sets = c.new-2.ensures;
       ready = refl;
@@ -29,7 +29,7 @@ invariant_of-self c =
 pub returns : goal.returns
 returns c =
     rw (← c.self.view_is)
-    (adds-guest_at c.self.inside (record c.self.inside { guests = c.push_reserved.new.self }) (record { memory = c.lent.result; table = c.new.result; sets = c.new-2.result }) c.args.bytes.items (vec_ptr c.args.bytes) (length c.args.bytes.items) c.len-number.result
+    (adds-guest_at c.self.inside (record c.self.inside { guests = c.push_reserved.new.self }) (record { memory = c.lent-memory.result; table = c.new.result; sets = c.new-2.result }) c.args.bytes.items (vec_ptr c.args.bytes) (length c.args.bytes.items) c.len-number.result
     (record {
       same = record { tag = refl; limits = refl; producers = refl; kept = refl; consumers = refl; contexts = refl; trapped = refl };
       counter = refl;
@@ -39,7 +39,7 @@ returns c =
       guests = c.push_reserved.ensures.items ∙ rw c.in_ok-reserve.ensures.items refl;
       bytes = omega arith;
       many = refl;
-      memory = c.lent.ensures;
+      memory = c.lent-memory.ensures;
       handles = c.new.ensures.empty;
       sets = c.new-2.ensures;
       ready = refl;

@@ -1,4 +1,4 @@
-use Rattle.std.proofs.Common.{◌≡◌, ◌≤◌, ◌<◌, length, ◌∙◌, sym, arith}
+use Rattle.std.proofs.Common.{◌∙◌, sym, arith}
 use Rattle.strm_transmit.proofs.QueryLemmas.{free_further, next_none, next_found}
 use Rattle.strm_transmit.proofs.store.queries.next_above.Goals as goal
 
