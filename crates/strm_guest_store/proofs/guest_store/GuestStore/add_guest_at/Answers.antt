@@ -11,4 +11,5 @@ invariant_of-self c =
 
 pub returns-clause-stays : goal.returns-clause-stays
 returns-clause-stays c =
-    added_stays c.self.inside.store c.add_guest_at.new.self (as_reply replies.Number c.add_guest_at.result) c.args.bytes.items (vec_ptr c.args.bytes) c.add_guest_at.ensures.meets
+    rw (← c.self.view_is)
+    (added_stays c.self.inside.store c.add_guest_at.new.self (as_reply replies.Number c.add_guest_at.result) c.args.bytes.items (vec_ptr c.args.bytes) c.add_guest_at.ensures.meets)

@@ -8,11 +8,14 @@ use Rattle.strm_guest_store.proofs.guest_store.GuestStore.memory_grown.Goals as 
 
 pub invariant_of-self : goal.invariant_of-self
 invariant_of-self c =
-    let old = c.self.inside.store in
+    let there = rw (← c.self.view_is) at c.requires.there in
+    let lent = rw (← c.self.view_is) at c.requires.lent in
+    let small = rw (← c.self.view_is) at c.requires.small in
     subst IsAmongGuests (sym c.memory_grown.ensures)
-    (grown_among old c.args.guest c.args.more.items c.self.invariant (record { there = c.requires.there; lent = c.requires.lent; small = c.requires.small }))
+    (grown_among c.self.inside.store c.args.guest c.args.more.items c.self.invariant (record { there = there; lent = lent; small = small }))
 
 pub returns-clause-stays : goal.returns-clause-stays
 returns-clause-stays c =
     let old = c.self.inside.store in
-    subst (λ (s : State). BasesStay old.guests s.guests) (sym c.memory_grown.ensures) (grown_stays old c.args.guest c.args.more.items)
+    rw (← c.self.view_is)
+    (subst (λ (s : State). BasesStay old.guests s.guests) (sym c.memory_grown.ensures) (grown_stays old c.args.guest c.args.more.items))

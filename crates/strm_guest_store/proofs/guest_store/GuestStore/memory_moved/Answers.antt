@@ -11,10 +11,14 @@ use Rattle.strm_guest_store.proofs.guest_store.GuestStore.memory_moved.Goals as 
 pub invariant_of-self : goal.invariant_of-self
 invariant_of-self c =
     let old = c.self.inside.store in
+    let there = rw (← c.self.view_is) at c.requires.there in
+    let lent = rw (← c.self.view_is) at c.requires.lent in
+    let begins = rw (← c.self.view_is) at c.requires.begins in
     subst IsAmongGuests (sym c.memory_moved.ensures.moved)
-    (moved_among old c.args.guest _ (vec_ptr c.args.bytes) c.self.invariant (may_grow old c.args.guest c.args.bytes.items c.requires.there c.requires.lent c.requires.begins c.requires.small))
+    (moved_among old c.args.guest _ (vec_ptr c.args.bytes) c.self.invariant (may_grow old c.args.guest c.args.bytes.items there lent begins c.requires.small))
 
 pub returns-clause-stays : goal.returns-clause-stays
 returns-clause-stays c =
     let old = c.self.inside.store in
-    subst (λ (s : State). BasesStayBut c.args.guest old.guests s.guests) (sym c.memory_moved.ensures.moved) (moved_stays old c.args.guest _ (vec_ptr c.args.bytes))
+    rw (← c.self.view_is)
+    (subst (λ (s : State). BasesStayBut c.args.guest old.guests s.guests) (sym c.memory_moved.ensures.moved) (moved_stays old c.args.guest _ (vec_ptr c.args.bytes)))
