@@ -146,6 +146,7 @@ pub extern "C" fn strm_memory_read(
 fn len_of(store: &GuestStore, guest: u32) -> Option<usize>
     ensures there { IsSome result ↔ (guest < length store.now.guests) }
     ensures len { IfSome result (λ len. len ≡ length (memory_in store.now.guests guest)) }
+    ensures small { IfSome result (λ len. len < 9223372036854775808) }
 {
     match store.memory(guest) {
         Some(memory) => Some(memory.len()),
