@@ -44,7 +44,7 @@ int main(void) {
     long before = resident();
     must(strm_add_guest_at(&store, from, wide, &writer));
     must(strm_add_guest_at(&store, to, PAGE, &reader));
-    printf("a guest of %zu bytes is %s\n", wide, resident() - before < (long)PAGE ? "not there yet" : "there");
+    printf("a guest of %zu bytes is %s\n", wide, resident() - before < 1 << 20 ? "not there yet" : "there");
     must(strm_add_guest(&store, 64, &own));
     must(strm_new_between(&store, writer, reader, STRM_U8, &pair));
 

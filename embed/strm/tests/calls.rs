@@ -86,6 +86,20 @@ fn bytes_that_are_lent_are_the_hosts() {
 }
 
 #[test]
+fn a_memory_that_was_told_to_be_elsewhere_is_not_made_longer() {
+    let (mut store, _, _, _) = two();
+    let mut other = [0u8; 16];
+    for len in [0, 8] {
+        let guest = store.add_guest_with(Memory::mapped(len, 64).unwrap()).unwrap();
+        let elsewhere = NonNull::from(&mut other[len..]).cast::<u8>();
+        // SAFETY: no guest has the bytes, which are zeros as the memory's are, and outlive the store.
+        unsafe { store.memory_moved(guest, elsewhere, len) }.unwrap();
+        assert_eq!(store.grow_memory(guest, 1), Err(Error::NotLent));
+    }
+    drop(store);
+}
+
+#[test]
 fn tuples_keep_the_padding_of_the_reader() {
     let (mut store, writer, reader, _) = two();
     let item = Payload::tuple(&[Scalar::U8, Scalar::U32]).unwrap();

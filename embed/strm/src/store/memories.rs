@@ -54,7 +54,8 @@ impl Store {
     ///
     /// # Errors
     ///
-    /// As of [`Store::memory_grown`]. [`Error::OutOfMemory`] where there is none for the longer memory.
+    /// As of [`Store::memory_grown`]; [`Error::NotLent`] too where [`Store::memory_moved`] or that call told of
+    /// other bytes since. [`Error::OutOfMemory`] where there is none for the longer memory.
     ///
     /// ```
     /// # use strm::{Error, Memory};
@@ -66,8 +67,14 @@ impl Store {
     /// # Ok::<(), Error>(())
     /// ```
     pub fn grow_memory(&mut self, guest: Guest, more: usize) -> Result<usize, Error> {
-        let (_, len) = self.place(guest)?;
-        let memory = self.memories.get(&guest).ok_or(Error::NotLent)?;
+        let place = self.bare_place(guest)?;
+        let (_, len) = place;
+        // One of which the store was told otherwise since is not the memory that it was given.
+        let given = self
+            .memories
+            .get(&guest)
+            .filter(|memory| (memory.at().as_ptr(), memory.len()) == place);
+        let memory = given.ok_or(Error::NotLent)?;
         match memory.behind(more) {
             // SAFETY: the zeros lie behind the end of the bytes that the store has, which are this memory's.
             Some(at) => unsafe { self.memory_grown(guest, at, more) }?,
@@ -136,14 +143,22 @@ impl Store {
         done(unsafe { sys::strm_memory_moved(self.at(), guest.0, bytes.as_ptr(), len) })
     }
 
-    // Where a guest's memory lies, and how many bytes it has. Of no bytes it is an address that a slice may
-    // have, which that of the archive need not be.
-    fn place(&self, guest: Guest) -> Result<(*mut u8, usize), Error> {
-        let nowhere = NonNull::dangling().as_ptr();
-        let (mut at, mut len) = (nowhere, 0);
+    // Where a guest's memory lies, and how many bytes it has, as the archive tells it.
+    fn bare_place(&self, guest: Guest) -> Result<(*mut u8, usize), Error> {
+        let (mut at, mut len) = (core::ptr::null_mut(), 0);
         // SAFETY: above.
         done(unsafe { sys::strm_memory_at(self.at(), guest.0, &mut at, &mut len) })?;
-        Ok(if len == 0 { (nowhere, 0) } else { (at, len) })
+        Ok((at, len))
+    }
+
+    // The same. Of no bytes it is an address that a slice may have, which that of the archive need not be.
+    fn place(&self, guest: Guest) -> Result<(*mut u8, usize), Error> {
+        let (at, len) = self.bare_place(guest)?;
+        Ok(if len == 0 {
+            (NonNull::dangling().as_ptr(), 0)
+        } else {
+            (at, len)
+        })
     }
 
     /// A guest's memory.
