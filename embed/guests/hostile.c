@@ -24,17 +24,25 @@ static uint32_t number(void) {
     }
 }
 
-/* How many answers of memory.grow were others than a memory of one size has: its pages to 0, and -1 to more. */
-static uint32_t wrong;
+/* How often the memory grew, and how often memory.grow did or answered anything but one of two things: so many pages of
+   zeros more, and how many there were; or none, and -1, which is no answer to 0. */
+static uint32_t grown, wrong;
 
 static void grow(uint32_t pages) {
-    uint32_t wanted = pages == 0 ? __builtin_wasm_memory_size(0) : 0xffffffffu;
-    wrong += __builtin_wasm_memory_grow(0, pages) != wanted;
+    uint32_t before = __builtin_wasm_memory_size(0), answer = __builtin_wasm_memory_grow(0, pages);
+    uint32_t after = __builtin_wasm_memory_size(0);
+    if (answer == 0xffffffffu) {
+        wrong += after != before || pages == 0;
+        return;
+    }
+    wrong += answer != before || after != before + pages;
+    grown += pages > 0;
+    for (const uint32_t *word = (uint32_t *)(before * 65536); word < (uint32_t *)(after * 65536); word++) wrong += *word != 0;
 }
 
 EXPORT("attack") void attack(void) {
     uint32_t a = number(), b = number(), c = number();
-    switch (draw() % 22) {
+    switch (draw() % 23) {
     case 0: stream_u8_new(); break;
     case 1: stream_u8_read(a, (void *)b, c); break;
     case 2: stream_u8_write(a, (void *)b, c); break;
@@ -56,11 +64,13 @@ EXPORT("attack") void attack(void) {
     case 18: error_context_new((void *)a, b % 8192); break;
     case 19: error_context_drop(a); break;
     case 20: grow(0); break;
-    default: grow(a); break;
+    case 21: grow(a); break;
+    default: grow(a % 4); break;
     }
 }
 
 EXPORT("wrong") uint32_t get_wrong(void) { return wrong; }
+EXPORT("grown") uint32_t get_grown(void) { return grown; }
 
 EXPORT("flood") void flood(uint32_t rounds) {
     for (; rounds > 0; rounds--) {

@@ -78,8 +78,8 @@ static bool turns(line *line, uint32_t rounds) {
 
 static void end(line *line) {
     for (int k = 0; k < GUESTS; k++) must(of(line, k)->owed == 0, "a guest kept a handle");
-    for (int k = 0; k < GUESTS; k++) wasm2c_free(line->guests[k]);
     strm_store_free(&line->store);
+    for (int k = 0; k < GUESTS; k++) wasm2c_free(line->guests[k]);
 }
 
 static uint64_t moved(const line *line, uint32_t stream) {
@@ -182,10 +182,10 @@ static void run_bad_letter(uint32_t size) {
     must(to->state == GUEST_ENDED, "the reader waits");
     must(WASM2C_EXPORT(letters, total)(reader->instance) == 0, "a bad letter moved");
     must(guest_turn(from) && from->state == GUEST_TRAPPED, "the writer goes on");
-    wasm2c_free(writer);
-    wasm2c_free(reader);
     must(turns(&line, 0xffffffff), "no end");
     finish(&line, "bad letter", size);
+    wasm2c_free(writer);
+    wasm2c_free(reader);
 }
 
 /* One call of the hostile guest. It is entered again after a trap, which a runtime would not do. */
@@ -205,16 +205,16 @@ static void run_flood(uint32_t rounds) {
     must(enemy != NULL, "no guest");
     must(wasm2c_enter(enemy, flood, &rounds), "the hostile guest was refused a stream");
     printf("flood: %u streams made and dropped\n", rounds);
-    wasm2c_free(enemy);
     strm_store_free(&store);
+    wasm2c_free(enemy);
 }
 
-/* A guest's memory, by its module; it is still the store's memory of it, as long as it was. */
+/* A guest's memory, by its module; the store has the same, where it lies and as long as it is. */
 static wasm_rt_memory_t *memory_of(line *line, const guest *guest, wasm_rt_memory_t *memory) {
     uint8_t *at = NULL;
     size_t len = 0;
     must(strm_memory_at(&line->store, guest->number, &at, &len) == STRM_DONE, "no memory");
-    must(memory->data == at && memory->size == len && memory->pages * 65536 == len, "a memory moved or grew");
+    must(memory->data == at && memory->size == len && memory->pages * 65536 == len, "the store was not told of a memory");
     return memory;
 }
 
@@ -260,12 +260,13 @@ static void run_hostile(uint32_t size, uint32_t calls) {
     for (uint32_t k = 0; k < calls; k++) done += wasm2c_enter(enemy, attack, NULL);
     hold(&line, &before);
     memory_of(&line, &enemy->base, WASM2C_EXPORT(hostile, memory)(enemy->instance));
-    must(WASM2C_EXPORT(hostile, wrong)(enemy->instance) == 0, "the hostile guest's memory grew");
-    printf("hostile: %u calls, %u done, %u refused\n", calls, done, calls - done);
+    must(WASM2C_EXPORT(hostile, wrong)(enemy->instance) == 0, "memory.grow did or answered something else");
+    printf("hostile: %u calls, %u done, %u refused, its memory grew %u times\n", calls, done, calls - done,
+           WASM2C_EXPORT(hostile, grown)(enemy->instance));
     must(turns(&line, 0xffffffff), "no end");
     guest_end(&enemy->base, GUEST_ENDED);
-    wasm2c_free(enemy);
     finish(&line, "hostile", size);
+    wasm2c_free(enemy);
 }
 
 /* `guests BYTES`: all. `guests pipe BYTES`: the second alone, which is timed. `guests flood STREAMS`: the hostile

@@ -40,17 +40,15 @@ strm_status strm_store_new(strm_store *store, uint64_t tag, size_t handles, uint
 }
 
 void strm_store_free(strm_store *store) {
-    plain *plain = store->at;
-    for (uint32_t k = 0; k < plain->guest_count; k++) free(plain->guests[k].memory);
-    free(plain);
+    free(store->at);
     store->at = NULL;
 }
 
-strm_status strm_add_guest(strm_store *store, uint32_t size, uint32_t *out) {
+strm_status strm_add_guest_at(strm_store *store, uint8_t *bytes, size_t len, uint32_t *out) {
     plain *plain = store->at;
     guest *guest = &plain->guests[*out = plain->guest_count++];
-    guest->memory = calloc(1, size);
-    guest->len = size;
+    guest->memory = bytes;
+    guest->len = len;
     guest->count = 1;
     return STRM_DONE;
 }
@@ -171,6 +169,9 @@ strm_status strm_stream_drop_writable(strm_store *store, uint32_t number, strm_p
         return STRM_UNKNOWN_HANDLE;       \
     }
 #pragma GCC diagnostic ignored "-Wunused-parameter"
+ABSENT(strm_add_guest, strm_store *s, uint32_t z, uint32_t *o)
+ABSENT(strm_memory_grown, strm_store *s, uint32_t g, uint8_t *m, size_t l)
+ABSENT(strm_memory_moved, strm_store *s, uint32_t g, uint8_t *b, size_t l)
 ABSENT(strm_memory_read, const strm_store *s, uint32_t g, uint32_t a, uint8_t *o, size_t l)
 ABSENT(strm_memory_write, strm_store *s, uint32_t g, uint32_t a, const uint8_t *o, size_t l)
 ABSENT(strm_stream_new, strm_store *s, uint32_t g, strm_payload p, strm_pair *o)

@@ -45,8 +45,8 @@ int main(void) {
     while (guest_turn(&writer->base) || guest_turn(&reader->base)) continue;
     must(writer->base.state == GUEST_ENDED && reader->base.state == GUEST_ENDED, "a guest trapped, or waits for ever");
     printf("1000000 samples come to %llu\n", (unsigned long long)WASM2C_EXPORT(meter, answer)(writer->instance));
+    strm_store_free(&store);
     wasm2c_free(writer);
     wasm2c_free(reader);
-    strm_store_free(&store);
     return 0;
 }

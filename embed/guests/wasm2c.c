@@ -2,30 +2,53 @@
 
 #include <setjmp.h>
 #include <stdlib.h>
+#include <string.h>
 
-/* wabt's runtime, which leads traps here. Its own memories, where it has them in this file, are called by nobody. */
+/* wabt's runtime, which leads traps here. Its memories go by other names, and where there is no room for one it traps,
+   as it would else end the program. */
 #undef wasm_rt_allocate_memory
 #undef wasm_rt_grow_memory
 #undef wasm_rt_free_memory
 #define wasm_rt_allocate_memory wabt_allocate_memory
 #define wasm_rt_grow_memory wabt_grow_memory
 #define wasm_rt_free_memory wabt_free_memory
+#define wasm_rt_allocate_memory_shared wabt_allocate_memory_shared
+#define wasm_rt_grow_memory_shared wabt_grow_memory_shared
+#define wasm_rt_free_memory_shared wabt_free_memory_shared
 #define WASM_RT_TRAP_HANDLER wasm2c_trapped
 void wasm2c_trapped(wasm_rt_trap_t code);
+#include <wasm-rt-impl.h>
+#define abort() wasm_rt_trap(WASM_RT_TRAP_OOB)
+#ifdef WASM2C_LATER
 #include <wasm-rt-impl.c>
+#include <wasm-rt-mem-impl.c>
+#else
+#undef WASM_RT_MEMCHECK_SIGNAL_HANDLER
+#undef WASM_RT_SKIP_SIGNAL_RECOVERY
+#define WASM_RT_MEMCHECK_SIGNAL_HANDLER WASM2C_MAPPED
+#define WASM_RT_SKIP_SIGNAL_RECOVERY 1
+#include <wasm-rt-impl.c>
+#endif
+#undef abort
 
 /* TRAPS */
 
-/* Where the guest was entered that runs on this thread. None is entered from within another. */
+/* The guest that runs on this thread, and where it was entered. None is entered from within another. */
+static _Thread_local wasm2c_guest *running;
 static _Thread_local jmp_buf *entered;
 
 void wasm2c_trapped(wasm_rt_trap_t code) { longjmp(*entered, code); }
 
 bool wasm2c_enter(wasm2c_guest *guest, void (*call)(void *instance, void *with), void *with) {
     jmp_buf here;
+    running = guest;
     entered = &here;
-    if (setjmp(here) != 0) return false;
+    if (setjmp(here) != 0) {
+        running = NULL;
+        return false;
+    }
     call(guest->instance, with);
+    running = NULL;
     return true;
 }
 
@@ -35,44 +58,86 @@ void wasm2c_must(wasm2c_guest *guest, strm_status status) {
     wasm_rt_trap(WASM_RT_TRAP_UNREACHABLE);
 }
 
-/* MEMORIES. A guest's is the store's memory of it: nobody else may free it or hand it to realloc. */
+/* MEMORIES. A guest's is lent to the store once its module is made, and the store is told of all that becomes of it
+   before the guest goes on. */
 
-#define PAGE 65536u
 #define NO_NUMBER 0xffffffffu
 
-/* The guest whose module is being made on this thread. */
-static _Thread_local wasm2c_guest *making;
-
-static void allocate(wasm_rt_memory_t *memory, uint64_t pages) {
-    guest *guest = &making->base;
-    uint32_t size = (uint32_t)(pages * PAGE);
-    size_t len = 0;
-    if (guest->number != NO_NUMBER || size != pages * PAGE) wasm_rt_trap(WASM_RT_TRAP_OOB);
-    wasm2c_must(making, strm_add_guest(guest->store, size, &guest->number));
-    wasm2c_must(making, strm_memory_at(guest->store, guest->number, &memory->data, &len));
-    memory->pages = memory->max_pages = pages;
-    memory->size = len;
-}
-
-/* It grows by none, and stays where it lies. */
-static uint64_t grow(const wasm_rt_memory_t *memory, uint64_t pages) { return pages == 0 ? memory->pages : 0xffffffffu; }
+/* A store takes fewer than 2^32 bytes. */
+#define MOST_PAGES 65535u
 
 #ifdef WASM2C_LATER
-void wasm2c_allocate_memory(wasm_rt_memory_t *memory, uint64_t pages, uint64_t max_pages, bool is64) {
-    (void)max_pages;
-    memory->is64 = is64;
-    allocate(memory, pages);
-}
-uint64_t wasm2c_grow_memory(wasm_rt_memory_t *memory, uint64_t pages) { return grow(memory, pages); }
+typedef uint64_t page_count;
 #else
-void wasm2c_allocate_memory(wasm_rt_memory_t *memory, uint32_t pages, uint32_t max_pages) {
-    (void)max_pages;
-    allocate(memory, pages);
+typedef uint32_t page_count;
+#endif
+#define NOT_GROWN ((page_count)-1)
+
+static void make(wasm_rt_memory_t *memory, page_count pages, page_count most) {
+#ifdef WASM2C_LATER
+    wabt_allocate_memory(memory, pages, most, false);
+#else
+    wabt_allocate_memory(memory, pages, most);
+#endif
 }
-uint32_t wasm2c_grow_memory(wasm_rt_memory_t *memory, uint32_t pages) { return (uint32_t)grow(memory, pages); }
+
+static void allocate(wasm_rt_memory_t *memory, page_count pages, page_count most) {
+    if (running->memory != NULL || pages > MOST_PAGES) wasm_rt_trap(WASM_RT_TRAP_OOB);
+    make(memory, pages, most < MOST_PAGES ? most : MOST_PAGES);
+    if (memory->data == NULL) wasm_rt_trap(WASM_RT_TRAP_OOB);
+    running->memory = memory;
+}
+
+#ifdef WASM2C_LATER
+void wasm2c_allocate_memory(wasm_rt_memory_t *memory, uint64_t pages, uint64_t most, bool is64) {
+    if (is64) wasm_rt_trap(WASM_RT_TRAP_OOB);
+    allocate(memory, pages, most);
+}
+#else
+void wasm2c_allocate_memory(wasm_rt_memory_t *memory, uint32_t pages, uint32_t most) { allocate(memory, pages, most); }
 #endif
 
-void wasm2c_free_memory(wasm_rt_memory_t *memory) { (void)memory; }
+static bool is_lent(const guest *guest) { return guest->number != NO_NUMBER; }
+
+#if WASM2C_MAPPED
+static bool add_pages(wasm2c_guest *at, page_count pages) {
+    guest *guest = &at->base;
+    uint8_t *end = at->memory->data + at->memory->size;
+    if (wabt_grow_memory(at->memory, pages) == NOT_GROWN) return false;
+    size_t len = (size_t)(at->memory->data + at->memory->size - end);
+    if (is_lent(guest)) wasm2c_must(at, strm_memory_grown(guest->store, guest->number, end, len));
+    return true;
+}
+#else
+/* Not by wabt_grow_memory, whose realloc frees the bytes before the store was told. */
+static bool add_pages(wasm2c_guest *at, page_count pages) {
+    guest *guest = &at->base;
+    wasm_rt_memory_t longer;
+    make(&longer, at->memory->pages + pages, at->memory->max_pages);
+    if (longer.data == NULL) return false;
+    memcpy(longer.data, at->memory->data, at->memory->size);
+    if (is_lent(guest)) wasm2c_must(at, strm_memory_moved(guest->store, guest->number, longer.data, longer.size));
+    wabt_free_memory(at->memory);
+    *at->memory = longer;
+    return true;
+}
+#endif
+
+page_count wasm2c_grow_memory(wasm_rt_memory_t *memory, page_count pages) {
+    page_count before = memory->pages;
+    if (running == NULL || running->memory != memory || pages > memory->max_pages - before) return NOT_GROWN;
+    return pages == 0 || add_pages(running, pages) ? before : NOT_GROWN;
+}
+
+void wasm2c_free_memory(wasm_rt_memory_t *memory) {
+    if (memory->data == NULL) return;
+#if WASM2C_MAPPED && !defined(WASM2C_LATER)
+    /* wabt 1.0.32 reserves so many bytes, and gives up those of them alone that the memory has. */
+    os_munmap(memory->data, 0x200000000);
+#else
+    wabt_free_memory(memory);
+#endif
+}
 
 /* GUESTS */
 
@@ -100,9 +165,12 @@ static bool callback(guest *guest, uint32_t event, uint32_t handle, uint32_t cod
 static const engine wasm2c = {run, callback, NULL};
 
 static void instantiate(void *instance, void *with) {
-    wasm2c_guest *guest = with;
-    guest->module->instantiate(instance, guest);
-    if (guest->base.number == NO_NUMBER) wasm2c_must(guest, strm_add_guest(guest->base.store, 0, &guest->base.number));
+    wasm2c_guest *made = with;
+    guest *guest = &made->base;
+    made->module->instantiate(instance, made);
+    const wasm_rt_memory_t *memory = made->memory;
+    wasm2c_must(made, memory == NULL ? strm_add_guest(guest->store, 0, &guest->number)
+                                     : strm_add_guest_at(guest->store, memory->data, memory->size, &guest->number));
 }
 
 wasm2c_guest *wasm2c_new(strm_store *store, const wasm2c_module *module) {
@@ -111,7 +179,6 @@ wasm2c_guest *wasm2c_new(strm_store *store, const wasm2c_module *module) {
     made->base = (guest){.engine = &wasm2c, .store = store, .number = NO_NUMBER};
     made->module = module;
     made->instance = calloc(1, module->instance_size);
-    making = made;
     if (made->instance != NULL && wasm2c_enter(made, instantiate, made)) return made;
     wasm2c_free(made);
     return NULL;

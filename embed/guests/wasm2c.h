@@ -1,5 +1,5 @@
-/* Modules that wasm2c made into C, as guests: each module's own memory is the memory that the store has of its
-   guest, so nothing is copied on the way. It is taken as it is, with wabt 1.0.32 or 1.0.36.
+/* Modules that wasm2c made into C, as guests: each module's own memory is wabt's, is lent to the store, and grows. So
+   nothing is copied on the way. It is taken as it is, with wabt 1.0.32 or 1.0.36.
 
    What wasm2c made is compiled with `-include wasm2c.h`, and all of it with `-isystem` of wabt's folder of
    wasm-rt-impl.c. A program includes the headers that wasm2c made, names each module by WASM2C_MODULE, and each type
@@ -13,24 +13,31 @@
 #error "wasm2c.h comes before wasm-rt.h"
 #endif
 
-/* Each access is tested against its memory's size, since no pages guard a memory of the store's. The last of these
-   is wabt 1.0.32's word for it, which later ones take with a warning. */
-#define WASM_RT_USE_MMAP 0
-#define WASM_RT_MEMCHECK_BOUNDS_CHECK 1
-#define WASM_RT_MEMCHECK_SIGNAL_HANDLER 0
+/* With 1, a memory has the addresses of all to which it may grow, and grows where it lies; what is not touched is not
+   there. With 0 it is a block of malloc's, and a longer one each time it grows. All of a program has the same. */
+#ifndef WASM2C_MAPPED
+#define WASM2C_MAPPED 1
+#endif
 
-/* Memories are made, grown and given up by wasm2c.c. What was compiled without this header does not link. */
+/* Each access is tested against its memory's size. wabt 1.0.32 has one word for this and for how memories are made,
+   which wasm2c.c takes apart. */
+#define WASM_RT_MEMCHECK_BOUNDS_CHECK 1
+#if __has_include(<wasm-rt-mem-impl.c>)
+#define WASM2C_LATER
+#define WASM_RT_USE_MMAP WASM2C_MAPPED
+#else
+#define WASM_RT_MEMCHECK_SIGNAL_HANDLER 0
+#endif
+
+/* Memories are made, grown and given up by wasm2c.c, which tells the store. What was compiled without this header
+   does not link. */
 #define wasm_rt_allocate_memory wasm2c_allocate_memory
 #define wasm_rt_grow_memory wasm2c_grow_memory
 #define wasm_rt_free_memory wasm2c_free_memory
-#pragma GCC diagnostic push
-#pragma GCC diagnostic ignored "-Wcpp"
 #include <wasm-rt.h>
-#pragma GCC diagnostic pop
 
 /* How wasm2c names what a module has, and the built-ins of ends and the others that it imports. */
-#ifdef WASM_RT_THREAD_LOCAL
-#define WASM2C_LATER
+#ifdef WASM2C_LATER
 #define WASM2C_INSTANCE(module) w2c_##module
 #define WASM2C_INSTANTIATE(module) wasm2c_##module##_instantiate
 #define WASM2C_INIT(module) ((void)0)
@@ -71,17 +78,19 @@ struct WASM2C_IMPORTS {
     guest base;
     const wasm2c_module *module;
     void *instance;
+    /* The module's, NULL of one that has none. */
+    wasm_rt_memory_t *memory;
 };
 
-/* Makes a guest of a module, which has a memory of the size that the module begins with; NULL where there is no
-   memory for it, or it traps there. */
+/* Makes a guest of a module, whose memory it is lent; NULL where there is no room for it, or it traps as it is made,
+   as it does where it calls a built-in before it is a guest. */
 wasm2c_guest *wasm2c_new(strm_store *store, const wasm2c_module *module);
 
-/* Gives up the module of a guest that ended or trapped, or that guest_end stopped. The store keeps its number and
-   memory. */
+/* Gives up a guest's module and its memory. The store has that until it is given up itself: so it goes first. */
 void wasm2c_free(wasm2c_guest *guest);
 
-/* Calls a function of a guest's module, which is handed the instance: whether it came back. */
+/* Calls a function of a guest's module, which is handed the instance: whether it came back. One that may trap, or have
+   the memory grow, is called in no other way. */
 bool wasm2c_enter(wasm2c_guest *guest, void (*call)(void *instance, void *with), void *with);
 
 /* A module by the name that `wasm2c -n` gave it. Of one that is called in another way than by `run` and `callback`
