@@ -2,8 +2,8 @@
 
    A guest is run as an async function with a callback: `run`, and then `callback` for each event of the set that it
    waits for. Once it ends or traps it has given up all that it had, and the other guests are told. How a guest is
-   entered is its engine's: wasm2c.h has one whose memories are the store's, and copies.h what an engine needs that
-   has its own. */
+   entered is its engine's: wasm2c.h has one that lends its memories, and buffered.h what an engine needs that keeps them
+   to itself. */
 #ifndef EMBEDDER_H
 #define EMBEDDER_H
 #include <stdbool.h>
