@@ -1,6 +1,6 @@
 -- What the program does, put together.
 use Rattle.std.proofs.Common.{◌≡◌, ◌⊎◌, inl, inr, ℕ, ◌<◌, ◌≤◌, List, length, map, Option, Result, Ok, Err, IfSome, refl, sym, ap, ◌∙◌, subst, arith}
-use Rattle.std.specs.Prelude.{MatchResult}
+use Rattle.std.specs.Prelude.{MatchResult, IfOk, IsOkAnd}
 use Rattle.strm_buffers.specs.Tells.{WriterTells, ReaderTells, Tells}
 use Rattle.strm_codes.specs.Counters.{Rose}
 use Rattle.strm_tape.specs.Spelling.{TapeOf, IsTape, tape_spelling}
@@ -8,8 +8,10 @@ use Rattle.strm_tape_runs.proofs.RunLemmas.{hosts_stay}
 use Rattle.strm_tape_program.specs.Reading.{IsReadable, most_bytes}
 use Rattle.strm_program_hosts.specs.HostEnds.{writers, readers, host_ends}
 use Rattle.tape.specs.HostEnds.{following, following_reader, followers}
-use Rattle.strm_input_output.specs.Serving.{Port, ReadsWithin}
-use Rattle.tape.specs.Outcomes.{TakesAmong, PlaysAmong, Plays, ReadsTape, PlaysRead}
+use Rattle.strm_input_output.specs.Serving.{Port, ReadsWithin, Writes}
+use Rattle.tape.specs.Outcomes.{TakesAmong, ShowsAmong, Plays, ReadsTape, PlaysRead}
+use Rattle.tape.specs.declared.Shown.{Shown}
+use Rattle.tape.specs.declared.Shown.TheVariants.{Replies, Picture}
 
 -- what host ends tell, by the lists of it
 tells_are : (tells : Tells) (ws : List WriterTells) (rs : List ReaderTells) → tells.writers ≡ ws → tells.readers ≡ rs → tells ≡ record { writers = ws; readers = rs }
@@ -26,26 +28,37 @@ module _ (ends after : Tells) (status code : ℕ) (same : code ≡ status) where
       (subst (λ (t : Tells). TakesAmong t after source source_after sink sink_after status) (tells_are ends writers readers ws rs) takes)
 
   -- what is played among host ends that tell what those do that follow the tape
-  pub plays_among : (tape : TapeOf) (sink sink_after : Port) → ends.writers ≡ map following tape.writers → ends.readers ≡ map following_reader tape.readers → PlaysAmong ends after tape sink sink_after status → PlaysAmong (followers tape) after tape sink sink_after code
-  plays_among tape sink sink_after ws rs plays =
-      subst (λ (n : ℕ). PlaysAmong (followers tape) after tape sink sink_after n) (sym same)
-      (subst (λ (t : Tells). PlaysAmong t after tape sink sink_after status) (tells_are ends (map following tape.writers) (map following_reader tape.readers) ws rs) plays)
+  pub plays_among : (shown : Shown) (tape : TapeOf) (sink sink_after : Port) → ends.writers ≡ map following tape.writers → ends.readers ≡ map following_reader tape.readers → ShowsAmong shown ends after tape sink sink_after status → ShowsAmong shown (followers tape) after tape sink sink_after code
+  plays_among shown tape sink sink_after ws rs plays =
+      subst (λ (n : ℕ). ShowsAmong shown (followers tape) after tape sink sink_after n) (sym same)
+      (subst (λ (t : Tells). ShowsAmong shown t after tape sink sink_after status) (tells_are ends (map following tape.writers) (map following_reader tape.readers) ws rs) plays)
+
+-- nothing was written for running out of memory
+writes_none : {P : ℕ → List ℕ → Type 0} (sink after : Port) (code : ℕ) → code ≡ 9 → Writes P sink after code
+writes_none sink after code e = record {
+  told = λ p q. absurd (q e);
+  part = λ f. absurd (omega (arith, e, f));
+  write_fault = λ f. absurd (omega (arith, e, f));
+}
 
 -- of a tape for whose host ends memory had run out
-pub plays_out_of_memory : (tape : TapeOf) (sink after : Port) (code : ℕ) → code ≡ 9 → Plays tape sink after code
-plays_out_of_memory tape sink after code e = (
+pub plays_out_of_memory : (shown : Shown) (tape : TapeOf) (sink after : Port) (code : ℕ) → code ≡ 9 → Plays shown tape sink after code
+plays_out_of_memory Replies tape sink after code e = (
   followers tape,
   record {
     known = inr (omega (arith, e), omega (arith, e));
-    writes = record {
-      told = λ p q. absurd (q e);
-      part = λ f. absurd (omega (arith, e, f));
-      write_fault = λ f. absurd (omega (arith, e, f));
-    };
+    writes = writes_none sink after code e;
     goes_on = hosts_stay (followers tape);
     complete = λ end same plays calm. inr e;
     differs = λ other calm. inr e;
     out_of_memory = λ f. inl refl;
+  },
+)
+plays_out_of_memory Picture tape sink after code e = (
+  followers tape,
+  record {
+    known = inr (omega (arith, e), omega (arith, e));
+    writes = writes_none sink after code e;
   },
 )
 
@@ -67,7 +80,7 @@ pub error_read : (answer : Result TapeOf ℕ) (tape : TapeOf) (why : ℕ) → an
 error_read answer tape why is = subst (λ (r : Result TapeOf ℕ). MatchResult r (λ x. x ≡ tape) (λ status. status ≡ 9)) is
 
 -- a tape that was read and played
-module _ (source source_after : Port) where
+module _ (shown : Shown) (source source_after : Port) where
   -- the bytes that the source has left are these, and they are readable
   abbrev pub Has : List ℕ → Type 0
   Has bytes = IsReadable source.bytes source.faults source_after.faults bytes
@@ -80,13 +93,13 @@ module _ (source source_after : Port) where
   abbrev pub IsWithin : Port → Port → Type 0
   IsWithin sink sink_after = (bytes : List ℕ) → Has bytes → most_bytes < length bytes → ¬ Rose sink.faults sink_after.faults → ⊥
 
-  pub plays_read : (tape : TapeOf) (sink mid after : Port) (status : ℕ) → mid ≡ sink → ReadsTape tape source source_after → ReadsWithin most_bytes source.bytes source_after.bytes → IsOnly tape → IsWithin sink mid → Plays tape mid after status → PlaysRead source source_after sink after status
+  pub plays_read : (tape : TapeOf) (sink mid after : Port) (code : ℕ) → mid ≡ sink → ReadsTape tape source source_after → ReadsWithin most_bytes source.bytes source_after.bytes → IsOnly tape → IsWithin sink mid → Plays shown tape mid after code → PlaysRead shown source source_after sink after code
   plays_read tape sink mid after status quiet reads read only within plays =
-      let here = subst (λ (port : Port). Plays tape port after status) quiet plays in
+      let here = subst (λ (port : Port). Plays shown tape port after status) quiet plays in
       record {
         played = inl (tape, reads, here);
         read = read;
-        complete = λ t is few has. inl (subst (λ (x : TapeOf). Plays x sink after status) (only t is has few) here);
+        complete = λ t is few has. inl (subst (λ (x : TapeOf). Plays shown x sink after status) (only t is has few) here);
         too_long = λ bytes many has room calm.
             absurd (within bytes has many (subst (λ (port : Port). ¬ Rose sink.faults port.faults) (sym quiet) room));
         not_a_tape = λ bytes few other has calm.
@@ -94,5 +107,10 @@ module _ (source source_after : Port) where
       }
 
   -- the same by the status that is handed on
-  pub plays_same : (sink sink_after : Port) (status code : ℕ) → code ≡ status → PlaysRead source source_after sink sink_after status → PlaysRead source source_after sink sink_after code
-  plays_same sink sink_after status code e = subst (λ (n : ℕ). PlaysRead source source_after sink sink_after n) (sym e)
+  pub plays_same : (sink sink_after : Port) (status code : ℕ) → code ≡ status → PlaysRead shown source source_after sink sink_after status → PlaysRead shown source source_after sink sink_after code
+  plays_same sink sink_after status code e = subst (λ (n : ℕ). PlaysRead shown source source_after sink sink_after n) (sym e)
+
+-- what is done for words of each kind, put together
+pub answers_all : {A E : Type 0} (result : Result A E) (T P U : A → Type 0) (X Y Z : Type 0) → (X → IfOk result T) → (Y → IfOk result P) → (Z → IsOkAnd result U) → IfOk result (λ code. (X → T code) × (Y → P code) × (Z → U code))
+answers_all (Ok code) T P U X Y Z t p u = (t, p, u)
+answers_all (Err error) T P U X Y Z t p u = tt

@@ -1,14 +1,14 @@
 //! The program of tapes: runs the lines of its input and writes the run's tape, or plays a tape and writes
-//! its replies.
+//! its replies, or the picture of its run.
 #![tactic(auto)]
 
-ghost use Rattle.std.specs.Prelude.{◌≡◌, map, string_bytes, IfOk, IsOkAnd, OnErr};
+ghost use Rattle.std.specs.Prelude.{◌≡◌, ◌↔◌, map, string_bytes, IsTrue, IfOk, IsOkAnd, OnErr};
 ghost use Rattle.std.specs.Process.{exit_status};
 ghost use Rattle.strm_buffers.specs.AllTells.{tells_of};
 ghost use Rattle.strm_tape_program.specs.Modes.{Names, NamesNone};
 ghost use Rattle.tape.specs.HostEnds.{following, following_reader, followers};
 ghost use Rattle.strm_input_output.specs.Serving.{port};
-ghost use Rattle.tape.specs.Outcomes.{TakesScript, Plays, PlaysAmong, PlaysRead, TellsUsage};
+ghost use Rattle.tape.specs.Outcomes.{TakesScript, Plays, ShowsAmong, PlaysRead, TellsUsage, TellsToDraw, Answers};
 
 use std::alloc::{AllocError, Global};
 use std::io;
@@ -16,6 +16,7 @@ use std::process::ExitCode;
 use strm_buffers::hosts::Hosts;
 use strm_buffers::readers::HostReader;
 use strm_buffers::writers::HostWriter;
+use strm_drawing::serving::draw_list;
 use strm_input_output::ports::{Sink, Source};
 use strm_input_output::processes::Process;
 use strm_program_hosts::among::{AmongHosts, served_among_hosts};
@@ -53,28 +54,47 @@ impl<S: Source, K: Sink> AmongHosts for Ports<S, K> {
     }
 }
 
+// What is written of a tape's run.
+#[derive(Clone, Copy)]
+enum Shown {
+    // Its replies, where the host ends record what the tape says.
+    Replies,
+    // Its picture.
+    Picture,
+}
+
 // Plays a tape among host ends that follow it, none of which was polled before.
-fn played<K: Sink>(alloc: Global, tape: &Tape, hosts: &mut Hosts, sink: &mut K) -> ExitCode
+fn played<K: Sink>(
+    alloc: Global,
+    shown: Shown,
+    tape: &Tape,
+    hosts: &mut Hosts,
+    sink: &mut K,
+) -> ExitCode
     requires writers { (tells_of writer_tells reader_tells hosts.old).writers
         ≡ map following tape.now.writers }
     requires readers { (tells_of writer_tells reader_tells hosts.old).readers
         ≡ map following_reader tape.now.readers }
-    ensures plays { PlaysAmong (followers tape.now)
+    ensures plays { ShowsAmong shown (followers tape.now)
         (tells_of writer_tells reader_tells hosts.new) tape.now
         (port (K.taken sink.old) (K.faults sink.old)) (port (K.taken sink.new) (K.faults sink.new))
         (exit_status result) }
     ensures nothing { exit_status result ≡ OUT_OF_MEMORY → sink.new ≡ sink.old }
 {
-    ExitCode::from(tape_play(alloc, tape, hosts, sink))
+    match shown {
+        Shown::Replies => ExitCode::from(tape_play(alloc, tape, hosts, sink)),
+        Shown::Picture => ExitCode::from(draw_list(alloc, tape.steps(), hosts, sink)),
+    }
 }
 
 // The same among new ones.
 fn played_among_ends<K: Sink>(
     alloc: Global,
+    shown: Shown,
     tape: &Tape,
     sink: &mut K,
 ) -> Result<ExitCode, AllocError>
-    ensures plays { IfOk result (λ code. Plays tape.now
+    ensures plays { IfOk result (λ code. Plays shown tape.now
         (port (K.taken sink.old) (K.faults sink.old)) (port (K.taken sink.new) (K.faults sink.new))
         (exit_status code)) }
     ensures nothing { IfOk result (λ code. exit_status code ≡ OUT_OF_MEMORY → sink.new ≡ sink.old) }
@@ -95,16 +115,17 @@ fn played_among_ends<K: Sink>(
         readers.push(Box::new(alloc, reader)?)?;
     }
     let mut hosts = Hosts { writers, readers };
-    Ok(played(alloc, tape, &mut hosts, sink))
+    Ok(played(alloc, shown, tape, &mut hosts, sink))
 }
 
 // Plays the tape that a source has left, or writes why that is none.
 fn played_from<S: Source, K: Sink>(
     alloc: Global,
+    shown: Shown,
     source: &mut S,
     sink: &mut K,
 ) -> Result<ExitCode, AllocError>
-    ensures plays { IfOk result (λ code. PlaysRead
+    ensures plays { IfOk result (λ code. PlaysRead shown
         (port (S.left source.old) (S.faults source.old))
         (port (S.left source.new) (S.faults source.new))
         (port (K.taken sink.old) (K.faults sink.old)) (port (K.taken sink.new) (K.faults sink.new))
@@ -115,10 +136,52 @@ fn played_from<S: Source, K: Sink>(
     match tape_read(alloc, source, sink) {
         Ok(tape) => {
             tape.sound();
-            played_among_ends(alloc, &tape, sink)
+            played_among_ends(alloc, shown, &tape, sink)
         }
         Err(why) => Ok(ExitCode::from(why)),
     }
+}
+
+// Whether the words tell the program to draw.
+fn is_draw(words: &Vec<String>) -> bool
+    ensures { IsTrue result ↔ TellsToDraw (map string_bytes words.now.items) }
+{
+    let words = words.as_slice();
+    words.len() == 1 && words[0].as_bytes() == b"draw".as_slice()
+}
+
+// Does what the words say, or draws.
+fn served<S: Source, K: Sink>(
+    words: &Vec<String>,
+    ports: &mut Ports<S, K>,
+) -> Result<ExitCode, AllocError>
+    ensures draws { TellsToDraw (map string_bytes words.now.items) → IfOk result (λ code.
+        PlaysRead Shown.Picture
+        (port (S.left ports.old.source) (S.faults ports.old.source))
+        (port (S.left ports.new.source) (S.faults ports.new.source))
+        (port (K.taken ports.old.sink) (K.faults ports.old.sink))
+        (port (K.taken ports.new.sink) (K.faults ports.new.sink))
+        (exit_status code)) }
+    ensures answers { ¬ TellsToDraw (map string_bytes words.now.items) → IfOk result (λ code.
+        Answers (map string_bytes words.now.items)
+        (port (S.left ports.old.source) (S.faults ports.old.source))
+        (port (S.left ports.new.source) (S.faults ports.new.source))
+        (port (K.taken ports.old.sink) (K.faults ports.old.sink))
+        (port (K.taken ports.new.sink) (K.faults ports.new.sink))
+        (exit_status code)) }
+    ensures nothing { IfOk result (λ code.
+        exit_status code ≡ OUT_OF_MEMORY → ports.new.sink ≡ ports.old.sink) }
+    ensures out_of_memory { OnErr result (ports.new.sink ≡ ports.old.sink) }
+{
+    if is_draw(words) {
+        return played_from(
+            ports.alloc,
+            Shown::Picture,
+            &mut ports.source,
+            &mut ports.sink,
+        );
+    }
+    answered(words, ports)
 }
 
 // Does what the words say.
@@ -134,7 +197,7 @@ fn answered<S: Source, K: Sink>(
         (port (K.taken ports.new.sink) (K.faults ports.new.sink))
         (exit_status code)) }
     ensures plays { Names (map string_bytes words.now.items) Mode.Play → IfOk result (λ code.
-        PlaysRead
+        PlaysRead Shown.Replies
         (port (S.left ports.old.source) (S.faults ports.old.source))
         (port (S.left ports.new.source) (S.faults ports.new.source))
         (port (K.taken ports.old.sink) (K.faults ports.old.sink))
@@ -153,7 +216,12 @@ fn answered<S: Source, K: Sink>(
 {
     match tape_mode(words, &mut ports.sink) {
         Ok(Mode::Take) => served_among_hosts(ports.alloc, ports),
-        Ok(Mode::Play) => played_from(ports.alloc, &mut ports.source, &mut ports.sink),
+        Ok(Mode::Play) => played_from(
+            ports.alloc,
+            Shown::Replies,
+            &mut ports.source,
+            &mut ports.sink,
+        ),
         Err(status) => Ok(ExitCode::from(status)),
     }
 }
@@ -167,7 +235,7 @@ fn main(rt: HostRuntime) -> io::Result<ExitCode> {
         source: process.source,
         sink: process.sink,
     };
-    match answered(&process.words, &mut ports) {
+    match served(&process.words, &mut ports) {
         Ok(code) => Ok(code),
         Err(_) => Ok(ExitCode::from(OUT_OF_MEMORY)),
     }

@@ -6,10 +6,10 @@ use Rattle.tape.proofs.played.Goals as goal
 pub tape_play-requires : goal.tape_play-requires
 tape_play-requires g c = record { ends = ends_of c.args.tape.now _ c.requires.writers c.requires.readers }
 
-pub returns-clause-plays : goal.returns-clause-plays
-returns-clause-plays g c =
+pub returns-in-Replies-clause-plays : goal.returns-in-Replies-clause-plays
+returns-in-Replies-clause-plays g c =
     let played = c.tape_play.ensures in
-    plays_among _ _ _ _ c.from.ensures c.args.tape.now _ _ c.requires.writers c.requires.readers (record {
+    plays_among _ _ _ _ c.from.ensures c.args.shown c.args.tape.now _ _ c.requires.writers c.requires.readers (record {
       known = played.known;
       writes = played.writes;
       goes_on = played.goes_on;

@@ -40,7 +40,7 @@ played-requires-clause-readers g c =
     follow_all (λ b. (owns.own-2.entry b.vtable).1.reader_tells b.value) following_reader c.loop-r.readers.items c.args.tape.now.readers c.loop-r.r (omega (arith, c.loop-r-test.false, c.readers-r-end.ensures)) c.loop-r.invariant
 
 pub returns-in_default-clause-plays : goal.returns-in_default-clause-plays
-returns-in_default-clause-plays g c = plays_out_of_memory c.args.tape.now _ _ _ c.from.ensures
+returns-in_default-clause-plays g c = plays_out_of_memory c.args.shown c.args.tape.now _ _ _ c.from.ensures
 
 pub returns-in_default-new-clause-plays : goal.returns-in_default-new-clause-plays
-returns-in_default-new-clause-plays g c = plays_out_of_memory c.args.tape.now _ _ _ c.from-in_default-new.ensures
+returns-in_default-new-clause-plays g c = plays_out_of_memory c.args.shown c.args.tape.now _ _ _ c.from-in_default-new.ensures
