@@ -2,7 +2,7 @@
 
 use crate::answers::is;
 use crate::greeting::Greeting;
-use crate::polls::{BYTES, COMPLETED, give_rest, memory, poll, poll_over};
+use crate::polls::{BYTES, COMPLETED, give_rest, items_told, memory, poll, poll_over};
 use strm_buffers::boxes::held_by;
 use strm_buffers::windows::Window;
 use strm_buffers::writers::HostWriter;
@@ -17,9 +17,7 @@ fn written_bytes_come_before_the_buffer(rt: HostRuntime) {
     let bytes = &[7, 8, 9, 10];
     poll_over(&rt, alloc, &mut writer, window, COMPLETED, 4, bytes);
     is(&rt, held_by(&writer), 1);
-    is(&rt, writer.records(), 1);
-    let said = writer.record_at(0).expect(&rt, "memory");
-    is(&rt, said.items.len(), 5);
+    is(&rt, items_told(&rt, &writer), 5);
     give_rest(&rt, alloc, &mut writer, &[11]);
     is(&rt, held_by(&writer), 0);
 }

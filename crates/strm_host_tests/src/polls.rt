@@ -54,6 +54,12 @@ pub(crate) fn give_rest(
     are_numbers(rt, &window.into_items(), numbers);
 }
 
+/// A writer has one record: how many items that tells.
+pub(crate) fn items_told(rt: &impl Abort, writer: &Box<dyn HostWriter>) -> usize {
+    assert!(rt; writer.records() == 1);
+    writer.record_at(0).expect(rt, "memory").items.len()
+}
+
 /// A writer gives what it holds, and is polled for another host end: its turn, and its items.
 pub(crate) fn poll(
     rt: &impl Abort,
