@@ -9,7 +9,9 @@ use Rattle.strm_tape_program.specs.Reading.{IsReadable, most_bytes}
 use Rattle.strm_program_hosts.specs.HostEnds.{writers, readers, host_ends}
 use Rattle.tape.specs.HostEnds.{following, following_reader, followers}
 use Rattle.strm_input_output.specs.Serving.{Port, ReadsWithin, Writes}
-use Rattle.tape.specs.Outcomes.{TakesAmong, ShowsAmong, Plays, ReadsTape, PlaysRead}
+use Rattle.strm_tape_program.specs.Modes.{Names, NamesNone}
+use Rattle.strm_tape_program.specs.declared.modes.Mode.TheVariants.{Take, Play}
+use Rattle.tape.specs.Outcomes.{TakesAmong, TakesScript, ShowsAmong, Plays, ReadsTape, PlaysRead, TellsUsage, Answers}
 use Rattle.tape.specs.declared.Shown.{Shown}
 use Rattle.tape.specs.declared.Shown.TheVariants.{Replies, Picture}
 
@@ -27,11 +29,17 @@ module _ (ends after : Tells) (status code : ℕ) (same : code ≡ status) where
       subst (λ (n : ℕ). TakesAmong host_ends after source source_after sink sink_after n) (sym same)
       (subst (λ (t : Tells). TakesAmong t after source source_after sink sink_after status) (tells_are ends writers readers ws rs) takes)
 
-  -- what is played among host ends that tell what those do that follow the tape
-  pub plays_among : (shown : Shown) (tape : TapeOf) (sink sink_after : Port) → ends.writers ≡ map following tape.writers → ends.readers ≡ map following_reader tape.readers → ShowsAmong shown ends after tape sink sink_after status → ShowsAmong shown (followers tape) after tape sink sink_after code
-  plays_among shown tape sink sink_after ws rs plays =
-      subst (λ (n : ℕ). ShowsAmong shown (followers tape) after tape sink sink_after n) (sym same)
-      (subst (λ (t : Tells). ShowsAmong shown t after tape sink sink_after status) (tells_are ends (map following tape.writers) (map following_reader tape.readers) ws rs) plays)
+  -- what is shown among host ends that tell what those do that follow the tape
+  module _ (shown : Shown) (tape : TapeOf) (sink sink_after : Port) where
+    -- this was shown among such host ends
+    abbrev pub Among : Shown → Tells → ℕ → Type 0
+    Among kind before n = ShowsAmong kind before after tape sink sink_after n
+
+    pub shows_among : (kind : Shown) → shown ≡ kind → ends.writers ≡ map following tape.writers → ends.readers ≡ map following_reader tape.readers → Among kind ends status → Among shown (followers tape) code
+    shows_among kind is ws rs shows =
+        subst (λ (s : Shown). Among s (followers tape) code) (sym is)
+        (subst (λ (n : ℕ). Among kind (followers tape) n) (sym same)
+        (subst (λ (t : Tells). Among kind t status) (tells_are ends (map following tape.writers) (map following_reader tape.readers) ws rs) shows))
 
 -- nothing was written for running out of memory
 writes_none : {P : ℕ → List ℕ → Type 0} (sink after : Port) (code : ℕ) → code ≡ 9 → Writes P sink after code
@@ -111,6 +119,15 @@ module _ (shown : Shown) (source source_after : Port) where
   plays_same sink sink_after status code e = subst (λ (n : ℕ). PlaysRead shown source source_after sink sink_after n) (sym e)
 
 -- what is done for words of each kind, put together
-pub answers_all : {A E : Type 0} (result : Result A E) (T P U : A → Type 0) (X Y Z : Type 0) → (X → IfOk result T) → (Y → IfOk result P) → (Z → IsOkAnd result U) → IfOk result (λ code. (X → T code) × (Y → P code) × (Z → U code))
-answers_all (Ok code) T P U X Y Z t p u = (t, p, u)
-answers_all (Err error) T P U X Y Z t p u = tt
+module _ {A E : Type 0} (status : A → ℕ) (words : List (List ℕ)) (source source_after sink sink_after : Port) where
+  -- a status that is answered is one of these
+  abbrev pub Ends : Result A E → (Port → Port → Port → Port → ℕ → Type 0) → Type 0
+  Ends result to = IfOk result (λ code. to source source_after sink sink_after (status code))
+
+  -- how to call the program is told
+  abbrev pub EndsUsage : Result A E → Type 0
+  EndsUsage result = IsOkAnd result (λ code. TellsUsage sink sink_after (status code))
+
+  pub answers_all : (result : Result A E) → (Names words Take → Ends result TakesScript) → (Names words Play → Ends result (PlaysRead Replies)) → (NamesNone words → EndsUsage result) → (NamesNone words → source_after ≡ source) → Ends result (Answers words)
+  answers_all (Ok code) takes plays usage unread = record { takes = takes; plays = plays; usage = usage; unread = unread }
+  answers_all (Err error) takes plays usage unread = tt

@@ -1,5 +1,5 @@
 -- What the program does for its words: with its source, its sink and its host ends, and by which status. Ours.
-use Rattle.std.specs.Prelude.{◌≡◌, ◌≢◌, ◌⊎◌, ◌≤◌, ◌<◌, ◌+◌, ℕ, List, [], ◌∷◌, length, codes, Option, Result, IfSome}
+use Rattle.std.specs.Prelude.{◌≡◌, ◌≢◌, ◌⊎◌, ◌≤◌, ◌<◌, ℕ, List, [], ◌∷◌, length, codes, Result, IfSome}
 use Rattle.std.specs.Io.KnownBytes.{Appends, IsAtEnd}
 use Rattle.strm_buffers.specs.Tells.{Tells}
 use Rattle.strm_codes.specs.Counters.{Rose}
@@ -108,3 +108,4 @@ pub record Answers (words : List (List ℕ)) (source source_after sink sink_afte
   pub takes : Names words Take → TakesScript source source_after sink sink_after status
   pub plays : Names words Play → PlaysRead Replies source source_after sink sink_after status
   pub usage : NamesNone words → TellsUsage sink sink_after status
+  pub unread : NamesNone words → source_after ≡ source
