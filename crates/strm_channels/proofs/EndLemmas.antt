@@ -1,7 +1,8 @@
 -- The room and the live handles of guests' tables after an insert or a reservation.
-use Rattle.std.proofs.Common.{◌≡◌, ℕ, zero, suc, ◌+◌, ◌<◌, ◌≤◌, List, [], ◌∷◌, length, map, get_or, set, Result, Ok, Err, refl, sym, ap, ◌∙◌, arith}
+use Rattle.std.proofs.Common.{◌≡◌, ◌≢◌, ℕ, zero, suc, ◌+◌, ◌<◌, ◌≤◌, List, [], ◌∷◌, length, map, get_or, set, Result, Ok, Err, refl, sym, ap, ◌∙◌, inl, inr, arith}
 use Rattle.std.specs.Prelude.{IsOk}
-use Rattle.std.proofs.lemmas.List.{get_or-map, get_or-set_same, map-set, set-get_or, length-map}
+use Rattle.std.proofs.lemmas.Bool.{cases_eq}
+use Rattle.std.proofs.lemmas.List.{get_or-map, get_or-set_same, get_or-set_other, map-set, set-get_or, length-map}
 use Rattle.std.proofs.lemmas.List.Sums.{sum_by-set}
 use Rattle.strm_codes.specs.declared.codes.TransmitIndex.{TransmitIndex}
 use Rattle.strm_codes.specs.declared.codes.TransmitIndex.TheVariants as index
@@ -45,6 +46,10 @@ rooms_after guests g x y d n l e h =
     rw (map-set room_of guests g y)
     (at_most (map room_of guests) g y.table.room d n (omega (arith, room_read guests g x l e, h)))
 
+-- the room of the others' tables
+pub rooms_beside : (guests : List Guest) (g n : ℕ) (y : Guest) → n ≢ g → room_in_table (set guests g y) n ≡ room_in_table guests n
+rooms_beside guests g n y ne = rw (map-set room_of guests g y) (get_or-set_other (map room_of guests) g n y.table.room 0 ne)
+
 pub room_after : (guests : List Guest) (g : ℕ) (y : Guest) → g < length guests → room_in_table (set guests g y) g ≡ y.table.room
 room_after guests g y l =
     rw (map-set room_of guests g y)
@@ -67,6 +72,14 @@ live_after guests g y l h =
 pub live_less : (guests : List machine.Guest) (g : ℕ) (y : machine.Guest) → g < length guests → live_of y.handles + 1 ≡ live_of (guest_in guests g).handles → live_in (set guests g y) + 1 ≡ live_in guests
 live_less guests g y l h =
     omega (arith, h, sum_by-set (λ (k : machine.Guest). live_of k.handles) guests g y no_guest l)
+
+-- room for a second handle, behind a first one of a guest that may be the same
+pub room_behind : (writer reader each before after : ℕ) → (writer ≡ reader → 2 ≤ each) → 1 ≤ each → each ≤ before → before ≤ after + 1 → (writer ≢ reader → after ≡ before) → 0 < after
+room_behind writer reader each before after both some h one others =
+    elim (cases_eq writer reader) [
+      | inl e ↦ omega (arith, both e, h, one)
+      | inr ne ↦ omega (arith, some, h, others ne)
+    ]
 
 first_ok : {A B : Type 0} (r : Result A HandleError) (next : A → Result B HandleError) → without_value (r >>= next) ≡ Ok tt → IsOk r
 first_ok (Ok x) next e = refl

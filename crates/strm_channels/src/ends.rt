@@ -106,9 +106,20 @@ fn insert_end(
         counter.old counter.new result }
     ensures rooms { (n : ℕ) →
         room_in_table guests.old.items n ≤ room_in_table guests.new.items n + 1 }
+    ensures others { (n : ℕ) → n ≢ guest
+        → room_in_table guests.new.items n ≡ room_in_table guests.old.items n }
     ensures count { length guests.new.items ≡ length guests.old.items }
 {
     insert(&mut guests[guest].table, counter, side, ty, stream)
+}
+
+// How many handles of a new stream's ends each guest gets: both, where it is one guest.
+#[inline(always)]
+fn handles_each(writer: usize, reader: usize) -> u32
+    ensures both { writer ≡ reader → 2 ≤ result }
+    ensures some { 1 ≤ result }
+{
+    if writer == reader { 2 } else { 1 }
 }
 
 /// The handles of a new stream's ends in two guests' tables, the read end's first: answers their
@@ -135,8 +146,9 @@ pub fn insert_ends(
 {
     // The borrow checker takes a type but once.
     let same = ty;
-    reserve(guests, reader, 2)?;
-    reserve(guests, writer, 2)?;
+    let each = handles_each(writer, reader);
+    reserve(guests, reader, each)?;
+    reserve(guests, writer, each)?;
     let read = insert_end(guests, counter, reader, Side::Reading, ty, stream);
     let write = insert_end(guests, counter, writer, Side::Writing, same, stream);
     Ok((read, write))

@@ -6,7 +6,7 @@ use Rattle.strm_machine.specs.Making.{end_entry}
 use Rattle.strm_channels.specs.Guests.{guests_of, guest_of, live_in}
 use Rattle.std.proofs.lemmas.List.{length-map}
 use Rattle.strm_channels.proofs.GuestLemmas.{guest_in-seen, guests_of-with_handles}
-use Rattle.strm_channels.proofs.EndLemmas.{rooms_after, live_after}
+use Rattle.strm_channels.proofs.EndLemmas.{rooms_after, rooms_beside, live_after}
 use Rattle.strm_channels.proofs.ends.insert_end.Goals as goal
 
 pub returns-clause-adds : goal.returns-clause-adds
@@ -28,3 +28,7 @@ returns-clause-adds c =
 pub returns-clause-rooms : goal.returns-clause-rooms
 returns-clause-rooms c = λ n.
     rooms_after c.args.guests.now.items c.args.guest c.index_mut.result.now (record c.index_mut.result.now { table = c.insert.new.table }) 1 n c.requires.there c.index_mut.ensures.value c.insert.ensures.room
+
+pub returns-clause-others : goal.returns-clause-others
+returns-clause-others c = λ n ne.
+    rooms_beside c.args.guests.now.items c.args.guest n (record c.index_mut.result.now { table = c.insert.new.table }) ne
