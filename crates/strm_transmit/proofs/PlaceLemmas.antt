@@ -1,9 +1,8 @@
 -- Which places are free, after each change of the streams.
-use Rattle.std.proofs.Common.{◌≡◌, ◌≢◌, ℕ, suc, ◌+◌, ◌<◌, ◌≤◌, true, false, cond, List, [], ◌∷◌, ◌++◌, length, get_or, set, reverse, Option, Some, None, refl, sym, ap, ◌∙◌, subst, ⊎_elim, arith, length-append, length-set}
+use Rattle.std.proofs.Common.{◌≡◌, ◌≢◌, ℕ, suc, ◌+◌, ◌<◌, ◌≤◌, true, false, cond, List, [], ◌∷◌, ◌++◌, length, get_or, set, reverse, Some, None, refl, sym, ap, ◌∙◌, subst, ⊎_elim, arith, length-append, length-set}
 use Rattle.std.specs.Prelude.{Bool, not, ◌&&◌, All, count_by, drop}
-use Rattle.std.specs.Option.{option_to_list}
 use Rattle.std.proofs.lemmas.Bool.{cases_eq}
-use Rattle.std.proofs.lemmas.List.{append-nil, reverse-append, get_or-set_same, get_or-set_other, get_or_append_left}
+use Rattle.std.proofs.lemmas.List.{reverse-append, get_or-set_same, get_or-set_other, get_or_append_left}
 use Rattle.std.proofs.lemmas.List.Elements.{All-head, All-tail, All-cons, All-nil}
 use Rattle.std.proofs.lemmas.List.Sums.{sum_by-set, sum_by_push, sum_by-cons, count_by-le-length}
 use Rattle.strm_handles.specs.Handles.{AreApart}
@@ -82,15 +81,13 @@ some_room places streams some p = omega (arith, some, p.all, p.room)
 -- ## The list of the free
 
 -- what is left of it where the last freed leaves
-pub popped : (old new : List ℕ) (r : Option ℕ) → old ≡ new ++ option_to_list r → (0 < length old → r ≢ None) → reverse new ≡ drop 1 (reverse old)
-popped old new (Some n) e some = sym (ap (λ (ns : List ℕ). drop 1 (reverse ns)) e ∙ ap (drop 1) (reverse-append new (n ∷ [])))
-popped old new None e some =
-    let same : old ≡ new = e ∙ append-nil new in
-    by old same (λ l. some l refl)
-  where
-    by : (ns : List ℕ) → ns ≡ new → (0 < length ns → ⊥) → reverse new ≡ drop 1 (reverse ns)
-    by [] is none = sym (ap reverse is)
-    by (n ∷ ns) is none = absurd (none (omega arith))
+pub popped : (old new : List ℕ) (n : ℕ) → old ≡ new ++ n ∷ [] → reverse new ≡ drop 1 (reverse old)
+popped old new n e = sym (ap (λ (ns : List ℕ). drop 1 (reverse ns)) e ∙ ap (drop 1) (reverse-append new (n ∷ [])))
+
+-- there is one, where one is next
+pub some_free : (free : List ℕ) (n : ℕ) → next_free free ≡ Some n → 0 < length free
+some_free [] n e = cc
+some_free (k ∷ free) n e = omega arith
 
 -- ## A stream more
 

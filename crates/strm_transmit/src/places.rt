@@ -87,10 +87,11 @@ impl StreamPlaces {
     /// A stream more gets it.
     #[inline(always)]
     fn take(&mut self)
-        requires { self.old.live < 4294967295 }
+        requires some { 0 < length self.old.free }
+        requires few { self.old.live < 4294967295 }
         ensures { self.new ≡ taken self.old }
     {
-        let _ = self.free.pop();
+        let _ = self.free.take_last();
         self.live += 1;
     }
 
