@@ -244,7 +244,10 @@ impl Store {
         self.sound();
         self.served();
         match self.admit(self.operation_found(side, end, address, count)) {
-            Ok(found) => self.take_called_or_stay(side, found.0, end.guest, address, found.1),
+            Ok(found) => {
+                let payload = end.ty.payload();
+                self.take_called_or_stay(side, found.0, &payload, end.guest, address, found.1)
+            }
             Err(error) => Err(error),
         }
     }
@@ -262,7 +265,8 @@ impl Store {
         requires called { MayBegin self.old side stream (begun guest address count) }
         ensures begins { BeginsOn self.old self.new side stream (begun guest address count) result }
     {
-        match self.take_called_or_stay(side, stream, guest, address, count) {
+        let payload = self.stream(stream).payload();
+        match self.take_called_or_stay(side, stream, &payload, guest, address, count) {
             Ok(code) => Ok(code),
             Err(_) => {
                 self.trap();
@@ -271,23 +275,25 @@ impl Store {
         }
     }
 
-    // The same, but that an item which is none leaves the store as it was.
+    // The same, but that an item which is none leaves the store as it was. The payload is the stream's: a
+    // caller that knows it has less code here.
     #[inline(always)]
     fn take_called_or_stay(
         &mut self,
         side: Side,
         stream: u32,
+        payload: &Payload,
         guest: u32,
         address: u32,
         count: ItemCount,
     ) -> Result<ReturnCode, StoreError>
         requires called { MayBegin self.old side stream (begun guest address count) }
+        requires payload { payload.now ≡ (stream_at self.old stream).payload }
         ensures begins { BeginsOrStays self.old self.new side stream (begun guest address count)
             result }
     {
-        let payload = self.stream(stream).payload();
         let mine = begin(guest, address, count);
-        match self.take_or_stay(side, stream, &payload, mine) {
+        match self.take_or_stay(side, stream, payload, mine) {
             Ok(code) => Ok(code),
             Err(_) => Err(StoreError::BadItem { stream }),
         }
