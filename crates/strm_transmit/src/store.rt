@@ -248,9 +248,10 @@ impl Store {
         ensures served { AreServed self.now.producers self.now.consumers self.now.streams }
         ensures takes_no_memory { result ≢ Err StoreError.OutOfMemory }
     {
-        if self.is_trapped {
-            return Err(StoreError::StoreTrapped);
+        match found {
+            Ok(value) if !self.is_trapped => Ok(value),
+            Err(refusal) if !self.is_trapped => Err(StoreError::Refused(refusal)),
+            _ => Err(StoreError::StoreTrapped),
         }
-        Ok(found?)
     }
 }
