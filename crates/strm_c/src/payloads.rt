@@ -102,7 +102,9 @@ pub fn type_at(word: u64) -> Option<TransmitIndex>
     ensures { result ≡ type_at word }
 {
     let is_future = word >= FUTURE;
-    let payload = payload_at(if is_future { word - FUTURE } else { word })?;
+    let Some(payload) = payload_at(if is_future { word - FUTURE } else { word }) else {
+        return None;
+    };
     if is_future {
         Some(TransmitIndex::Future(payload))
     } else {

@@ -48,8 +48,8 @@ const MOST_STREAMS: usize = 4_294_967_295;
 fn pass_limit(limit: u32, streams: u32, sets: u32, contexts: usize, needed: u32) -> bool
     ensures { result ≡ nat_lt limit (3 * streams + sets + contexts + needed) }
 {
-    let taken = 3 * u128::from(streams) + u128::from(sets) + contexts as u128;
-    u128::from(limit) < taken + u128::from(needed)
+    let taken = 3 * u64::from(streams) + u64::from(sets) + u64::from(needed);
+    u64::from(limit) < taken.saturating_add(contexts as u64)
 }
 
 // The handles of a new stream's ends, the read end's first, and its number.
