@@ -1,7 +1,6 @@
 -- A call of the store without host ends is the machine's step, and leaves it so.
 use Rattle.std.proofs.Common.{◌≡◌, ◌≤◌, ◌+◌, arith, ap, ℕ, true, false, List, ◌++◌, length, refl, sym, subst, ◌∙◌}
 use Rattle.std.specs.Prelude.{Result, Ok, Err}
-use Rattle.strm_buffers.specs.Tells.{Tells}
 use Rattle.std.specs.Prelude.{Bool, nat_lt, ◌&&◌, Option, Some, None}
 use Rattle.std.proofs.lemmas.Bool.{le-ltb, and_parts, cond_both}
 use Rattle.strm_memory.specs.Region.{bytes_out_of_bounds}
@@ -29,13 +28,13 @@ use Rattle.strm_machine.proofs.EmptyLemmas.{StateIsHeld-empty}
 use Rattle.strm_machine.proofs.HeldLemmas.{StateIsHeld, IsHeld-same, reaction-held}
 use Rattle.strm_machine.proofs.TableLemmas.{handles-same, handles-more}
 use Rattle.strm_transmit.specs.Lending.{with_bytes_in}
-use Rattle.strm_transmit.specs.Guests.{Unhosted, AreUnhosted, nobody, is_of_guests, AreOfOwners}
+use Rattle.strm_transmit.specs.Guests.{Unhosted, AreUnhosted, nobody, AreOfOwners}
 use Rattle.strm_transmit.proofs.HeldStoreLemmas.{with_context_handle-held}
 use Rattle.strm_transmit.specs.Meets.{Meets}
-use Rattle.strm_transmit.specs.Hosted.{MeetsHosted, StillFits}
+use Rattle.strm_transmit.specs.Hosted.{StillFits}
 use Rattle.strm_transmit.specs.declared.errors.StoreError.{StoreError}
 use Rattle.strm_transmit.specs.declared.errors.StoreError.TheVariants as errors
-use Rattle.strm_transmit.proofs.GuestLemmas.{reaction-unhosted, lowering-unhosted, empty-unhosted, touches-none}
+use Rattle.strm_transmit.proofs.GuestLemmas.{reaction-unhosted, lowering-unhosted, empty-unhosted}
 use Rattle.strm_guest_store.specs.Among.{HandlesAgree, IsAmongGuests, HasBytes}
 use Rattle.strm_guest_store.proofs.CountLemmas.{makes_none, AsMany, few_kept, reaction-many, lowering-many}
 use Rattle.strm_guest_store.proofs.OwnerLemmas.{of_agreed, agreed, copies_none, reaction-owned, reaction-stays, lowering-owned, lowering-stays, none-owned}
@@ -104,18 +103,6 @@ lowered_among old new result number g among m f =
       untrapped = lowering-stays old number g ∙ among.untrapped;
     })
     (f nobody among.fits) m
-
--- one that takes host ends, of which there are none
-pub fits_nobody : (state : State) (tells : Tells) → IsAmongGuests state → tells ≡ nobody → Fits state tells
-fits_nobody state tells among e = subst (Fits state) (sym e) among.fits
-
-pub hosted_meets : (old new : State) (tells told : Tells) (result : Result Reply StoreError) (act : Act) → IsAmongGuests old → is_of_guests act ≡ true → MeetsHosted old new tells told result act → Meets old new result (reaction old act)
-hosted_meets old new tells told result act among e m = (m.alone (touches-none old act among.unhosted e)).meets
-
-pub hosted_among : (old new : State) (tells told : Tells) (result : Result Reply StoreError) (act : Act) → IsAmongGuests old → tells ≡ nobody → is_of_guests act ≡ true → is_plain act ≡ true → MeetsHosted old new tells told result act → IsAmongGuests new
-hosted_among old new tells told result act among n e k m =
-    let a = m.alone (touches-none old act among.unhosted e) in
-    after-call old new result (reaction old act) among (step-leaves old act k among) (subst (Fits new) (a.ends ∙ n) m.fits) a.meets
 
 pub empty_among : (tag : ℕ) (limits : Limits) → Fits (empty tag limits) nobody → IsAmongGuests (empty tag limits)
 empty_among tag limits f = record {

@@ -1,7 +1,6 @@
 -- Where memories lie, after any call.
-use Rattle.std.proofs.Common.{◌≡◌, ℕ, true, List, ◌++◌, length, Result, Ok, Err, refl, sym, subst, ◌∙◌}
+use Rattle.std.proofs.Common.{◌≡◌, ℕ, List, ◌++◌, length, Result, Ok, Err, refl, sym, subst, ◌∙◌}
 use Rattle.std.specs.Ptr.{Ptr}
-use Rattle.strm_buffers.specs.Tells.{Tells}
 use Rattle.strm_machine.specs.State.{State, memory_in, with_memory}
 use Rattle.strm_machine.specs.Bases.{BasesStay, BasesStayBut}
 use Rattle.strm_machine.specs.Growth.{adds_guest_at, grown, moved_to}
@@ -12,9 +11,7 @@ use Rattle.strm_machine.specs.declared.acts.Act.{Act}
 use Rattle.strm_machine.specs.declared.replies.Reply.{Reply}
 use Rattle.strm_machine.specs.declared.steps.Step.{Step}
 use Rattle.strm_machine.proofs.BaseLemmas.{reaction-bases, lowered-bases, base_in-with_memory, base_in-behind_but, base_in-with_base_but}
-use Rattle.strm_transmit.specs.Guests.{is_of_guests}
 use Rattle.strm_transmit.specs.Meets.{Meets}
-use Rattle.strm_transmit.specs.Hosted.{MeetsHosted}
 use Rattle.strm_transmit.specs.declared.errors.StoreError.{StoreError}
 use Rattle.strm_transmit.specs.declared.errors.StoreError.TheVariants as errors
 use Rattle.strm_codes.specs.declared.codes.ReturnCode.{ReturnCode}
@@ -23,7 +20,6 @@ use Rattle.strm_guest_store.specs.Among.{IsAmongGuests}
 use Rattle.strm_guest_store.specs.Operations.{MeetsOrTells}
 use Rattle.strm_guest_store.specs.declared.operations.OperateError.{OperateError}
 use Rattle.strm_guest_store.specs.declared.operations.OperateError.TheVariants as operate_errors
-use Rattle.strm_guest_store.proofs.AmongLemmas.{hosted_meets}
 use Rattle.strm_transmit.proofs.AgainLemmas.{meets_leaves}
 
 -- a state that is another
@@ -42,12 +38,9 @@ meets-bases old new (Err (errors.BadItem stream)) r h m = done_bases old new r _
 meets-bases old new (Err errors.StoreTrapped) r h m = same_bases old new m.1
 meets-bases old new (Err errors.OutOfMemory) r h m = same_bases old new m.1
 
--- a call that takes no host ends, and one that takes such as are not there
+-- a call that is the machine's step
 pub plain_stays : (old new : State) (result : Result Reply StoreError) (act : Act) → IsAmongGuests old → Meets old new result (reaction old act) → BasesStay old.guests new.guests
 plain_stays old new result act among m = meets-bases old new result (reaction old act) (reaction-bases old act among.unhosted.sound) m
-
-pub hosted_stays : (old new : State) (tells told : Tells) (result : Result Reply StoreError) (act : Act) → IsAmongGuests old → is_of_guests act ≡ true → MeetsHosted old new tells told result act → BasesStay old.guests new.guests
-hosted_stays old new tells told result act among e m = plain_stays old new result act among (hosted_meets old new tells told result act among e m)
 
 pub step-bases : (old new : State) (result : Result Reply StoreError) (step : Step) → IsAmongGuests old → Meets old new result (react old step) → BasesStay old.guests new.guests
 step-bases old new result step among m = plain_stays old new result (act_of step) among m

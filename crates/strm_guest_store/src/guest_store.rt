@@ -4,10 +4,8 @@
 //! `futures_and_streams.rs`, `ConcurrentState`; that host ends stand apart is ours.
 
 ghost use Rattle.std.specs.Prelude.{◌≡◌, ◌<◌, ◌≤◌, ◌↔◌, ◌*◌, false, length, IsSome, IfSome, IsTrue};
-ghost use Rattle.strm_buffers.specs.AllTells.{tells_of};
 ghost use Rattle.strm_codes.specs.Types.{kind_of, payload_of};
 ghost use Rattle.strm_machine.specs.State.{empty, is_live, stream_at, memory_in};
-ghost use Rattle.strm_transmit.specs.Guests.{nobody};
 
 mod contexts;
 mod counts;
@@ -22,7 +20,6 @@ mod streams;
 
 use std::alloc::Global;
 use std::marker::Model;
-use strm_buffers::hosts::Hosts;
 use strm_codes::codes::TransmitIndex;
 use strm_machine::limits::Limits;
 use strm_transmit::store::Store;
@@ -31,7 +28,6 @@ use strm_transmit::store::Store;
 #[derive(Drop)]
 pub struct GuestStore {
     store: Store,
-    alloc: Global,
 }
 
 impl Model for GuestStore {
@@ -51,18 +47,6 @@ impl Model for GuestStore {
     ghost invariant = { λ s. IsAmongGuests s.store };
 }
 
-// No host ends: what a call of the store is handed that could touch one. It takes no memory, and is not
-// kept, since a list that lies in the store could not be told from one that somebody filled.
-#[inline(always)]
-fn no_hosts(alloc: Global) -> Hosts
-    ensures { tells_of writer_tells reader_tells result ≡ nobody }
-{
-    Hosts {
-        writers: Vec::new(alloc),
-        readers: Vec::new(alloc),
-    }
-}
-
 #[tactic(auto, using(crate::proofs::AmongLemmas::empty_among))]
 impl GuestStore {
     /// A store without guests, of this tag, under these limits. Takes no memory.
@@ -71,7 +55,6 @@ impl GuestStore {
     {
         GuestStore {
             store: Store::new(alloc, tag, limits),
-            alloc,
         }
     }
 

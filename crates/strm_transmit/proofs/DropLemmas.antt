@@ -126,25 +126,40 @@ performs-close world reader = refl
 abbrev pub MayDrop : State → Side → NamedEnd → ℕ → Type 0
 MayDrop state side end s = IsAdmitted state (refusal state (OnEnd side end Drop)) (stream_named (named state end)) s
 
+-- the end that is named was dropped, as the machine without host ends does it
+pub dropped-alone : (old mid : State) (side : Side) (end : NamedEnd) (s : ℕ) → MayDrop old side end s → mid ≡ without_end (without_handle old end.guest end.handle) s side → reaction old (OnEnd side end Drop) ≡ goes replies.Done mid
+unfolding dropped
+dropped-alone old mid side end s a e =
+    reacts_to old (OnEnd side end Drop) (stream_named (named old end)) s (λ k. drops old k side end) a (performs-on_end old side end Drop)
+    ∙ ap (goes replies.Done) (sym e)
+
+-- the loose read end that is named may be dropped
+abbrev pub MayClose : State → ℕ → Type 0
+MayClose state s = IsAdmitted {V = Unit {0}} state (refusal state (OnLoose s Close)) tt tt
+
+-- and was
+pub closed-alone : (old mid : State) (s : ℕ) → MayClose old s → mid ≡ without_end old s Reading → reaction old (OnLoose s Close) ≡ goes replies.Done mid
+unfolding dropped performs
+closed-alone old mid s a e =
+    reacts_to old (OnLoose s Close) tt tt (λ _. closes old s) a refl ∙ ap (goes replies.Done) (sym e)
+
 module _ (old mid : State) (tells : Tells) where
   -- the end that is named was dropped
   pub drops-end : (side : Side) (end : NamedEnd) (s : ℕ) → IsReady old tells → MayDrop old side end s → s < length old.streams → mid ≡ without_end (without_handle old end.guest end.handle) s side → Drops old mid tells (OnEnd side end Drop) s side
-  unfolding dropped
   drops-end side end s r a l e = record {
     ready = r;
     may = record { untrapped = a.untrapped; none = λ logs. refusal_in-on_end (world_of old tells logs) side end Drop ∙ a.none };
-    reaction = reacts_to old (OnEnd side end Drop) (stream_named (named old end)) s (λ k. drops old k side end) a (performs-on_end old side end Drop) ∙ ap (goes replies.Done) (sym e);
+    reaction = dropped-alone old mid side end s a e;
     performs = λ logs. performs-drop (world_of old tells logs) side end s a.same;
     other = subst (λ (m : State). OtherStays side (stream_at old s) (stream_at m s)) (sym e) (other_after side old.streams s l);
   }
 
   -- the loose read end of a stream was dropped
-  pub drops-loose : (s : ℕ) → IsReady old tells → IsAdmitted {V = Unit {0}} old (refusal old (OnLoose s Close)) tt tt → s < length old.streams → mid ≡ without_end old s Reading → Drops old mid tells (OnLoose s Close) s Reading
-  unfolding dropped performs
+  pub drops-loose : (s : ℕ) → IsReady old tells → MayClose old s → s < length old.streams → mid ≡ without_end old s Reading → Drops old mid tells (OnLoose s Close) s Reading
   drops-loose s r a l e = record {
     ready = r;
     may = record { untrapped = a.untrapped; none = λ logs. refusal_in-on_loose (world_of old tells logs) s Close ∙ a.none };
-    reaction = reacts_to old (OnLoose s Close) tt tt (λ _. closes old s) a refl ∙ ap (goes replies.Done) (sym e);
+    reaction = closed-alone old mid s a e;
     performs = λ logs. performs-close (world_of old tells logs) s;
     other = subst (λ (m : State). OtherStays Reading (stream_at old s) (stream_at m s)) (sym e) (other_after Reading old.streams s l);
   }

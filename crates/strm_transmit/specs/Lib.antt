@@ -12,6 +12,7 @@ pub mod Hosted
 pub mod Turning
 pub mod BadItems
 pub mod Operating
+pub mod Dropping
 pub mod Performing
 pub mod Piping
 pub mod Rounds

@@ -11,7 +11,7 @@ ghost use Rattle.strm_machine.specs.declared.steps.Step.TheVariants as steps;
 ghost use Rattle.strm_transmit.specs.Meets.{Meets, as_reply};
 ghost use Rattle.strm_guest_store.specs.Operations.{MeetsOrTells};
 
-use crate::guest_store::{GuestStore, no_hosts};
+use crate::guest_store::GuestStore;
 use crate::operations::OperateError;
 use strm_codes::codes::{ReturnCode, TransmitIndex};
 use strm_codes::payloads::Payload;
@@ -86,10 +86,7 @@ impl GuestStore {
     {
         self.store.future_cancel_read(guest, payload, handle)
     }
-}
 
-#[tactic(auto, using(crate::proofs::AmongLemmas::hosted_meets, crate::proofs::BaseLemmas::hosted_stays))]
-impl GuestStore {
     /// Drops the write end of a future. `canon future.drop-writable`. It is refused (FutureWithoutValue)
     /// before the value has passed, or the end was told that nobody reads it.
     #[inline(always)]
@@ -104,9 +101,9 @@ impl GuestStore {
         ensures stays { BasesStay self.old.guests self.new.guests }
         ensures takes_no_memory { result ≢ Err StoreError.OutOfMemory }
     {
-        let mut hosts = no_hosts(self.alloc);
-        self.store
-            .future_drop_writable(&mut hosts, guest, payload, handle)
+        let ty = TransmitIndex::Future(payload);
+        let end = NamedEnd { guest, ty, handle };
+        self.store.drop_alone(Side::Writing, &end)
     }
 
     /// Drops the read end of a future. `canon future.drop-readable`.
@@ -122,8 +119,8 @@ impl GuestStore {
         ensures stays { BasesStay self.old.guests self.new.guests }
         ensures takes_no_memory { result ≢ Err StoreError.OutOfMemory }
     {
-        let mut hosts = no_hosts(self.alloc);
-        self.store
-            .future_drop_readable(&mut hosts, guest, payload, handle)
+        let ty = TransmitIndex::Future(payload);
+        let end = NamedEnd { guest, ty, handle };
+        self.store.drop_alone(Side::Reading, &end)
     }
 }

@@ -11,7 +11,7 @@ ghost use Rattle.strm_machine.specs.declared.replies.Reply.TheVariants as replie
 ghost use Rattle.strm_machine.specs.declared.steps.Step.TheVariants as steps;
 ghost use Rattle.strm_transmit.specs.Meets.{Meets, as_reply};
 
-use crate::guest_store::{GuestStore, no_hosts};
+use crate::guest_store::GuestStore;
 use strm_codes::codes::TransmitIndex;
 use strm_codes::payloads::Payload;
 use strm_transmit::errors::StoreError;
@@ -71,10 +71,7 @@ impl GuestStore {
     {
         self.store.lower(reader, guest, ty)
     }
-}
 
-#[tactic(auto, using(crate::proofs::AmongLemmas::hosted_meets, crate::proofs::BaseLemmas::hosted_stays))]
-impl GuestStore {
     /// Drops the loose read end of a stream.
     pub fn close(&mut self, reader: u32) -> Result<(), StoreError>
         ensures meets { Meets self.old self.new (as_reply (λ _. replies.Done) result)
@@ -82,7 +79,6 @@ impl GuestStore {
         ensures stays { BasesStay self.old.guests self.new.guests }
         ensures takes_no_memory { result ≢ Err StoreError.OutOfMemory }
     {
-        let mut hosts = no_hosts(self.alloc);
-        self.store.close(&mut hosts, reader)
+        self.store.close_alone(reader)
     }
 }

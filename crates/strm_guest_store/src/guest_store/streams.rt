@@ -11,7 +11,7 @@ ghost use Rattle.strm_machine.specs.declared.steps.Step.TheVariants as steps;
 ghost use Rattle.strm_transmit.specs.Meets.{Meets, as_reply};
 ghost use Rattle.strm_guest_store.specs.Operations.{MeetsOrTells};
 
-use crate::guest_store::{GuestStore, no_hosts};
+use crate::guest_store::GuestStore;
 use crate::operations::OperateError;
 use strm_codes::codes::{ReturnCode, TransmitIndex};
 use strm_codes::payloads::Payload;
@@ -100,10 +100,7 @@ impl GuestStore {
     {
         self.store.take_event(guest, handle)
     }
-}
 
-#[tactic(auto, using(crate::proofs::AmongLemmas::hosted_meets, crate::proofs::BaseLemmas::hosted_stays))]
-impl GuestStore {
     /// Drops the write end of a stream. `canon stream.drop-writable`.
     #[inline(always)]
     pub fn stream_drop_writable(
@@ -117,9 +114,9 @@ impl GuestStore {
         ensures stays { BasesStay self.old.guests self.new.guests }
         ensures takes_no_memory { result ≢ Err StoreError.OutOfMemory }
     {
-        let mut hosts = no_hosts(self.alloc);
-        self.store
-            .stream_drop_writable(&mut hosts, guest, payload, handle)
+        let ty = TransmitIndex::Stream(payload);
+        let end = NamedEnd { guest, ty, handle };
+        self.store.drop_alone(Side::Writing, &end)
     }
 
     /// Drops the read end of a stream. `canon stream.drop-readable`.
@@ -135,8 +132,8 @@ impl GuestStore {
         ensures stays { BasesStay self.old.guests self.new.guests }
         ensures takes_no_memory { result ≢ Err StoreError.OutOfMemory }
     {
-        let mut hosts = no_hosts(self.alloc);
-        self.store
-            .stream_drop_readable(&mut hosts, guest, payload, handle)
+        let ty = TransmitIndex::Stream(payload);
+        let end = NamedEnd { guest, ty, handle };
+        self.store.drop_alone(Side::Reading, &end)
     }
 }

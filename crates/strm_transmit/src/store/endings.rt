@@ -21,6 +21,7 @@ ghost use Rattle.strm_machine.specs.declared.steps.Step.TheVariants as steps;
 ghost use Rattle.strm_machine.proofs.NameLemmas.{IsEndError};
 ghost use Rattle.strm_host_machine.specs.Does.{Fits};
 ghost use Rattle.strm_transmit.specs.Celled.{cell_named, stream_side_named, IsOwn};
+ghost use Rattle.strm_transmit.specs.Dropping.{DropsEnd};
 ghost use Rattle.strm_transmit.specs.Meets.{Meets, as_reply, or_found};
 ghost use Rattle.strm_transmit.specs.Hosted.{StillFits, MeetsHosted};
 
@@ -158,50 +159,68 @@ impl Store {
             (as_reply (λ _. replies.Done) result) (OnEnd side end.now Drop) }
         ensures takes_no_memory { result ≢ Err StoreError.OutOfMemory }
     {
+        self.sound();
+        self.served();
+        match self.drop_end(side, end) {
+            Ok(stream) => {
+                self.forsake(hosts, stream, side);
+                Ok(())
+            }
+            Err(error) => Err(error),
+        }
+    }
+
+    /// The same as the machine without host ends does it: a host end on the other side stays. Refused as
+    /// the call of that side and type.
+    #[inline(always)]
+    pub fn drop_alone(&mut self, side: Side, end: &NamedEnd) -> Result<(), StoreError>
+        ensures meets { Meets self.old self.new (as_reply (λ _. replies.Done) result)
+            (reaction self.old (OnEnd side end.now Drop)) }
+        ensures fits { StillFits self.old self.new }
+        ensures takes_no_memory { result ≢ Err StoreError.OutOfMemory }
+    {
+        self.sound();
+        self.served();
+        match self.drop_end(side, end) {
+            Ok(_stream) => Ok(()),
+            Err(error) => Err(error),
+        }
+    }
+
+    // The end that a handle names is gone, where it may be dropped: answers its stream.
+    #[inline(always)]
+    fn drop_end(&mut self, side: Side, end: &NamedEnd) -> Result<u32, StoreError>
+        ensures drops { DropsEnd self.old self.new side end.now result }
+    {
         match number_type(end.ty) {
             Some(ty) => {
                 let end = NamedEnd { ty, ..*end };
-                self.drop_here(hosts, side, &end)
+                self.drop_here(side, &end)
             }
-            None => self.drop_apart(hosts, side, *end),
+            None => self.drop_apart(side, *end),
         }
     }
 
     // The same of any payload, apart from the code for numbers.
     #[inline(never)]
-    fn drop_apart<H: HostEnds>(
-        &mut self,
-        hosts: &mut H,
-        side: Side,
-        end: NamedEnd,
-    ) -> Result<(), StoreError>
-        requires fits { Fits self.old (H.tells hosts.old) }
-        ensures meets { MeetsHosted self.old self.new (H.tells hosts.old) (H.tells hosts.new)
-            (as_reply (λ _. replies.Done) result) (OnEnd side end Drop) }
-        ensures takes_no_memory { result ≢ Err StoreError.OutOfMemory }
+    fn drop_apart(&mut self, side: Side, end: NamedEnd) -> Result<u32, StoreError>
+        ensures drops { DropsEnd self.old self.new side end result }
     {
-        self.drop_here(hosts, side, &end)
+        self.drop_here(side, &end)
     }
 
     // The same, in the caller's code.
     #[inline(always)]
-    fn drop_here<H: HostEnds>(
-        &mut self,
-        hosts: &mut H,
-        side: Side,
-        end: &NamedEnd,
-    ) -> Result<(), StoreError>
-        requires fits { Fits self.old (H.tells hosts.old) }
-        ensures meets { MeetsHosted self.old self.new (H.tells hosts.old) (H.tells hosts.new)
-            (as_reply (λ _. replies.Done) result) (OnEnd side end.now Drop) }
-        ensures takes_no_memory { result ≢ Err StoreError.OutOfMemory }
+    fn drop_here(&mut self, side: Side, end: &NamedEnd) -> Result<u32, StoreError>
+        ensures drops { DropsEnd self.old self.new side end.now result }
     {
-        self.sound();
-        self.served();
-        let stream = self.admit(self.drop_found(side, end))?;
-        self.release(side, end, stream, Owner::Gone);
-        self.forsake(hosts, stream, side);
-        Ok(())
+        match self.admit(self.drop_found(side, end)) {
+            Ok(stream) => {
+                self.release(side, end, stream, Owner::Gone);
+                Ok(stream)
+            }
+            Err(error) => Err(error),
+        }
     }
 
     /// Drops the read end of a stream. `canon stream.drop-readable`. Refused: UnknownGuest,

@@ -351,4 +351,17 @@ impl Store {
         self.forsake(hosts, reader, Side::Reading);
         Ok(())
     }
+
+    /// The same as the machine without host ends does it: a host writer of the stream stays. Refused:
+    /// UnknownReader.
+    pub fn close_alone(&mut self, reader: u32) -> Result<(), StoreError>
+        ensures meets { Meets self.old self.new (as_reply (λ _. replies.Done) result)
+            (react self.old (steps.Close reader)) }
+        ensures fits { StillFits self.old self.new }
+        ensures takes_no_memory { result ≢ Err StoreError.OutOfMemory }
+    {
+        self.admit(self.close_fits(reader))?;
+        self.lose(reader, Side::Reading);
+        Ok(())
+    }
 }
