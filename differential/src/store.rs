@@ -49,6 +49,13 @@ pub struct Guest {
     pub sets: Vec<WaitableSet>,
 }
 
+impl Guest {
+    /// Whether it has bytes, handles, or a memory that is an engine's.
+    pub fn is_used(&self) -> bool {
+        !self.memory.is_empty() || self.table.handles().next().is_some() || self.is_lent
+    }
+}
+
 /// What a step that is done is answered.
 #[derive(Clone, Copy, Debug, PartialEq, Eq)]
 pub enum Reply<'a> {
@@ -155,6 +162,41 @@ impl Store {
         self.memory += size as usize;
         self.guests.push(Guest { memory: vec![0; size as usize], ..Guest::default() });
         Ok(self.guests.len() as u32 - 1)
+    }
+
+    /// A guest that has nothing gets a memory of so many zero bytes.
+    pub fn begin_guest(&mut self, guest: u32, size: u32) -> Result<Reply<'_>, Refusal> {
+        self.guest(guest)?;
+        if self.memory + size as usize > MOST_MEMORY {
+            return Err(Refusal::MemoryTooBig);
+        }
+        self.memory += size as usize;
+        self.guests[guest as usize] = Guest { memory: vec![0; size as usize], ..Guest::default() };
+        Ok(Reply::Done)
+    }
+
+    /// A guest ends: its ends are cancelled and dropped, by rising handle, then its sets and error contexts go, and
+    /// its memory.
+    pub fn end_guest(&mut self, guest: u32) -> Result<Reply<'_>, Refusal> {
+        let mut handles: Vec<_> = self.guest(guest)?.table.handles().collect();
+        handles.sort_by_key(|(handle, _)| *handle);
+        for (handle, entry) in &handles {
+            if let Entry::End { stream, side } = *entry {
+                self.end_end(guest, *handle, stream, side)?;
+            }
+        }
+        for (handle, entry) in handles {
+            match entry {
+                Entry::Set(_) => self.set_drop(guest, handle)?,
+                Entry::Context(_) => self.error_context_drop(guest, handle)?,
+                Entry::End { .. } => Reply::Done,
+            };
+        }
+        let ended = std::mem::take(&mut self.guests[guest as usize]);
+        if !ended.is_lent {
+            self.memory -= ended.memory.len();
+        }
+        Ok(Reply::Done)
     }
 
     fn add_stream(&mut self, stream: Stream) -> u32 {

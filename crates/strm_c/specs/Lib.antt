@@ -10,3 +10,4 @@ pub mod Queries
 pub mod Making
 pub mod Limits
 pub mod Named
+pub mod Lives

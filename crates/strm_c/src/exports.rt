@@ -4,6 +4,7 @@ mod bad_items;
 mod contexts;
 mod futures;
 mod limits;
+mod lives;
 mod memories;
 mod moves;
 mod pairs;

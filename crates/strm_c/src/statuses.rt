@@ -41,6 +41,9 @@ pub const NOT_LENT: Status = 74;
 /// There are fewer bytes than the guest's memory has.
 pub const SHORTER: Status = 75;
 
+/// The guest has bytes, handles, or a memory that was lent: it did not end, or began again.
+pub const IN_USE: Status = 76;
+
 /// The word of no event, which no code has.
 pub const NO_EVENT: u32 = 3;
 

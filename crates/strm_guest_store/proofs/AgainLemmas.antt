@@ -20,7 +20,7 @@ use Rattle.strm_machine.proofs.TableLemmas.{set-keeps}
 use Rattle.strm_places.specs.Again.{with_pair_at, reaction_at, reacts_at}
 use Rattle.strm_places.proofs.AgainLemmas.{reaction_at-by, performs_at-by, reaction_at-held}
 use Rattle.strm_transmit.specs.Again.{MeetsAt, GrowsFull}
-use Rattle.strm_transmit.specs.Guests.{AreUnhosted, AreOfOwners, nobody}
+use Rattle.strm_transmit.specs.Guests.{AreUnhosted, nobody}
 use Rattle.strm_transmit.specs.Hosted.{StillFits}
 use Rattle.strm_transmit.specs.Meets.{Meets}
 use Rattle.strm_transmit.specs.declared.errors.StoreError.{StoreError}
@@ -28,7 +28,8 @@ use Rattle.strm_transmit.proofs.AgainLemmas.{meets_leaves}
 use Rattle.strm_transmit.proofs.GuestLemmas.{making-unhosted}
 use Rattle.strm_guest_store.specs.Among.{IsAmongGuests}
 use Rattle.strm_guest_store.proofs.CountLemmas.{Grown, grown-not, making-grown, few_grown}
-use Rattle.strm_guest_store.proofs.OwnerLemmas.{of_agreed, agreed, making-owned, making-stays}
+use Rattle.strm_guest_store.proofs.AmongLemmas.{kept_in}
+use Rattle.strm_guest_store.proofs.OwnerLemmas.{of_agreed, agreed, AreKept, owned_by, uncancelled_by, making-owned, making-stays}
 
 -- ## Memories
 
@@ -75,6 +76,7 @@ module _ (old new : State) (result : Result Reply StoreError) (writer reader : �
   again_among among m grows sound fits =
       let r = reaction_at m.number old act in
       let held : StateIsHeld old = of_agreed old among.held in
+      let kept : AreKept new.streams = meets_leaves (λ (s : State). AreKept s.streams) old new result r (kept_in old among) (making-owned old among.unhosted.sound held among.unhosted.none (kept_in old among) m.number act) m.meets in
       record {
         unhosted = record {
           sound = sound;
@@ -84,6 +86,7 @@ module _ (old new : State) (result : Result Reply StoreError) (writer reader : �
         few = few_grown old new writer reader ty
             (meets_leaves (Grown old act) old new result r (grown-not old act) (making-grown m.number old writer reader ty) m.meets) grows among.few;
         held = agreed new (meets_leaves StateIsHeld old new result r held (reaction_at-held m.number old act m.free among.unhosted.sound held) m.meets);
-        owned = meets_leaves (λ (s : State). AreOfOwners s.streams) old new result r among.owned (making-owned old among.unhosted.sound held among.owned m.number act) m.meets;
+        owned = owned_by new.streams kept;
+        uncancelled = uncancelled_by new.streams kept;
         untrapped = meets_leaves (λ (s : State). s.trapped ≡ false) old new result r among.untrapped (making-stays old m.number act refl ∙ among.untrapped) m.meets;
       }

@@ -1,7 +1,6 @@
 -- A call of the store without host ends is the machine's step, and leaves it so.
-use Rattle.std.proofs.Common.{◌≡◌, ◌≤◌, ◌+◌, arith, ap, ℕ, true, false, List, ◌++◌, length, refl, sym, subst, ◌∙◌}
-use Rattle.std.specs.Prelude.{Result, Ok, Err}
-use Rattle.std.specs.Prelude.{Bool, nat_lt, ◌&&◌, Option, Some, None}
+use Rattle.std.proofs.Common.{◌≡◌, ◌≤◌, ◌+◌, arith, ap, ℕ, true, false, List, [], ◌++◌, length, refl, sym, subst, ◌∙◌}
+use Rattle.std.specs.Prelude.{Result, Ok, Err, Bool, nat_lt, ◌&&◌, Option, Some, None}
 use Rattle.std.proofs.lemmas.Bool.{le-ltb, and_parts, cond_both}
 use Rattle.strm_memory.specs.Region.{bytes_out_of_bounds}
 use Rattle.strm_codes.specs.declared.refusals.Refusal.{Refusal}
@@ -28,7 +27,7 @@ use Rattle.strm_machine.proofs.EmptyLemmas.{StateIsHeld-empty}
 use Rattle.strm_machine.proofs.HeldLemmas.{StateIsHeld, IsHeld-same, reaction-held}
 use Rattle.strm_machine.proofs.TableLemmas.{handles-same, handles-more}
 use Rattle.strm_transmit.specs.Lending.{with_bytes_in}
-use Rattle.strm_transmit.specs.Guests.{Unhosted, AreUnhosted, nobody, AreOfOwners}
+use Rattle.strm_transmit.specs.Guests.{Unhosted, AreUnhosted, nobody}
 use Rattle.strm_transmit.proofs.HeldStoreLemmas.{with_context_handle-held}
 use Rattle.strm_transmit.specs.Meets.{Meets}
 use Rattle.strm_transmit.specs.Hosted.{StillFits}
@@ -37,22 +36,33 @@ use Rattle.strm_transmit.specs.declared.errors.StoreError.TheVariants as errors
 use Rattle.strm_transmit.proofs.GuestLemmas.{reaction-unhosted, lowering-unhosted, empty-unhosted}
 use Rattle.strm_guest_store.specs.Among.{HandlesAgree, IsAmongGuests, HasBytes}
 use Rattle.strm_guest_store.proofs.CountLemmas.{makes_none, AsMany, few_kept, reaction-many, lowering-many}
-use Rattle.strm_guest_store.proofs.OwnerLemmas.{of_agreed, agreed, copies_none, reaction-owned, reaction-stays, lowering-owned, lowering-stays, none-owned}
+use Rattle.strm_guest_store.proofs.OwnerLemmas.{of_agreed, agreed, AreKept, kept_by, owned_by, uncancelled_by, copies_none, reaction-owned, reaction-stays, lowering-owned, lowering-stays, none-owned}
 
 -- what a step leaves where it makes no stream
 pub record LeavesGuests (old new : State) : Type 0 where
   pub unhosted : Unhosted new
   pub many : AsMany old new
   pub held : HandlesAgree new
-  pub owned : AreOfOwners new.streams
+  pub kept : AreKept new.streams
   pub untrapped : new.trapped ≡ false
+
+pub kept_in : (state : State) → IsAmongGuests state → AreKept state.streams
+kept_in state among = kept_by state.streams among.owned among.uncancelled
 
 pub after-done : (old new : State) (r : Reaction) (reply : Reply) → IsAmongGuests old → LeavesGuests old r.state → Fits new nobody → r ≡ record { reply = reply; state = new } → IsAmongGuests new
 after-done old new r reply among l f e =
     let now = subst (λ (r : Reaction). LeavesGuests old r.state) e l in
-    record { unhosted = now.unhosted; fits = f; few = few_kept old new now.many among.few; held = now.held; owned = now.owned; untrapped = now.untrapped }
+    record {
+      unhosted = now.unhosted;
+      fits = f;
+      few = few_kept old new now.many among.few;
+      held = now.held;
+      owned = owned_by new.streams now.kept;
+      uncancelled = uncancelled_by new.streams now.kept;
+      untrapped = now.untrapped;
+    }
 
-after-call : (old new : State) (result : Result Reply StoreError) (r : Reaction) → IsAmongGuests old → LeavesGuests old r.state → Fits new nobody → Meets old new result r → IsAmongGuests new
+pub after-call : (old new : State) (result : Result Reply StoreError) (r : Reaction) → IsAmongGuests old → LeavesGuests old r.state → Fits new nobody → Meets old new result r → IsAmongGuests new
 after-call old new (Ok reply) r among l f m = after-done old new r reply among l f m
 after-call old new (Err (errors.Refused refusal)) r among l f m = subst IsAmongGuests (sym m.1) among
 after-call old new (Err (errors.HostFailed end)) r among l f m = absurd m
@@ -73,7 +83,7 @@ step-leaves old act n among =
       unhosted = reaction-unhosted old act among.unhosted;
       many = reaction-many old act plain.0 among.unhosted.sound;
       held = agreed (reaction old act).state (reaction-held old act among.unhosted.sound (of_agreed old among.held));
-      owned = reaction-owned old among.unhosted.sound (of_agreed old among.held) among.owned act;
+      kept = reaction-owned old among.unhosted.sound (of_agreed old among.held) among.unhosted.none (kept_in old among) act;
       untrapped = reaction-stays old act plain.1 ∙ among.untrapped;
     }
 
@@ -99,7 +109,7 @@ lowered_among old new result number g among m f =
       unhosted = lowering-unhosted old number g among.unhosted;
       many = lowering-many old number g;
       held = agreed (lowers_context old number g).state (lowering-held old number g among.unhosted.sound (of_agreed old among.held));
-      owned = lowering-owned old number g among.owned;
+      kept = lowering-owned old number g (kept_in old among);
       untrapped = lowering-stays old number g ∙ among.untrapped;
     })
     (f nobody among.fits) m
@@ -110,7 +120,8 @@ empty_among tag limits f = record {
   fits = f;
   few = omega arith;
   held = agreed (empty tag limits) (StateIsHeld-empty tag limits);
-  owned = none-owned;
+  owned = owned_by [] none-owned;
+  uncancelled = uncancelled_by [] none-owned;
   untrapped = refl;
 }
 
@@ -130,6 +141,7 @@ guests_among state guests keeps among = record {
   held = agreed (record state { guests = guests })
       (IsHeld-same state.guests guests state.streams state.streams (λ g. handles-same state.guests guests g keeps.handles) (λ s side. refl) (of_agreed state among.held));
   owned = among.owned;
+  uncancelled = among.uncancelled;
   untrapped = among.untrapped;
 }
 
@@ -160,6 +172,7 @@ grown_among state guest more among may =
       held = agreed (grown state guest more)
           (IsHeld-same state.guests guests state.streams state.streams (λ g. handles-same state.guests guests g (handles-grown state.guests guest (memory_in state.guests guest ++ more))) (λ s side. refl) (of_agreed state among.held));
       owned = among.owned;
+      uncancelled = among.uncancelled;
       untrapped = among.untrapped;
     }
 
@@ -179,7 +192,7 @@ at-leaves state bytes at among =
       };
       many = adds_guest_at-by (λ (s : State). AsMany state s) state bytes at (record { many = refl; limits = refl }) (λ fits. record { many = refl; limits = refl });
       held = agreed (adds_guest_at state bytes at).state (adds_guest_at-by StateIsHeld state bytes at (of_agreed state among.held) (λ fits. handed));
-      owned = adds_guest_at-by (λ (s : State). AreOfOwners s.streams) state bytes at among.owned (λ fits. among.owned);
+      kept = adds_guest_at-by (λ (s : State). AreKept s.streams) state bytes at (kept_in state among) (λ fits. kept_in state among);
       untrapped = adds_guest_at-by (λ (s : State). s.trapped ≡ false) state bytes at among.untrapped (λ fits. among.untrapped);
     }
 

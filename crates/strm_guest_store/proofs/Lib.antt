@@ -11,3 +11,5 @@ pub mod GainLemmas
 -- limits that are none
 pub mod LimitLemmas
 pub mod MessageLemmas
+-- guests that end and begin
+pub mod LivesLemmas

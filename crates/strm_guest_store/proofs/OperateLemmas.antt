@@ -32,7 +32,7 @@ use Rattle.strm_guest_store.specs.Among.{IsAmongGuests}
 use Rattle.strm_guest_store.specs.Operations.{StopsAtItem, MeetsOrTells}
 use Rattle.strm_guest_store.specs.declared.operations.OperateError.{OperateError}
 use Rattle.strm_guest_store.specs.declared.operations.OperateError.TheVariants as operate_errors
-use Rattle.strm_guest_store.proofs.AmongLemmas.{LeavesGuests, after-done}
+use Rattle.strm_guest_store.proofs.AmongLemmas.{LeavesGuests, kept_in, after-done}
 use Rattle.strm_guest_store.proofs.CountLemmas.{reaction-many}
 use Rattle.strm_guest_store.proofs.OwnerLemmas.{of_agreed, agreed, reaction-owned}
 
@@ -65,7 +65,7 @@ module _ (old new : State) (side : Side) (end : NamedEnd) (address count : ℕ) 
         unhosted = reaction-unhosted old act among.unhosted;
         many = reaction-many old act refl among.unhosted.sound;
         held = agreed (reaction old act).state (reaction-held old act among.unhosted.sound (of_agreed old among.held));
-        owned = reaction-owned old among.unhosted.sound (of_agreed old among.held) among.owned act;
+        kept = reaction-owned old among.unhosted.sound (of_agreed old among.held) among.unhosted.none (kept_in old among) act;
         untrapped = ap (λ (s : State). s.trapped) is ∙ untrapped_by old step (replies.Code code) new among.untrapped refl (sym reacted ∙ e);
       } in
       after-done old new (reaction old act) (replies.Code code) among leaves (f nobody among.fits) e

@@ -1,24 +1,23 @@
--- An operation stays one of the guest that has its end, through every step; and no step but a read or write
--- traps a store.
-use Rattle.std.proofs.Common.{◌≡◌, ℕ, zero, suc, Bool, true, false, List, [], ◌∷◌, ◌++◌, length, set, Option, Some, None, refl, sym, ap, ◌∙◌}
+-- An operation stays one of the guest that has its end, and one that is not being cancelled, through every step; and
+-- no step but a read or write traps a store.
+use Rattle.std.proofs.Common.{◌≡◌, ℕ, zero, suc, Bool, true, false, List, [], ◌∷◌, ◌++◌, length, get_or, set, Option, Some, None, refl, sym, ap, ◌∙◌}
 use Rattle.std.specs.Prelude.{is_some, nat_lt}
-use Rattle.std.specs.Option.{option_map}
 use Rattle.std.proofs.lemmas.Bool.{cond_both}
 use Rattle.strm_codes.specs.declared.codes.ReturnCode.{ReturnCode}
 use Rattle.strm_codes.specs.declared.codes.TransmitIndex.{TransmitIndex}
 use Rattle.strm_codes.specs.declared.refusals.Refusal.{Refusal}
-use Rattle.strm_machine.specs.State.{State, Guest, no_stream, stream_at, is_gone, is_loose, idle_end}
+use Rattle.strm_machine.specs.State.{State, Guest, no_stream, stream_at, is_gone, is_loose, is_host, idle_end}
 use Rattle.strm_machine.specs.Making.{made_pair, made_stream, with_stream}
 use Rattle.strm_machine.specs.Meetings.{begun, advanced}
 use Rattle.strm_machine.specs.Moves.{with_owner, without_handle, next_in}
 use Rattle.strm_machine.specs.Operating.{Operated, with_received, waits, moves, completes_alone, rendezvous_by, learns, finds, operate}
-use Rattle.strm_machine.specs.Endings.{report_on, told_end, delivered, dropped, asked_to_finish, waits_for_host, code_of_cancel, cancelled_end, cancelled}
+use Rattle.strm_machine.specs.Endings.{report_on, told_end, delivered, dropped, waits_for_host, code_of_cancel, cancelled_end, cancelled}
 use Rattle.strm_machine.specs.Refusals.{refusal, first_of, lower_context_reasons}
 use Rattle.strm_machine.specs.Reactions.{Reaction, written_back, polls, shares_unless, performs, reaction, lowers_context}
 use Rattle.strm_machine.specs.WaitableSets.{ready_in}
 use Rattle.strm_machine.specs.Sides.{opposite, same_side, end_of, with_end, with_operation}
 use Rattle.strm_machine.specs.Soundness.{IsSound}
-use Rattle.strm_machine.specs.Tests.{named, end_named, stream_named, side_named, items_asked}
+use Rattle.strm_machine.specs.Tests.{named, end_named, stream_named, side_named, items_asked, was_asked}
 use Rattle.strm_machine.specs.declared.acts.Act.{Act}
 use Rattle.strm_machine.specs.declared.acts.Act.TheVariants.{Make, OnEnd, Transfer, OnLoose, OnHost, Drive, Event, OnSet, OnContext, OnMemory}
 use Rattle.strm_machine.specs.declared.acts.ContextAct.TheVariants as context_acts
@@ -42,10 +41,11 @@ use Rattle.strm_machine.proofs.ReactionLemmas.{reaction-by, refusal-on_end}
 use Rattle.strm_machine.proofs.RefusalLemmas.{LeaveFits, drop_fits, lift_fits, move_fits, lower_fits, close_fits}
 use Rattle.strm_machine.proofs.Shapes.{Operates}
 use Rattle.strm_machine.proofs.ShapeLemmas.{operate-fits}
-use Rattle.strm_places.specs.Again.{put, with_pair_at, performs_at, reaction_at}
+use Rattle.strm_places.specs.Again.{put, with_pair_at, reaction_at}
 use Rattle.strm_places.proofs.AgainLemmas.{performs_at-by, reaction_at-by}
-use Rattle.strm_transmit.specs.Guests.{IsOfOwner, AreOfOwners}
-use Rattle.strm_guest_store.specs.Among.{HandlesAgree}
+use Rattle.strm_places.proofs.CalmLemmas.{waits_not}
+use Rattle.strm_transmit.specs.Guests.{AreUnhosted, AreOfOwners}
+use Rattle.strm_guest_store.specs.Among.{HandlesAgree, AreUncancelled}
 
 -- ## Handles and ends that agree
 
@@ -58,8 +58,15 @@ agreed state h = record { tables = h.tables; named = h.agree.named; held = h.agr
 
 -- ## One end
 
+-- an operation of the guest that has the end, which is not being cancelled
+abbrev IsHeldBy : End → Operation → Type 0
+IsHeldBy end operation = ((handle : ℕ) × (end.owner ≡ Held operation.guest handle)) × (operation.asked ≡ false)
+
+abbrev IsKept : End → Type 0
+IsKept end = (operation : Operation) → end.operation ≡ Some operation → IsHeldBy end operation
+
 -- of an end without an operation nothing is said
-idle-owned : (end : End) → end.operation ≡ None → IsOfOwner end
+idle-owned : (end : End) → end.operation ≡ None → IsKept end
 idle-owned end none operation e = let wrong : None ≡ Some operation = sym none ∙ e in cc
 
 -- one that nobody can have had an operation on
@@ -71,36 +78,30 @@ not_busy (Some operation) e = cc
 loose_is_held : (owner : Owner) (g handle : ℕ) → is_loose owner ≡ true → owner ≡ Held g handle → ⊥
 loose_is_held owner g handle e h = let wrong : is_loose owner ≡ false = ap is_loose h in cc
 
-loose-idle : (end : End) → IsOfOwner end → is_loose end.owner ≡ true → end.operation ≡ None
+loose-idle : (end : End) → IsKept end → is_loose end.owner ≡ true → end.operation ≡ None
 loose-idle end own loose = by end.operation refl
   where
     by : (o : Option Operation) → end.operation ≡ o → o ≡ None
     by None e = refl
-    by (Some operation) e = let held = own operation e in absurd (loose_is_held end.owner operation.guest held.0 loose held.1)
+    by (Some operation) e = let held = (own operation e).0 in absurd (loose_is_held end.owner operation.guest held.0 loose held.1)
 
 -- its operation ends, or stays
-told_by-owned : (code : Option ReturnCode) (end : End) → IsOfOwner end → IsOfOwner (told_end code end)
+told_by-owned : (code : Option ReturnCode) (end : End) → IsKept end → IsKept (told_end code end)
 told_by-owned None end own = own
 told_by-owned (Some code) end own = λ operation e. cc
 
-cancelled_by-owned : (b : Bool) (code : ReturnCode) (end : End) → IsOfOwner end → IsOfOwner (cancelled_end b code end)
-cancelled_by-owned false code end own = told_by-owned (Some code) end own
-cancelled_by-owned true code end own = λ operation. asked end.operation refl operation
-  where
-    asked : (o : Option Operation) → end.operation ≡ o → (operation : Operation) → option_map asked_to_finish o ≡ Some operation → (handle : ℕ) × (end.owner ≡ Held operation.guest handle)
-    asked None e operation f = cc
-    asked (Some mine) e operation f =
-        let held = own mine e in
-        let same : asked_to_finish mine ≡ operation = cc in
-        (held.0, held.1 ∙ ap (λ (o : Operation). Held o.guest held.0) same)
+-- a cancel that waits for no host end ends it
+cancelled_by-owned : (waits : Bool) (code : ReturnCode) (end : End) → waits ≡ false → IsKept end → IsKept (cancelled_end waits code end)
+cancelled_by-owned false code end e own = told_by-owned (Some code) end own
+cancelled_by-owned true code end e own = λ operation f. let wrong : true ≡ false = e in cc
 
 -- ## One stream
 
 -- of both ends of a stream
 abbrev StreamOwned : Stream → Type 0
-StreamOwned stream = (side : Side) → IsOfOwner (end_of side stream)
+StreamOwned stream = (side : Side) → IsKept (end_of side stream)
 
-with_end-owned : (side : Side) (stream : Stream) (end : End) → StreamOwned stream → IsOfOwner end → StreamOwned (with_end side stream end)
+with_end-owned : (side : Side) (stream : Stream) (end : End) → StreamOwned stream → IsKept end → StreamOwned (with_end side stream end)
 with_end-owned Writing stream end all own Writing = own
 with_end-owned Writing stream end all own Reading = all Reading
 with_end-owned Reading stream end all own Writing = all Writing
@@ -116,21 +117,23 @@ unfolding delivered
 delivered-owned side stream all =
     with_end-owned side stream (told_end (report_on side stream) (end_of side stream)) all (told_by-owned (report_on side stream) (end_of side stream) (all side))
 
-cancelled-owned : (side : Side) (stream : Stream) → StreamOwned stream → StreamOwned (cancelled side stream)
+cancelled-owned : (side : Side) (stream : Stream) → is_host (end_of (opposite side) stream).owner ≡ false → StreamOwned stream → StreamOwned (cancelled side stream)
 unfolding cancelled
-cancelled-owned side stream all =
+cancelled-owned side stream none all =
     with_end-owned side stream (cancelled_end (waits_for_host side stream) (code_of_cancel side stream) (end_of side stream)) all
-    (cancelled_by-owned (waits_for_host side stream) (code_of_cancel side stream) (end_of side stream) (all side))
+    (cancelled_by-owned (waits_for_host side stream) (code_of_cancel side stream) (end_of side stream) (waits_not side stream none) (all side))
 
 dropped-owned : (side : Side) (stream : Stream) → StreamOwned stream → (end_of side stream).operation ≡ None → StreamOwned (dropped side stream)
 unfolding dropped
 dropped-owned side stream all none = with_owner-owned side stream Gone all none
 
 -- an operation of the guest that has the end
-with_operation-owned : (side : Side) (stream : Stream) (mine : Operation) → StreamOwned stream → ((handle : ℕ) × ((end_of side stream).owner ≡ Held mine.guest handle)) → StreamOwned (with_operation side stream mine)
+with_operation-owned : (side : Side) (stream : Stream) (mine : Operation) → StreamOwned stream → IsHeldBy (end_of side stream) mine → StreamOwned (with_operation side stream mine)
 with_operation-owned side stream mine all held =
     with_end-owned side stream (record (end_of side stream) { operation = Some mine }) all
-    (λ operation e. let same : mine ≡ operation = cc in (held.0, held.1 ∙ ap (λ (o : Operation). Held o.guest held.0) same))
+    (λ operation e.
+    let same : mine ≡ operation = cc in
+    ((held.0.0, held.0.1 ∙ ap (λ (o : Operation). Held o.guest held.0.0) same), ap (λ (o : Operation). o.asked) (sym same) ∙ held.1))
 
 received-owned : (stream : Stream) (n : ℕ) → StreamOwned stream → StreamOwned (with_received stream n)
 received-owned stream n all Writing = all Writing
@@ -146,7 +149,7 @@ owner-other Reading stream end = refl
 
 -- ## A read or write
 
-module _ (side : Side) (guests : List Guest) (stream : Stream) (mine : Operation) (all : StreamOwned stream) (held : (handle : ℕ) × ((end_of side stream).owner ≡ Held mine.guest handle)) where
+module _ (side : Side) (guests : List Guest) (stream : Stream) (mine : Operation) (all : StreamOwned stream) (held : IsHeldBy (end_of side stream) mine) where
   abbrev Leaves : Operated → Type 0
   Leaves t = StreamOwned t.stream
 
@@ -154,14 +157,14 @@ module _ (side : Side) (guests : List Guest) (stream : Stream) (mine : Operation
   waits-owned = with_operation-owned side stream mine all held
 
   module _ (theirs : Operation) (is : (end_of (opposite side) stream).operation ≡ Some theirs) where
-    theirs_held : (handle : ℕ) × ((end_of (opposite side) stream).owner ≡ Held theirs.guest handle)
+    theirs_held : IsHeldBy (end_of (opposite side) stream) theirs
     theirs_held = all (opposite side) theirs is
 
     moves-owned : (n : ℕ) (o : Option (List Guest)) → Leaves (moves side guests stream mine theirs n o)
     moves-owned n None = all
     moves-owned n (Some after) =
         with_operation-owned (opposite side) (with_received stream n) (advanced stream.payload theirs n) (received-owned stream n all)
-        (theirs_held.0, owner-received (opposite side) stream n ∙ theirs_held.1)
+        ((theirs_held.0.0, owner-received (opposite side) stream n ∙ theirs_held.0.1), theirs_held.1)
 
     alone-owned : (who : Side) → Leaves (completes_alone who side guests stream mine theirs)
     alone-owned who =
@@ -170,7 +173,7 @@ module _ (side : Side) (guests : List Guest) (stream : Stream) (mine : Operation
         cond_both (same_side who side) _ _ Leaves
         (λ e. all)
         (λ e. with_operation-owned side stopped mine (with_operation-owned (opposite side) stream met all theirs_held)
-        (held.0, owner-other side stream (record (end_of (opposite side) stream) { operation = Some met }) ∙ held.1))
+        ((held.0.0, owner-other side stream (record (end_of (opposite side) stream) { operation = Some met }) ∙ held.0.1), held.1))
 
     rendezvous-owned : (m : Meeting) → Leaves (rendezvous_by m side guests stream mine theirs)
     rendezvous-owned BothComplete = moves-owned _ _
@@ -194,8 +197,25 @@ module _ (side : Side) (guests : List Guest) (stream : Stream) (mine : Operation
 
 -- ## All streams
 
+abbrev pub AreKept : List Stream → Type 0
+AreKept streams = (s : ℕ) → StreamOwned (get_or streams s no_stream)
+
+-- each operation is of the guest that has its end, and none is being cancelled
+pub kept_by : (streams : List Stream) → AreOfOwners streams → AreUncancelled streams → AreKept streams
+kept_by streams owned uncancelled s side operation e = (owned s side operation e, ap was_asked (sym e) ∙ uncancelled s side)
+
+pub owned_by : (streams : List Stream) → AreKept streams → AreOfOwners streams
+owned_by streams kept s side operation e = (kept s side operation e).0
+
+pub uncancelled_by : (streams : List Stream) → AreKept streams → AreUncancelled streams
+uncancelled_by streams kept s side = by (end_of side (get_or streams s no_stream)).operation refl
+  where
+    by : (o : Option Operation) → (end_of side (get_or streams s no_stream)).operation ≡ o → was_asked o ≡ false
+    by None e = refl
+    by (Some operation) e = (kept s side operation e).1
+
 -- one of them is another
-set-owned : (streams : List Stream) (s : ℕ) (x : Stream) → AreOfOwners streams → StreamOwned x → AreOfOwners (set streams s x)
+set-owned : (streams : List Stream) (s : ℕ) (x : Stream) → AreKept streams → StreamOwned x → AreKept (set streams s x)
 set-owned [] s x all own k side = all k side
 set-owned (y ∷ ys) zero x all own zero side = own side
 set-owned (y ∷ ys) zero x all own (suc k) side = all (suc k) side
@@ -203,7 +223,7 @@ set-owned (y ∷ ys) (suc s) x all own zero side = all zero side
 set-owned (y ∷ ys) (suc s) x all own (suc k) side = set-owned ys s x (λ j. all (suc j)) own k side
 
 -- there is one more
-push-owned : (streams : List Stream) (x : Stream) → AreOfOwners streams → StreamOwned x → AreOfOwners (streams ++ x ∷ [])
+push-owned : (streams : List Stream) (x : Stream) → AreKept streams → StreamOwned x → AreKept (streams ++ x ∷ [])
 push-owned [] x all own zero side = own side
 push-owned [] x all own (suc k) side = all (suc k) side
 push-owned (y ∷ ys) x all own zero side = all zero side
@@ -214,37 +234,37 @@ made-owned : (ty : TransmitIndex) (writer write reader read : ℕ) → StreamOwn
 made-owned ty writer write reader read Writing = idle-owned (idle_end (Held writer write)) refl
 made-owned ty writer write reader read Reading = idle-owned (idle_end (Held reader read)) refl
 
-put-owned : (streams : List Stream) (n : ℕ) (x : Stream) → AreOfOwners streams → StreamOwned x → AreOfOwners (put streams n x)
+put-owned : (streams : List Stream) (n : ℕ) (x : Stream) → AreKept streams → StreamOwned x → AreKept (put streams n x)
 unfolding put
 put-owned streams n x all own =
-    cond_both (nat_lt n (length streams)) _ _ AreOfOwners (λ e. set-owned streams n x all own) (λ e. push-owned streams x all own)
+    cond_both (nat_lt n (length streams)) _ _ AreKept (λ e. set-owned streams n x all own) (λ e. push-owned streams x all own)
 
-written-owned : (state : State) (s : ℕ) (t : Operated) (code : Option ReturnCode) → AreOfOwners state.streams → StreamOwned t.stream → AreOfOwners (written_back state s t code).state.streams
+written-owned : (state : State) (s : ℕ) (t : Operated) (code : Option ReturnCode) → AreKept state.streams → StreamOwned t.stream → AreKept (written_back state s t code).state.streams
 written-owned state s t None all own = set-owned state.streams s t.stream all own
 written-owned state s t (Some code) all own = set-owned state.streams s t.stream all own
 
 -- ## Every step
 
-module _ (state : State) (sound : IsSound state) (held : StateIsHeld state) (all : AreOfOwners state.streams) where
+module _ (state : State) (sound : IsSound state) (held : StateIsHeld state) (none : AreUnhosted state.streams) (all : AreKept state.streams) where
   abbrev Keeps : Reaction → Type 0
-  Keeps r = AreOfOwners r.state.streams
+  Keeps r = AreKept r.state.streams
 
-  set_here : (s : ℕ) (x : Stream) → StreamOwned x → AreOfOwners (set state.streams s x)
+  set_here : (s : ℕ) (x : Stream) → StreamOwned x → AreKept (set state.streams s x)
   set_here s x own = set-owned state.streams s x all own
 
-  told-owned : (s : ℕ) (side : Side) → AreOfOwners (set state.streams s (delivered side (stream_at state s)))
+  told-owned : (s : ℕ) (side : Side) → AreKept (set state.streams s (delivered side (stream_at state s)))
   told-owned s side = set_here s (delivered side (stream_at state s)) (delivered-owned side (stream_at state s) (all s))
 
   polls-owned : (g : ℕ) (o : Option ℕ) → Keeps (polls state g o)
   polls-owned g None = all
   polls-owned g (Some handle) = told-owned (stream_named (end_named state g handle)) (side_named (end_named state g handle))
 
-  leaves-owned : (side : Side) (end : NamedEnd) (owner : Owner) → LeaveFits state side end → AreOfOwners (set state.streams (stream_named (named state end)) (with_owner side (stream_at state (stream_named (named state end))) owner))
+  leaves-owned : (side : Side) (end : NamedEnd) (owner : Owner) → LeaveFits state side end → AreKept (set state.streams (stream_named (named state end)) (with_owner side (stream_at state (stream_named (named state end))) owner))
   leaves-owned side end owner fits =
       let s = stream_named (named state end) in
       set_here s (with_owner side (stream_at state s) owner) (with_owner-owned side (stream_at state s) owner (all s) (not_busy (end_of side (stream_at state s)).operation fits.idle))
 
-  loose-owned : (s : ℕ) (owner : Owner) → is_loose (stream_at state s).reader.owner ≡ true → AreOfOwners (set state.streams s (with_owner Reading (stream_at state s) owner))
+  loose-owned : (s : ℕ) (owner : Owner) → is_loose (stream_at state s).reader.owner ≡ true → AreKept (set state.streams s (with_owner Reading (stream_at state s) owner))
   loose-owned s owner loose =
       set_here s (with_owner Reading (stream_at state s) owner)
       (with_owner-owned Reading (stream_at state s) owner (all s) (loose-idle (stream_at state s).reader (all s Reading) loose))
@@ -257,7 +277,7 @@ module _ (state : State) (sound : IsSound state) (held : StateIsHeld state) (all
       let t = operate side state.guests (stream_at state s) mine in
       written-owned state s t t.code all
       (operate-owned side state.guests (stream_at state s) mine (all s)
-      (end.handle, held.agree.named end.guest end.handle s side fits.found.held))
+      ((end.handle, held.agree.named end.guest end.handle s side fits.found.held), refl))
 
   pub performs-owned : (act : Act) → refusal state act ≡ None → Keeps (performs state act)
   unfolding performs with_stream dropped
@@ -272,7 +292,7 @@ module _ (state : State) (sound : IsSound state) (held : StateIsHeld state) (all
   performs-owned (OnEnd side end Drop) e = leaves-owned side end Gone (drop_fits state side end (sym (refusal-on_end state side end Drop) ∙ e))
   performs-owned (OnEnd side end Cancel) e =
       let s = stream_named (named state end) in
-      set_here s (cancelled side (stream_at state s)) (cancelled-owned side (stream_at state s) (all s))
+      set_here s (cancelled side (stream_at state s)) (cancelled-owned side (stream_at state s) (none s (opposite side)) (all s))
   performs-owned (OnEnd side end Lift) e = leaves-owned side end Loose (lift_fits state side end (sym (refusal-on_end state side end Lift) ∙ e))
   performs-owned (Transfer end to) e =
       leaves-owned (side_named (named state end)) end (Held to (next_in (without_handle state end.guest end.handle) to)) (move_fits state end to e).leaves
@@ -293,7 +313,7 @@ module _ (state : State) (sound : IsSound state) (held : StateIsHeld state) (all
   pub reaction-owned : (act : Act) → Keeps (reaction state act)
   reaction-owned act = reaction-by Keeps state act (λ t. all) (λ r e. all) (performs-owned act)
 
-  in-owned : (n writer reader : ℕ) (ty : TransmitIndex) → AreOfOwners (with_pair_at state n writer reader ty).streams
+  in-owned : (n writer reader : ℕ) (ty : TransmitIndex) → AreKept (with_pair_at state n writer reader ty).streams
   unfolding with_pair_at
   in-owned n writer reader ty =
       let pair = made_pair state writer reader ty in
@@ -308,14 +328,14 @@ module _ (state : State) (sound : IsSound state) (held : StateIsHeld state) (all
         performed = λ t e. performs_at-by Keeps n state act (λ writer reader ty is. in-owned n writer reader ty) (performs-owned act e);
       })
 
-shared-owned : (state : State) (number g : ℕ) (o : Option Refusal) → AreOfOwners state.streams → AreOfOwners (shares_unless state number g o).state.streams
+shared-owned : (state : State) (number g : ℕ) (o : Option Refusal) → AreKept state.streams → AreKept (shares_unless state number g o).state.streams
 shared-owned state number g (Some r) all = all
 shared-owned state number g None all = all
 
-pub lowering-owned : (state : State) (number g : ℕ) → AreOfOwners state.streams → AreOfOwners (lowers_context state number g).state.streams
+pub lowering-owned : (state : State) (number g : ℕ) → AreKept state.streams → AreKept (lowers_context state number g).state.streams
 unfolding lowers_context
 lowering-owned state number g all =
-    cond_both state.trapped _ _ (λ (r : Reaction). AreOfOwners r.state.streams) (λ t. all)
+    cond_both state.trapped _ _ (λ (r : Reaction). AreKept r.state.streams) (λ t. all)
     (λ t. shared-owned state number g (first_of (lower_context_reasons state number g)) all)
 
 no_stream-owned : StreamOwned no_stream
@@ -323,7 +343,7 @@ no_stream-owned Writing = idle-owned no_stream.writer refl
 no_stream-owned Reading = idle-owned no_stream.reader refl
 
 -- where there is none
-pub none-owned : AreOfOwners []
+pub none-owned : AreKept []
 none-owned s side = no_stream-owned side
 
 -- ## What traps a store

@@ -3,3 +3,4 @@ pub mod Lending
 pub mod Operations
 pub mod Limits
 pub mod Limited
+pub mod Ends

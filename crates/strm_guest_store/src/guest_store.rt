@@ -10,6 +10,7 @@ ghost use Rattle.strm_machine.specs.State.{empty, is_live, stream_at, memory_in}
 mod contexts;
 mod counts;
 mod futures;
+mod lives;
 mod making;
 mod memories;
 mod moves;

@@ -6,18 +6,22 @@ ghost use Rattle.std.specs.Prelude.{◌≡◌, ℕ, ◌<◌, ◌^◌, false, Lis
 ghost use Rattle.strm_machine.specs.Bases.{BasesStay};
 ghost use Rattle.strm_machine.specs.Reactions.{react, lowers_context};
 ghost use Rattle.strm_memory.specs.Bytes.{bytes_at};
-ghost use Rattle.strm_machine.specs.State.{State, memory_in, with_bytes};
+ghost use Rattle.strm_machine.specs.Endings.{report_on};
+ghost use Rattle.strm_machine.specs.State.{State, stream_at, memory_in, with_bytes};
 ghost use Rattle.strm_machine.specs.Growth.{grown, MayGrow};
 ghost use Rattle.strm_machine.specs.Tests.{are_streams_full};
 ghost use Rattle.strm_machine.specs.declared.replies.Reply.{Reply};
 ghost use Rattle.strm_machine.specs.declared.steps.Step.{Step};
+ghost use Rattle.strm_machine.specs.declared.streams.Side.{Side};
 ghost use Rattle.strm_places.specs.Again.{reacts_at};
+ghost use Rattle.strm_places.specs.Lives.{ended, handles_given_up, OwesNone, IsGivenUp};
 ghost use Rattle.strm_transmit.specs.Meets.{Meets};
 ghost use Rattle.strm_transmit.specs.declared.errors.StoreError.{StoreError};
 ghost use Rattle.strm_transmit.specs.declared.errors.StoreError.TheVariants as store_errors;
 ghost use Rattle.strm_codes.specs.declared.codes.ReturnCode.{ReturnCode};
 ghost use Rattle.strm_transmit.specs.declared.store.bad_items.BadItem.{BadItem};
 ghost use Rattle.strm_guest_store.specs.Among.{IsAmongGuests, HasBytes};
+ghost use Rattle.strm_guest_store.specs.Ends.{LosesEnds, IsPeer, report_alone};
 ghost use Rattle.strm_guest_store.specs.Operations.{MeetsOrTells};
 ghost use Rattle.strm_guest_store.specs.declared.operations.OperateError.{OperateError};
 ghost use Rattle.strm_guest_store.specs.declared.operations.OperateError.TheVariants as errors;
@@ -47,7 +51,8 @@ pub fn memories_may_grow()
 /// Whatever call is made, and whatever it answers, each memory of which it was told lies where it lay. Each
 /// call of `GuestStore` that may change the store is a step by its clause `meets`, a making that gives a
 /// stream some number, a read or write, or a lowering; or it is `add_guest_at` or `memory_moved`, which tell where
-/// the memory of one guest lies, and leave all others where they lay by their own clause `stays`. It does nothing.
+/// the memory of one guest lies, or the end or the beginning of one, and leaves all others where they lay by its own
+/// clause `stays`. It does nothing.
 pub fn memories_stay()
     ensures steps { (old new : State) (result : Result Reply StoreError) (step : Step)
         → IsAmongGuests old → Meets old new result (react old step)
@@ -82,4 +87,24 @@ pub fn bad_items_are_told_again()
     ensures { (state new : State) (step : Step) (item : BadItem)
         (again : Result ReturnCode OperateError) → MeetsOrTells state state (Err (errors.BadItem item)) step
         → IsAmongGuests state → MeetsOrTells state new again step → again ≡ Err (errors.BadItem item) }
+{}
+
+/// Where a guest owes no future's value, what is given up as it ends is a play of steps that cancel and drop what it
+/// has. So what holds of every play, as that no item is lost, holds of it. It does nothing.
+pub fn ends_are_plays()
+    ensures { (state : State) (guest : ℕ) → IsAmongGuests state → guest < length state.guests →
+        OwesNone state guest → IsGivenUp guest state (handles_given_up state guest) }
+{}
+
+/// Where a guest ends, the ends that it had are gone and have no operation. All other ends are as they were, and so
+/// is what was received: what moved stays moved. Whoever has the other end of one is told what an end is told whose
+/// other end is gone: Dropped, with what its operation moved, or with 0, which the reader of a future is told whose
+/// value never came. It does nothing.
+pub fn ends_leave_others()
+    ensures streams { (state : State) (guest s : ℕ) → IsAmongGuests state →
+        guest < length state.guests →
+        LosesEnds guest (stream_at state s) (stream_at (ended state guest) s) }
+    ensures told { (state : State) (guest s : ℕ) (side : Side) → IsAmongGuests state →
+        guest < length state.guests → IsPeer guest side (stream_at state s) →
+        report_on side (stream_at (ended state guest) s) ≡ report_alone side (stream_at state s) }
 {}

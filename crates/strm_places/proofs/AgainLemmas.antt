@@ -1,6 +1,6 @@
 -- A stream made in a free place: what `put` does, and that the step is the machine's where the place is the
 -- one behind the last. No handle names a stream that is gone, so its place may be another stream's.
-use Rattle.std.proofs.Common.{◌≡◌, ◌≢◌, true, false, ℕ, zero, suc, ◌<◌, ◌≤◌, List, [], ◌∷◌, ◌++◌, length, get_or, set, Option, Some, None, refl, sym, ap, ◌∙◌, subst, arith, ⊎_elim, cond, map, length-append, length-set, ◌+◌}
+use Rattle.std.proofs.Common.{◌≡◌, ◌≢◌, true, false, ℕ, zero, suc, ◌<◌, List, [], ◌∷◌, ◌++◌, length, get_or, set, Option, Some, None, refl, sym, ap, ◌∙◌, subst, arith, ⊎_elim, cond, map, length-append, length-set, ◌+◌}
 use Rattle.std.specs.Prelude.{Bool, not, ◌&&◌, ◌==◌, Ok, nat_lt}
 use Rattle.std.proofs.Math.ListN.{get_or-map}
 use Rattle.std.proofs.lemmas.Bool.{cases_eq, cond_both}

@@ -1,8 +1,7 @@
 -- Where no host end has an end of a stream, steps of guests touch none, and leave it so.
-use Rattle.std.proofs.Common.{◌≡◌, ℕ, ◌<◌, true, false, List, [], length, set, Option, Some, None, refl, sym, ap, ◌∙◌, subst, inl, inr, arith}
+use Rattle.std.proofs.Common.{◌≡◌, ℕ, zero, suc, true, false, List, [], ◌∷◌, set, Option, Some, None, refl, sym, ap, ◌∙◌, subst, inl, inr, arith}
 use Rattle.std.specs.Prelude.{Bool, if◌then◌else◌}
-use Rattle.std.proofs.lemmas.Bool.{cases_eq}
-use Rattle.std.proofs.lemmas.List.{get_or-set_same, get_or-set_other, get_or_past}
+use Rattle.std.proofs.lemmas.List.{get_or_past}
 use Rattle.strm_machine.specs.Words.{ReturnCode, TransmitIndex, State, no_stream, stream_at, end_of, with_end, Operated, named, stream_named, Reaction, written_back}
 use Rattle.strm_machine.specs.State.{empty, is_host}
 use Rattle.strm_machine.specs.Sides.{opposite}
@@ -22,7 +21,7 @@ use Rattle.strm_machine.proofs.EmptyLemmas.{IsSound-empty}
 use Rattle.strm_machine.proofs.SeenSteps.{made_at}
 use Rattle.strm_machine.proofs.ContextStepLemmas.{with_context_handle-sound, lower_context_fits}
 use Rattle.strm_machine.proofs.SoundStepLemmas.{operate-keeps, reaction-sound}
-use Rattle.strm_machine.proofs.TableLemmas.{OwnersStay, with_end-owners, owner_in}
+use Rattle.strm_machine.proofs.TableLemmas.{OwnersStay, with_end-owners}
 use Rattle.strm_machine.proofs.Shapes.{turn_on, Shape, ByTurn, BySetting, ByOwner, ByTable, ByPair, ByGuest, ByPut, ByRest}
 use Rattle.strm_machine.proofs.ShapeLemmas.{reaction-shape}
 use Rattle.strm_machine.proofs.ReactionLemmas.{reaction-performs}
@@ -33,24 +32,27 @@ use Rattle.strm_host_machine.proofs.TouchLemmas.{touch-by}
 use Rattle.strm_transmit.specs.Hosted.{lone}
 use Rattle.strm_transmit.specs.Guests.{AreUnhosted, Unhosted, is_of_guests}
 
-abbrev IsUnhosted : Stream → Type 0
+-- no host end has an end of a stream
+abbrev pub IsUnhosted : Stream → Type 0
 IsUnhosted stream = (side : Side) → is_host (end_of side stream).owner ≡ false
 
 abbrev OnUnhosted : Side → Stream → Type 0
 OnUnhosted side stream = is_host (end_of side stream).owner ≡ false
 
-set-unhosted : (streams : List Stream) (s : ℕ) (x : Stream) → s < length streams → IsUnhosted x → AreUnhosted streams → AreUnhosted (set streams s x)
-set-unhosted streams s x l here u k side =
-    elim (cases_eq k s) [
-      | inl e ↦ subst (λ n. is_host (owner_in (set streams s x) n side) ≡ false) (sym e) (subst (OnUnhosted side) (sym (get_or-set_same streams s x no_stream l)) (here side))
-      | inr ne ↦ subst (OnUnhosted side) (sym (get_or-set_other streams s k x no_stream ne)) (u k side)
-    ]
+-- one of them is another
+pub set-unhosted : (streams : List Stream) (s : ℕ) (x : Stream) → IsUnhosted x → AreUnhosted streams → AreUnhosted (set streams s x)
+set-unhosted [] s x here u k side = u k side
+set-unhosted (y ∷ ys) zero x here u zero side = here side
+set-unhosted (y ∷ ys) zero x here u (suc k) side = u (suc k) side
+set-unhosted (y ∷ ys) (suc s) x here u zero side = u zero side
+set-unhosted (y ∷ ys) (suc s) x here u (suc k) side = set-unhosted ys s x here (λ j. u (suc j)) k side
 
-owners-unhosted : (old new : Stream) → OwnersStay old new → IsUnhosted old → IsUnhosted new
+-- its ends have the same owners, or one of them has another that is no host end
+pub owners-unhosted : (old new : Stream) → OwnersStay old new → IsUnhosted old → IsUnhosted new
 owners-unhosted old new same u Writing = ap is_host same.writer ∙ u Writing
 owners-unhosted old new same u Reading = ap is_host same.reader ∙ u Reading
 
-owner-unhosted : (side : Side) (stream : Stream) (owner : Owner) → is_host owner ≡ false → IsUnhosted stream → IsUnhosted (with_owner side stream owner)
+pub owner-unhosted : (side : Side) (stream : Stream) (owner : Owner) → is_host owner ≡ false → IsUnhosted stream → IsUnhosted (with_owner side stream owner)
 owner-unhosted Writing stream owner e u Writing = e
 owner-unhosted Writing stream owner e u Reading = u Reading
 owner-unhosted Reading stream owner e u Writing = u Writing
@@ -78,7 +80,7 @@ put-unhosted streams n x (Behind e) here u =
       | inl e ↦ subst (OnUnhosted side) (sym e) (u k side)
       | inr e ↦ subst (OnUnhosted side) (sym e.1) (here side)
     ])
-put-unhosted streams n x (Again l gone) here u = rw (put-again streams n x l) (set-unhosted streams n x l here u)
+put-unhosted streams n x (Again l gone) here u = rw (put-again streams n x l) (set-unhosted streams n x here u)
 
 in-unhosted : (state : State) (n writer reader : ℕ) (ty : TransmitIndex) → IsFree state.streams n → AreUnhosted state.streams → AreUnhosted (with_pair_at state n writer reader ty).streams
 unfolding with_pair_at
@@ -86,21 +88,21 @@ in-unhosted state n writer reader ty free u =
     let pair = made_pair state writer reader ty in
     put-unhosted state.streams n (made_stream ty writer pair.write reader pair.read) free (made-unhosted ty writer pair.write reader pair.read) u
 
-written-unhosted : (state : State) (s : ℕ) (t : Operated) (code : Option ReturnCode) → s < length state.streams → IsUnhosted t.stream → AreUnhosted state.streams → AreUnhosted (written_back state s t code).state.streams
-written-unhosted state s t None l k u = set-unhosted state.streams s t.stream l k u
-written-unhosted state s t (Some code) l k u = set-unhosted state.streams s t.stream l k u
+written-unhosted : (state : State) (s : ℕ) (t : Operated) (code : Option ReturnCode) → IsUnhosted t.stream → AreUnhosted state.streams → AreUnhosted (written_back state s t code).state.streams
+written-unhosted state s t None k u = set-unhosted state.streams s t.stream k u
+written-unhosted state s t (Some code) k u = set-unhosted state.streams s t.stream k u
 
 shape-unhosted : (state : State) (act : Act) (r : Reaction) → AreUnhosted state.streams → Shape state act r → AreUnhosted r.state.streams
 shape-unhosted state act r u (ByTurn side end address count a e o) =
     let t = turn_on state side end address count in
     let k = operate-keeps state side end address count o in
     let s = stream_named (named state end) in
-    rw e (written-unhosted state s t t.code o.found.made (owners-unhosted (stream_at state s) t.stream (record { writer = k.stream.writer; reader = k.stream.reader }) (u s)) u)
+    rw e (written-unhosted state s t t.code (owners-unhosted (stream_at state s) t.stream (record { writer = k.stream.writer; reader = k.stream.reader }) (u s)) u)
 shape-unhosted state act r u (BySetting reply x e set) =
     let stream = stream_at state x.stream in
-    rw e (set-unhosted state.streams x.stream (with_end x.side stream x.end) set.made (owners-unhosted stream (with_end x.side stream x.end) (with_end-owners x.side stream x.end set.becomes.owner) (u x.stream)) u)
+    rw e (set-unhosted state.streams x.stream (with_end x.side stream x.end) (owners-unhosted stream (with_end x.side stream x.end) (with_end-owners x.side stream x.end set.becomes.owner) (u x.stream)) u)
 shape-unhosted state act r u (ByOwner reply x e o) =
-    rw e (set-unhosted state.streams x.stream _ o.made (owner-unhosted x.side (stream_at state x.stream) x.owner o.unhosted (u x.stream)) u)
+    rw e (set-unhosted state.streams x.stream _ (owner-unhosted x.side (stream_at state x.stream) x.owner o.unhosted (u x.stream)) u)
 shape-unhosted state act r u (ByTable reply x e t) = rw e u
 shape-unhosted state act r u (ByPair writer reader ty a e fits) = rw e (pair-unhosted state writer reader ty u)
 shape-unhosted state act r u (ByGuest size a e fits) = rw e u

@@ -39,6 +39,11 @@ pub mod ContextLemmas
 pub mod NextLemmas
 pub mod EngineLemmas
 pub mod GuestLemmas
+-- an operation is of the guest that has its end
+pub mod OwnerLemmas
 -- what a guest is asked of its handles
 pub mod QueryLemmas
 pub mod ReleaseLemmas
+-- guests that end and begin
+pub mod GivenUpLemmas
+pub mod LivesLemmas

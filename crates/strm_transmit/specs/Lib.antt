@@ -19,3 +19,4 @@ pub mod Rounds
 pub mod Guests
 pub mod Queries
 pub mod Counts
+pub mod Lives

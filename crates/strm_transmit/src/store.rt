@@ -15,6 +15,7 @@ pub mod counts;
 mod driving;
 mod endings;
 mod hosting;
+mod lives;
 mod making;
 mod memories;
 mod moves;

@@ -137,6 +137,10 @@ pub(crate) enum Call {
     LimitsOf(u32),
     /// How many handles a guest has, and the ends and the error contexts among them.
     Counts(u32),
+    /// A guest ends, or begins with so many bytes where it has nothing, and whether it has something.
+    EndGuest(u32),
+    BeginGuest(u32, u32),
+    InUse(u32),
     /// Another store of no guest, among the same host ends.
     Again,
 }

@@ -20,6 +20,8 @@ mod hosts;
 #[cfg(test)]
 mod limits;
 #[cfg(test)]
+mod lives;
+#[cfg(test)]
 mod moves;
 #[cfg(test)]
 mod pipes;

@@ -74,6 +74,26 @@ impl Store {
         Ok(Reply::Done)
     }
 
+    // An end of a guest that ends is cancelled and dropped, also where a future's value is owed.
+    pub(in crate::store) fn end_end(
+        &mut self,
+        guest: u32,
+        handle: u32,
+        number: u32,
+        side: Side,
+    ) -> Result<(), Refusal> {
+        let ty = self.streams[number as usize].ty;
+        if self.streams[number as usize][side].operation.is_some() {
+            self.cancel(side, guest, ty, handle)?;
+        }
+        if let Some(set) = self.streams[number as usize][side].set {
+            self.guests[guest as usize].sets[set as usize].leave(handle);
+        }
+        self.remove(guest, handle);
+        self.give_up(number, side);
+        Ok(())
+    }
+
     // An end is gone, and with it one of a host on the other side. A stream without ends has no places.
     pub(super) fn give_up(&mut self, number: u32, side: Side) {
         let stream = &mut self.streams[number as usize];

@@ -63,7 +63,9 @@ impl Store {
         if found != side || stream[side].operation.is_some() {
             return Err(Refusal::ConcurrentFutureStreamOp);
         }
-        if stream[side].told || stream.passed {
+        // The reader of a future whose value never comes is told so as often as it reads.
+        let is_told = stream[side].told && !(ty.is_future() && side == Side::Read);
+        if is_told || stream.passed {
             return Err(match (side, ty.is_future()) {
                 (Side::Write, false) => Refusal::WriteToDroppedStream,
                 (Side::Write, true) => Refusal::WriteToDroppedFuture,

@@ -40,8 +40,9 @@ pub extern "C" fn strm_add_guest(store: &mut StoreHandle, size: u32, out: &mut u
 
 /// Adds a guest whose memory is `len` bytes that the caller lends, from `bytes` on, and puts its number at
 /// `out`. They stay where they are, are touched only as the guest's memory is, and are not freed: they are the
-/// caller's again once the store is given up, or at once where nothing is added. There is no limit on those of
-/// all guests. Refused: MemoryTooBig (4,294,967,296 bytes or more), Full (1,048,576 guests). OUT_OF_MEMORY.
+/// caller's again once the guest ended or the store is given up, or at once where nothing is added. There is no
+/// limit on those of all guests. Refused: MemoryTooBig (4,294,967,296 bytes or more), Full (1,048,576 guests).
+/// OUT_OF_MEMORY.
 #[unsafe(no_mangle)]
 pub extern "C" fn strm_add_guest_at(
     store: &mut StoreHandle,
@@ -238,9 +239,9 @@ fn tell(store: &mut GuestStore, guest: u32, out: &mut *const u8, len: &mut usize
 }
 
 /// Puts at `out` where a guest's memory lies, and at `len` how many bytes it has; of no bytes `out` is an
-/// address that may not be read. The store's own lie there until the store is given up, from the beginning of a
-/// block of malloc's on, at a multiple of 16; those that the caller lent until it tells that they moved. The
-/// caller may read and write them between calls, and must not during one. Refused: UnknownGuest.
+/// address that may not be read. The store's own lie there until the guest ends or the store is given up, from
+/// the beginning of a block of malloc's on, at a multiple of 16; those that the caller lent until it tells that they
+/// moved. The caller may read and write them between calls, and must not during one. Refused: UnknownGuest.
 #[unsafe(no_mangle)]
 pub extern "C" fn strm_memory_at(
     store: &mut StoreHandle,

@@ -42,8 +42,8 @@ impl GuestStore {
     }
 
     /// Where a guest's memory lies, which is told: from now on it lies there, through every call
-    /// (`stays`), until the store is given up. Of a memory without bytes it is the address of nothing.
-    /// `has_guest` tells whether the guest is there. wasmtime, `VMMemoryDefinition::base`.
+    /// (`stays`), until the guest ends or the store is given up. Of a memory without bytes it is the address of
+    /// nothing. `has_guest` tells whether the guest is there. wasmtime, `VMMemoryDefinition::base`.
     pub fn memory_base(&mut self, guest: u32) -> *const u8
         requires { guest < length self.old.guests }
         ensures told { self.new ≡ with_base_in self.old guest result }

@@ -100,7 +100,7 @@ fn first_bad(bytes: &[u8], from: usize, payload: &Payload, count: usize) -> Opti
 impl Store {
     // Handles and ends agree.
     #[inline(always)]
-    fn held(&self)
+    pub(crate) fn held(&self)
         ensures { StateIsHeld self.now }
     {
         let _ = &self.contexts;

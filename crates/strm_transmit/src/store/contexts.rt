@@ -300,7 +300,7 @@ impl Store {
     }
 
     // A guest's handle to an error context is freed, which goes with its last one.
-    fn drop_context(&mut self, guest: u32, handle: u32, context: u32)
+    pub(crate) fn drop_context(&mut self, guest: u32, handle: u32, context: u32)
         requires may { refusal self.old (OnContext guest handle Drop) ≡ None }
         requires context { context ≡ context_number self.old guest handle }
         ensures { self.new ≡ without_context_handle self.old guest handle }

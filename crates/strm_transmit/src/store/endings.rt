@@ -324,7 +324,7 @@ impl Store {
     }
 
     // The operation of an end of a stream is cancelled.
-    fn cancel_on(&mut self, stream: u32, side: Side) -> ReturnCode
+    pub(crate) fn cancel_on(&mut self, stream: u32, side: Side) -> ReturnCode
         requires there { stream < length self.old.streams }
         requires busy { is_some (end_of side (stream_at self.old stream)).operation ≡ true }
         ensures { cancels self.old stream side ≡ goes (replies.Code result) self.new }

@@ -32,10 +32,10 @@ use strm_memory::memories::GuestMemory;
 use strm_waitable_sets::sets::WaitableSets;
 
 /// The bytes of all memories of the store's own together, at most.
-const MOST_BYTES: u64 = 268_435_456;
+pub(crate) const MOST_BYTES: u64 = 268_435_456;
 
 /// The bytes of a memory that an engine lends are fewer.
-const SIZE_LIMIT: usize = 4_294_967_296;
+pub(crate) const SIZE_LIMIT: usize = 4_294_967_296;
 
 /// The number of guests, at most.
 const MOST_GUESTS: usize = 1_048_576;
@@ -191,8 +191,8 @@ impl Store {
     }
 
     /// Where a guest's memory lies, which is told: from now on it lies there, whatever is done to the store,
-    /// until the store is given up; also of a store that was trapped. Of a memory without bytes it is the
-    /// address of nothing. `has_guest` tells whether the guest is there.
+    /// until the guest ends or the store is given up; also of a store that was trapped. Of a memory without bytes
+    /// it is the address of nothing. `has_guest` tells whether the guest is there.
     pub fn memory_base(&mut self, guest: u32) -> *const u8
         requires { guest < length self.old.guests }
         ensures told { self.new ≡ with_base_in self.old guest result }

@@ -69,7 +69,7 @@ fn next_above(table: &HandleTable, after: u32) -> Option<u32>
 
 impl Store {
     // What a number of a guest's table stands for; the stream of an end was made.
-    fn entry(&self, guest: u32, number: u32) -> Option<&Entry>
+    pub(crate) fn entry(&self, guest: u32, number: u32) -> Option<&Entry>
         requires { guest < length self.now.guests }
         ensures exact { option_copied result
             ≡ entry_at (guest_in self.now.guests guest).handles number }

@@ -313,7 +313,7 @@ impl Store {
     }
 
     // A set that has no member is gone, and its handle freed.
-    fn drop_number(&mut self, guest: u32, set: u32, number: u32)
+    pub(crate) fn drop_number(&mut self, guest: u32, set: u32, number: u32)
         requires may { refusal self.old (OnSet guest set Drop) ≡ None }
         requires number { number ≡ number_named (set_named self.old guest set) }
         ensures { self.new ≡ without_set_named self.old guest set }
