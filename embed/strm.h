@@ -17,19 +17,21 @@
      length is PTRDIFF_MAX at most.
    - A guest's memory, by strm_memory_at, is read and written between calls only, never during one. Its block is the
      store's: nobody else frees it or hands it to realloc, whatever the length.
-   - An engine that makes and grows its memories itself lends their bytes (strm_add_guest_at). They are readable and
-     writable, and no two guests' overlap. They stay where they are until the store is told that they moved
-     (strm_memory_moved), or is given up; also where a memory only grew (strm_memory_grown) the store is told of it
-     before the next call that reads or writes there. Bytes that grew lie directly behind those that the store knows,
-     and bytes that moved begin with all of those.
+   - An engine that makes and grows its memories itself lends their bytes (strm_add_guest_at, strm_begin_guest_at).
+     They are readable and writable, and no two guests' overlap. They stay where they are until the store is told that
+     they moved (strm_memory_moved), the guest ends (strm_end_guest), or the store is given up: once that is done they
+     are the engine's again, to free or to lend to another guest. Also where a memory only grew (strm_memory_grown) the
+     store is told of it before the next call that reads or writes there. Bytes that grew lie directly behind those that
+     the store knows, and bytes that moved begin with all of those.
    - malloc, realloc and free are one allocator for all of the program.
    All else is answered: any number may be passed as a guest, a handle, an address, a count or a payload.
 
    WHAT A CALL ANSWERS is the first of these that holds. Unless it is STRM_DONE nothing has changed, neither of the
    store nor at `out`.
    1. STRM_NO_STORE. 2. STRM_UNKNOWN_PAYLOAD. 3. STRM_GUEST_LIMIT. 4. The refusals, in the order of the call's list,
-   or STRM_UNKNOWN_STREAM, or STRM_NO_BAD_ITEM. 5. STRM_NOT_LENT. 6. STRM_SHORTER. 7. STRM_BAD_ITEM.
-   8. STRM_OUT_OF_MEMORY, which comes only where all would else be done.
+   or STRM_UNKNOWN_STREAM, or STRM_NO_BAD_ITEM; of a guest that begins STRM_IN_USE comes between the two.
+   5. STRM_NOT_LENT. 6. STRM_SHORTER. 7. STRM_BAD_ITEM. 8. STRM_OUT_OF_MEMORY, which comes only where all would else be
+   done.
 
    READS, WRITES AND EVENTS. docs/FORMATS.md of the repository shows each rule by an example.
    - A write and a read of one stream meet where one is called and the other waits. The lesser of their counts is
@@ -44,18 +46,27 @@
      items moved; of an end whose other end is gone, which it was not told, STRM_DROPPED with 0. So an end that has
      nothing under way is told as well that the other end is gone. What is told ends the read or write, with
      whatever it has left.
-   - Once an end was told STRM_DROPPED, by a code or an event, its reads and writes are refused.
+   - Once an end was told STRM_DROPPED, by a code or an event, its reads and writes are refused; but who reads a future
+     whose value never comes, since the guest ended that owed it, is told so each time.
    - A cancel ends a read or write, and answers what its event would have told, but of a stream STRM_CANCELLED for
      STRM_COMPLETED, with the same items; where there is nothing to tell, STRM_CANCELLED with 0. What was moved stays
      moved, and the end can read or write again, unless it was told STRM_DROPPED.
    - A future passes one value, once, and its codes count 0. From then on its reads and writes are refused, either
      end can be dropped, and no event tells that the other one is gone. Before that, its write end can be dropped
-     only once it was told so.
+     only once it was told so; but it goes with its guest.
    - A bad item, a char that is no Unicode scalar value, stops its writer alone: a read or write that would move it is
      answered STRM_BAD_ITEM, and moves nothing. strm_find_bad_item tells who writes the item. The embedder ends that
      guest, and all others go on; until then the same call is answered the same.
    - Within one guest whole numbers move as by a copy in between, and STRM_NOTHING; other items are refused, which is
-     STRM_INTRA_COMPONENT. Between two guests a bool arrives as 0 or 1, and padding stays as it was. */
+     STRM_INTRA_COMPONENT. Between two guests a bool arrives as 0 or 1, and padding stays as it was.
+
+   GUESTS THAT END. A guest is ended alone (strm_end_guest), as one that trapped or writes a bad item; all others go on.
+   - Whoever has the other end of an end of it is told STRM_DROPPED, as after a drop. So is the reader of a future that
+     it owed a value, and then none comes. Loose read ends stay, since no guest has them.
+   - Of its handles none is left, nor a byte of its memory: calls with them are refused.
+   - Its number stays that of a guest that has nothing, and another may begin under it (strm_begin_guest,
+     strm_begin_guest_at), whose handles begin with 1 again. So a handle that the caller kept of the one before may be
+     of the next one's. The limits of the number stay (strm_set_guest_limits). */
 #ifndef STRM_H
 #define STRM_H
 #include <stdbool.h>
@@ -122,7 +133,9 @@ enum {
     STRM_GUEST_LIMIT = 72,
     STRM_NO_BAD_ITEM = 73, /* A read or write with these arguments stops at no item. */
     STRM_NOT_LENT = 74, /* The guest's memory is the store's own, which neither grows nor moves. */
-    STRM_SHORTER = 75 /* There are fewer bytes than the guest's memory has. */
+    STRM_SHORTER = 75, /* There are fewer bytes than the guest's memory has. */
+    /* The guest has bytes, handles, or a memory that was lent: it did not end, or began again. */
+    STRM_IN_USE = 76
 };
 
 /* A status by its name, as "STRM_BUSY"; "?" where it is none. */
@@ -138,7 +151,7 @@ static inline const char *strm_status_name(strm_status status) {
     STRM_NAMED(INDEX_OVERFLOW) STRM_NAMED(HANDLE_LIMIT) STRM_NAMED(FULL) STRM_NAMED(MEMORY_TOO_BIG)
     STRM_NAMED(BAD_TEXT) STRM_NAMED(MESSAGE_TOO_LONG) STRM_NAMED(BAD_ITEM) STRM_NAMED(OUT_OF_MEMORY)
     STRM_NAMED(UNKNOWN_PAYLOAD) STRM_NAMED(UNKNOWN_STREAM) STRM_NAMED(NO_STORE) STRM_NAMED(GUEST_LIMIT)
-    STRM_NAMED(NO_BAD_ITEM) STRM_NAMED(NOT_LENT) STRM_NAMED(SHORTER)
+    STRM_NAMED(NO_BAD_ITEM) STRM_NAMED(NOT_LENT) STRM_NAMED(SHORTER) STRM_NAMED(IN_USE)
     default: return "?";
     }
 #undef STRM_NAMED
@@ -280,8 +293,9 @@ STRM_ANSWER strm_add_guest(strm_store *store, uint32_t size, uint32_t *out);
 
 /* Adds a guest whose memory is `len` bytes that the caller lends, from `bytes` on, and puts its number at `out`.
    They stay where they are, are touched only as the guest's memory is, and are not freed: they are the caller's
-   again once the store is given up, or at once where nothing is added. There is no limit on those of all guests.
-   Refused: STRM_MEMORY_TOO_BIG (4,294,967,296 bytes or more), STRM_FULL (1,048,576 guests). STRM_OUT_OF_MEMORY. */
+   again once the guest ended or the store is given up, or at once where nothing is added. There is no limit on those
+   of all guests. Refused: STRM_MEMORY_TOO_BIG (4,294,967,296 bytes or more), STRM_FULL (1,048,576 guests).
+   STRM_OUT_OF_MEMORY. */
 STRM_ANSWER strm_add_guest_at(strm_store *store, uint8_t *bytes, size_t len, uint32_t *out);
 
 /* Tells that a memory which the caller lent has `len` bytes more, from `more` on, which lie directly behind its end:
@@ -304,10 +318,30 @@ STRM_ANSWER strm_memory_read(
     const strm_store *store, uint32_t guest, uint32_t address, uint8_t *out, size_t len);
 
 /* Puts at `out` where a guest's memory lies, and at `len` how many bytes it has; of no bytes `out` is an address
-   that may not be read. The store's own lie there until the store is given up, from the beginning of a block of
-   malloc's on, at a multiple of 16; those that the caller lent until it tells that they moved. The caller may read
-   and write them between calls, and must not during one. Refused: STRM_UNKNOWN_GUEST. */
+   that may not be read. The store's own lie there until the guest ends or the store is given up, from the beginning
+   of a block of malloc's on, at a multiple of 16; those that the caller lent until it tells that they moved. The
+   caller may read and write them between calls, and must not during one. Refused: STRM_UNKNOWN_GUEST. */
 STRM_ANSWER strm_memory_at(strm_store *store, uint32_t guest, uint8_t **out, size_t *len);
+
+/* GUESTS THAT END, AND GUESTS THAT BEGIN UNDER THE NUMBER OF ONE THAT ENDED */
+
+/* Ends a guest: each of its ends, by rising handle, is cancelled (what was moved stays moved) and dropped, and
+   whoever has the other end is told so by its event, the reader of a future that never gets its value too. Then its
+   waitable sets and error contexts go, and its memory: nobody may read or write there any more, and bytes that the
+   caller lent are the caller's again. The number stays a guest's that has nothing, until one begins under it; the
+   limits that were set of the number stay. Refused: STRM_UNKNOWN_GUEST. */
+STRM_ANSWER strm_end_guest(strm_store *store, uint32_t guest);
+
+/* Begins a guest under the number of one that has nothing, as one that ended, with a memory of `size` zero bytes.
+   Refused: STRM_UNKNOWN_GUEST, STRM_MEMORY_TOO_BIG (268,435,456 bytes of all guests together, without those that
+   were lent). STRM_IN_USE, which comes between the two. STRM_OUT_OF_MEMORY. */
+STRM_ANSWER strm_begin_guest(strm_store *store, uint32_t guest, uint32_t size);
+
+/* Begins a guest under the number of one that has nothing, as one that ended, whose memory is `len` bytes that the
+   caller lends, from `bytes` on, as by strm_add_guest_at. They are the caller's again once the guest ended or the
+   store is given up, or at once where nothing begins. Refused: STRM_UNKNOWN_GUEST, STRM_MEMORY_TOO_BIG
+   (4,294,967,296 bytes or more). STRM_IN_USE, which comes between the two. */
+STRM_ANSWER strm_begin_guest_at(strm_store *store, uint32_t guest, uint8_t *bytes, size_t len);
 
 /* STREAMS */
 

@@ -180,8 +180,8 @@ struct ErrorContext {
     uint32_t handle = 0;
 };
 
-// A guest's memory, or bytes for one. It lies there until its store is given up or it is told that it moved, and is
-// read and written between calls only.
+// A guest's memory, or bytes for one. It lies there until its guest ends, its store is given up, or it is told that it
+// moved, and is read and written between calls only.
 struct Memory {
     uint8_t *data = nullptr;
     size_t size = 0;
@@ -243,6 +243,14 @@ class Store {
     }
     Status memory_moved(Guest guest, Memory bytes) noexcept {
         return strm_memory_moved(&store_, guest.number, bytes.data, bytes.size);
+    }
+    // All its ends are cancelled and dropped; its handles are none any more, and nor is its memory. Bytes that the caller
+    // lent are the caller's again.
+    Status end_guest(Guest guest) noexcept { return strm_end_guest(&store_, guest.number); }
+    // Another guest under the number of one that has ended: a handle of that one, if it is kept, may be this one's.
+    Status begin_guest(Guest guest, uint32_t size) noexcept { return strm_begin_guest(&store_, guest.number, size); }
+    Status begin_guest_at(Guest guest, Memory bytes) noexcept {
+        return strm_begin_guest_at(&store_, guest.number, bytes.data, bytes.size);
     }
     Result<Memory> memory(Guest guest) noexcept {
         return told<Memory>([&](Memory *out) { return strm_memory_at(&store_, guest.number, &out->data, &out->size); });

@@ -1,5 +1,5 @@
-/* What a runtime asks of a guest's handles: it lists them, and then gives up all that the guest has, as at the
-   end of an instance. No table of handles is kept here. */
+/* What a runtime asks of a guest's handles: it lists them, as the guest ends, and as another begins under its number.
+   No table of handles is kept here. */
 #include <stdio.h>
 #include <stdlib.h>
 #include <string.h>
@@ -46,44 +46,10 @@ static void list(strm_store *store, uint32_t guest) {
     }
 }
 
-/* An end goes: its operation is cancelled first, if it has one. */
-static strm_status drop_end(strm_store *store, uint32_t guest, const strm_handle *end) {
-    strm_payload payload = end->type & ~STRM_FUTURE;
-    bool reads = end->side == STRM_SIDE_READING, is_future = (end->type & STRM_FUTURE) != 0;
-    uint32_t code;
-    strm_status status =
-        is_future ? (reads ? strm_future_cancel_read : strm_future_cancel_write)(store, guest, payload, end->handle, &code)
-                  : (reads ? strm_stream_cancel_read : strm_stream_cancel_write)(store, guest, payload, end->handle, &code);
-    if (status != STRM_DONE && status != STRM_NO_PENDING) return status;
-    return is_future ? (reads ? strm_future_drop_readable : strm_future_drop_writable)(store, guest, payload, end->handle)
-                     : (reads ? strm_stream_drop_readable : strm_stream_drop_writable)(store, guest, payload, end->handle);
-}
-
-static strm_status drop(strm_store *store, uint32_t guest, const strm_handle *it) {
-    if (it->kind == STRM_KIND_END) return drop_end(store, guest, it);
-    if (it->kind == STRM_KIND_ERROR_CONTEXT) return strm_error_context_drop(store, guest, it->handle);
-    return strm_set_drop(store, guest, it->handle);
-}
-
-/* All that a guest has, ends first, since a set with members stays; what is refused is left, as a future's
-   write end that owes its value. */
-static void give_up(strm_store *store, uint32_t guest) {
-    for (int pass = 0; pass < 2; pass++) {
-        strm_handle next = {.handle = 0};
-        for (;;) {
-            must(strm_next_handle(store, guest, next.handle, &next));
-            if (next.handle == 0) break;
-            if (pass == 0 && next.kind != STRM_KIND_END) continue;
-            strm_status status = drop(store, guest, &next);
-            if (status != STRM_DONE && pass == 1) printf("  %u stays: %s\n", next.handle, strm_status_name(status));
-        }
-    }
-}
-
 int main(void) {
     strm_store store = {NULL};
     strm_pair bytes, words, value, owed;
-    uint32_t guest, peer, set, context, reader, code;
+    uint32_t guest, peer, set, context, reader, read, code;
     must(strm_store_new(&store, 7, 100, 100));
     must(strm_add_guest(&store, 64, &guest));
     must(strm_add_guest(&store, 64, &peer));
@@ -101,8 +67,14 @@ int main(void) {
     must(strm_lift(&store, guest, STRM_U32 | STRM_FUTURE, value.read, &reader));
     list(&store, guest);
     list(&store, peer);
-    printf("guest %u gives up what it has\n", guest);
-    give_up(&store, guest);
+    must(strm_end_guest(&store, guest));
+    printf("guest %u has ended\n", guest);
+    list(&store, guest);
+    list(&store, peer);
+    must(strm_lower(&store, reader, peer, STRM_U32 | STRM_FUTURE, &read));
+    must(strm_begin_guest(&store, guest, 64));
+    must(strm_set_new(&store, guest, &set));
+    printf("another has begun\n");
     list(&store, guest);
     list(&store, peer);
     strm_store_free(&store);

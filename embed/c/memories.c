@@ -1,5 +1,5 @@
 /* An engine that makes its memories itself: pages that are not there before they are touched, a memory that grows
-   where it lies while a read waits, and one that moves then. */
+   where it lies while a read waits, one that moves then, and one that goes once its guest has ended. */
 #include <stdio.h>
 #include <stdlib.h>
 #include <string.h>
@@ -67,7 +67,20 @@ int main(void) {
     printf("fewer bytes: %s\n", strm_status_name(strm_memory_moved(&store, reader, elsewhere, PAGE)));
     printf("a memory of the store's own: %s\n", strm_status_name(strm_memory_grown(&store, own, elsewhere, 0)));
     printf("2^32 bytes: %s\n", strm_status_name(strm_add_guest_at(&store, from, (size_t)1 << 32, &own)));
+    printf("a guest that goes on: %s\n", strm_status_name(strm_begin_guest(&store, reader, PAGE)));
+    must(strm_end_guest(&store, reader));
+    must(munmap(elsewhere, 4 * PAGE) ? STRM_BUSY : STRM_DONE);
+    must(strm_take_event(&store, writer, pair.write, &code));
+    printf("it ended, its bytes went, and the writer is told so: %s\n", code == STRM_DROPPED ? "yes" : "no");
+
+    uint8_t *next = reserve(PAGE);
+    must(strm_begin_guest_at(&store, reader, next, PAGE));
+    must(strm_new_between(&store, writer, reader, STRM_U8, &pair));
+    must(strm_stream_read(&store, reader, STRM_U8, pair.read, 0, 9, &code));
+    memcpy(from, "once more", 9);
+    must(strm_stream_write(&store, writer, STRM_U8, pair.write, 0, 9, &code));
+    printf("another began under its number, and %u bytes came: %.9s\n", STRM_COUNT(code), (char *)next);
     strm_store_free(&store);
-    printf("the bytes are the engine's again: %.9s\n", (char *)elsewhere + 2 * PAGE - 9);
+    printf("the bytes are the engine's again: %.9s\n", (char *)next);
     return 0;
 }

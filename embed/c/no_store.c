@@ -46,6 +46,9 @@ static void use_memory_of_none(strm_store store) {
     HAS_NO_STORE(strm_add_guest_at(&store, bytes, sizeof bytes, &guest));
     HAS_NO_STORE(strm_memory_grown(&store, 0, bytes, sizeof bytes));
     HAS_NO_STORE(strm_memory_moved(&store, 0, bytes, sizeof bytes));
+    HAS_NO_STORE(strm_end_guest(&store, 0));
+    HAS_NO_STORE(strm_begin_guest(&store, 0, 8));
+    HAS_NO_STORE(strm_begin_guest_at(&store, 0, bytes, sizeof bytes));
     HAS_NO_STORE(strm_memory_write(&store, 0, 0, bytes, sizeof bytes));
     HAS_NO_STORE(strm_memory_read(&store, 0, 0, bytes, sizeof bytes));
     HAS_NO_STORE(strm_memory_at(&store, 0, &at, &len));

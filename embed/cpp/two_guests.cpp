@@ -129,32 +129,35 @@ void bound(Store &store, Guest guest) {
     std::printf("handles: %u\n", must(store.handle_count(guest)));
 }
 
-// An end goes, with the read or write that it may have.
-template <typename E> void drop_if(Store &store, Guest guest, const strm_handle &told) {
-    auto end = strm::as_end<E>(guest, told);
-    if (!end) return;
-    if (auto code = store.cancel(*end)) show("a cancel", *code);
-    std::printf("drop of %u: %s\n", told.handle, store.drop(*end).name());
-}
-
-// All ends of a guest go, as at the end of its instance: no table of them is kept here.
-void give_up(Store &store, Guest guest) {
+// What a guest's handles are of is asked of the store: no table of them is kept here.
+void list(const Store &store, Guest guest) {
     for (auto told = store.next_handle(guest, 0); told && told->handle != 0; told = store.next_handle(guest, told->handle)) {
-        drop_if<strm::StreamWriter>(store, guest, *told);
-        drop_if<strm::StreamReader>(store, guest, *told);
-        drop_if<strm::FutureWriter>(store, guest, *told);
-        drop_if<strm::FutureReader>(store, guest, *told);
+        bool writes = strm::as_end<strm::StreamWriter>(guest, *told).has_value();
+        bool waits = strm::as_end<strm::FutureReader>(guest, *told).has_value();
+        std::printf("handle %u: the %s\n", told->handle,
+                    writes ? "write end of a stream" : waits ? "read end of a future" : "one of something else");
     }
 }
 
+// A guest ends with all that it has, the others are told, and another begins under its number.
 void end_a_guest(Store &store, Guest guest, Guest other) {
     auto bytes = must(store.stream_between(guest, other, Scalar::U8));
     auto value = must(store.future_between(other, guest, Scalar::Char));
     must(store.write(bytes.write, 0, 9));
     must(store.read(value.read, 0));
-    give_up(store, guest);
+    list(store, guest);
+    std::printf("begin: %s\n", store.begin_guest(guest, 64).name());
+    must(store.end_guest(guest));
     show("event", must(store.take_event(bytes.read)));
-    std::printf("read of a handle that is gone: %s\n", store.read(value.read, 0).status.name());
+    show("event of the future", must(store.take_event(value.write)));
+    std::printf("cancel of a handle that is gone: %s\n", store.cancel(value.read).status.name());
+    must(store.drop(bytes.read));
+    must(store.drop(value.write));
+    must(store.begin_guest(guest, 64));
+    auto again = must(store.stream_between(guest, other, Scalar::U8));
+    std::printf("begun with %zu bytes, and handle %u\n", must(store.memory(guest)).size, again.write.handle);
+    must(store.drop(again.write));
+    must(store.drop(again.read));
 }
 
 }  // namespace

@@ -6,11 +6,13 @@
 enum { MESSAGE = 4096, SIZE = BUFFERS * BUFFER + MESSAGE };
 
 strm_status buffered_new(
-    buffered_guest *made, strm_store *store, const engine *engine, uint8_t *(*memory)(guest *guest, size_t *len)) {
-    *made = (buffered_guest){.base = {.engine = engine, .store = store}, .memory = memory};
-    strm_status status = strm_add_guest(store, SIZE, &made->base.number);
+    buffered_guest *made, embedder *embedder, const engine *engine, uint8_t *(*memory)(guest *guest, size_t *len)) {
+    *made = (buffered_guest){.base = {.engine = engine, .embedder = embedder, .number = GUEST_NONE}, .memory = memory};
+    strm_status status = guest_begin(&made->base, NULL, SIZE);
     if (status != STRM_DONE) return status;
-    return strm_set_guest_limits(store, made->base.number, UINT32_MAX, BUFFERED_ENDS, UINT64_MAX);
+    status = strm_set_guest_limits(&embedder->store, made->base.number, UINT32_MAX, BUFFERED_ENDS, UINT64_MAX);
+    if (status != STRM_DONE) guest_end(&made->base, GUEST_TRAPPED);
+    return status;
 }
 
 /* PLACES */
@@ -74,7 +76,7 @@ static void settle(buffered_guest *guest, buffered_operation *operation, uint32_
     uint8_t *at = region(guest, operation->address, (uint64_t)items.size * count);
     uint32_t len = items.size * count, from = place_of(guest, operation);
     if (operation->reads && at != NULL)
-        (void)!strm_memory_read(guest->base.store, guest->base.number, from, at, len);
+        (void)!strm_memory_read(&guest->base.embedder->store, guest->base.number, from, at, len);
     operation->handle = 0;
 }
 
@@ -95,7 +97,7 @@ static strm_status answered(buffered_guest *guest, buffered_operation *operation
 
 static strm_status read_into(
     buffered_guest *guest, strm_type type, uint32_t handle, uint32_t at, uint32_t count, uint32_t *code) {
-    strm_store *store = guest->base.store;
+    strm_store *store = &guest->base.embedder->store;
     uint32_t number = guest->base.number;
     return type & STRM_FUTURE ? strm_future_read(store, number, type & ~STRM_FUTURE, handle, at, code)
                               : strm_stream_read(store, number, type, handle, at, count, code);
@@ -115,7 +117,7 @@ strm_status buffered_read(
 
 strm_status buffered_write(
     buffered_guest *guest, strm_type type, uint32_t handle, uint32_t address, uint32_t count, uint32_t *code) {
-    strm_store *store = guest->base.store;
+    strm_store *store = &guest->base.embedder->store;
     buffered_operation *operation = operation_of(guest, 0);
     uint32_t number = guest->base.number, at = place_of(guest, operation);
     strm_status status = prepare(guest, type, address, &count);
@@ -129,7 +131,7 @@ strm_status buffered_write(
 }
 
 strm_status buffered_cancel_read(buffered_guest *guest, strm_type type, uint32_t handle, uint32_t *code) {
-    strm_store *store = guest->base.store;
+    strm_store *store = &guest->base.embedder->store;
     uint32_t number = guest->base.number;
     strm_status status = type & STRM_FUTURE ? strm_future_cancel_read(store, number, type & ~STRM_FUTURE, handle, code)
                                             : strm_stream_cancel_read(store, number, type, handle, code);
@@ -138,7 +140,7 @@ strm_status buffered_cancel_read(buffered_guest *guest, strm_type type, uint32_t
 }
 
 strm_status buffered_cancel_write(buffered_guest *guest, strm_type type, uint32_t handle, uint32_t *code) {
-    strm_store *store = guest->base.store;
+    strm_store *store = &guest->base.embedder->store;
     uint32_t number = guest->base.number;
     strm_status status = type & STRM_FUTURE ? strm_future_cancel_write(store, number, type & ~STRM_FUTURE, handle, code)
                                             : strm_stream_cancel_write(store, number, type, handle, code);
@@ -159,7 +161,7 @@ strm_status buffered_poll(buffered_guest *guest, uint32_t set, uint32_t address,
 }
 
 strm_status buffered_error_context_new(buffered_guest *guest, uint32_t address, uint32_t len, uint32_t *handle) {
-    strm_store *store = guest->base.store;
+    strm_store *store = &guest->base.embedder->store;
     uint32_t number = guest->base.number, message = BUFFERS * BUFFER;
     if (len > MESSAGE) return STRM_MESSAGE_TOO_LONG;
     uint8_t *at = region(guest, address, len);

@@ -31,9 +31,9 @@ typedef struct {
     buffered_operation operations[BUFFERS];
 } buffered_guest;
 
-/* Adds a guest to a store. The engine's `settle` is buffered_settle. */
+/* Begins a guest, which ends by guest_end. The engine's `settle` is buffered_settle. */
 strm_status buffered_new(
-    buffered_guest *made, strm_store *store, const engine *engine, uint8_t *(*memory)(guest *guest, size_t *len));
+    buffered_guest *made, embedder *embedder, const engine *engine, uint8_t *(*memory)(guest *guest, size_t *len));
 
 /* The built-ins that name places in a guest's memory, or end a read or write. The payload is one that strm.h has;
    a future's count is 1. */

@@ -1,70 +1,65 @@
 #include "embedder.h"
 
+#include <stdlib.h>
+
 enum { EVENT_NONE, EVENT_STREAM_READ = 2, EVENT_STREAM_WRITE, EVENT_FUTURE_READ, EVENT_FUTURE_WRITE };
 enum { EXIT, YIELD, WAIT };
 
-/* WHAT A GUEST GIVES UP. Which handles it has is asked of the store: no table of them is kept here. */
+/* HOW GUESTS BEGIN AND END. There are as many numbers as guests at once: that of one that ended is given again. */
 
-static strm_status cancel(strm_store *store, uint32_t guest, const strm_handle *end) {
-    strm_payload payload = end->type & ~STRM_FUTURE;
-    bool reads = end->side == STRM_SIDE_READING;
-    uint32_t code;
-    return end->type & STRM_FUTURE
-               ? (reads ? strm_future_cancel_read : strm_future_cancel_write)(store, guest, payload, end->handle, &code)
-               : (reads ? strm_stream_cancel_read : strm_stream_cancel_write)(store, guest, payload, end->handle, &code);
+/* The least number that no guest has, or one more. */
+static strm_status free_number(embedder *embedder, uint32_t *number) {
+    for (*number = 0; *number < embedder->count; ++*number)
+        if (embedder->guests[*number] == NULL) return STRM_DONE;
+    guest **guests = realloc(embedder->guests, (embedder->count + (size_t)1) * sizeof *guests);
+    if (guests == NULL) return STRM_OUT_OF_MEMORY;
+    embedder->guests = guests;
+    strm_status status = strm_add_guest(&embedder->store, 0, number);
+    if (status == STRM_DONE) guests[embedder->count++] = NULL;
+    return status;
 }
 
-static strm_status drop(strm_store *store, uint32_t guest, const strm_handle *end) {
-    strm_payload payload = end->type & ~STRM_FUTURE;
-    bool reads = end->side == STRM_SIDE_READING;
-    return end->type & STRM_FUTURE
-               ? (reads ? strm_future_drop_readable : strm_future_drop_writable)(store, guest, payload, end->handle)
-               : (reads ? strm_stream_drop_readable : strm_stream_drop_writable)(store, guest, payload, end->handle);
-}
-
-/* A future's write end can be dropped without a value once it was told that nobody reads it. */
-static strm_status give_up_end(strm_store *store, uint32_t guest, const strm_handle *end) {
-    uint32_t code;
-    strm_status status = cancel(store, guest, end);
-    if (status != STRM_DONE && status != STRM_NO_PENDING) return status;
-    status = drop(store, guest, end);
-    if (status != STRM_FUTURE_WITHOUT_VALUE) return status;
-    status = strm_take_event(store, guest, end->handle, &code);
-    return status == STRM_DONE ? drop(store, guest, end) : status;
-}
-
-/* An end that stays, since it owes a value, leaves its set. */
-static strm_status give_up(strm_store *store, uint32_t guest, const strm_handle *it) {
-    if (it->kind == STRM_KIND_WAITABLE_SET) return strm_set_drop(store, guest, it->handle);
-    if (it->kind == STRM_KIND_ERROR_CONTEXT) return strm_error_context_drop(store, guest, it->handle);
-    strm_status status = give_up_end(store, guest, it);
-    return status == STRM_DONE ? status : strm_set_join(store, guest, 0, it->handle);
-}
-
-/* Ends first, since a set with members stays; and twice, since a future's read end may be the guest's too. */
-static void give_up_all(strm_store *store, uint32_t guest) {
-    static const bool ends[] = {true, true, false};
-    for (int pass = 0; pass < 3; pass++) {
-        strm_handle next = {.handle = 0};
-        while (strm_next_handle(store, guest, next.handle, &next) == STRM_DONE && next.handle != 0) {
-            if ((next.kind == STRM_KIND_END) == ends[pass]) (void)!give_up(store, guest, &next);
-        }
-    }
+strm_status guest_begin(guest *guest, uint8_t *bytes, size_t len) {
+    embedder *embedder = guest->embedder;
+    uint32_t number, size = len < UINT32_MAX ? (uint32_t)len : UINT32_MAX;
+    strm_status status = free_number(embedder, &number);
+    if (status != STRM_DONE) return status;
+    status = bytes == NULL ? strm_begin_guest(&embedder->store, number, size)
+                           : strm_begin_guest_at(&embedder->store, number, bytes, len);
+    if (status != STRM_DONE) return status;
+    embedder->guests[number] = guest;
+    guest->number = number;
+    return status;
 }
 
 void guest_end(guest *guest, guest_state state) {
+    embedder *embedder = guest->embedder;
+    if (guest->number == GUEST_NONE) return;
+    (void)!strm_end_guest(&embedder->store, guest->number);
+    embedder->guests[guest->number] = NULL;
+    guest->number = GUEST_NONE;
     guest->state = state;
-    give_up_all(guest->store, guest->number);
-    if (strm_handle_count(guest->store, guest->number, &guest->owed) != STRM_DONE) guest->owed = 0;
 }
 
 bool guest_stop_writer(guest *reader, strm_type type, uint32_t handle, uint32_t address, uint32_t count) {
     strm_bad_item item;
-    strm_store *store = reader->store;
-    if (strm_find_bad_item(store, STRM_SIDE_READING, reader->number, type, handle, address, count, &item) != STRM_DONE)
-        return false;
-    give_up_all(store, item.guest);
+    embedder *embedder = reader->embedder;
+    strm_status status = strm_find_bad_item(
+        &embedder->store, STRM_SIDE_READING, reader->number, type, handle, address, count, &item);
+    if (status != STRM_DONE) return false;
+    guest *writer = embedder->guests[item.guest];
+    writer->refused = STRM_BAD_ITEM;
+    guest_end(writer, GUEST_TRAPPED);
     return true;
+}
+
+void embedder_free(embedder *embedder) {
+    for (uint32_t number = 0; number < embedder->count; number++)
+        if (embedder->guests[number] != NULL) guest_end(embedder->guests[number], GUEST_ENDED);
+    strm_store_free(&embedder->store);
+    free(embedder->guests);
+    embedder->guests = NULL;
+    embedder->count = 0;
 }
 
 /* EVENTS AND TURNS */
@@ -76,12 +71,13 @@ static uint32_t event_of(const strm_handle *end) {
 }
 
 strm_status guest_poll(guest *guest, uint32_t set, uint32_t *event, uint32_t told[2]) {
+    strm_store *store = &guest->embedder->store;
     strm_member member = {0, STRM_NO_EVENT};
     strm_handle end;
     *event = told[0] = told[1] = EVENT_NONE;
-    strm_status status = strm_set_poll(guest->store, guest->number, set, &member);
+    strm_status status = strm_set_poll(store, guest->number, set, &member);
     if (status != STRM_DONE || member.code == STRM_NO_EVENT) return status;
-    status = strm_handle_info(guest->store, guest->number, member.handle, &end);
+    status = strm_handle_info(store, guest->number, member.handle, &end);
     if (status != STRM_DONE) return status;
     if (guest->engine->settle != NULL) guest->engine->settle(guest, member.handle, member.code);
     *event = event_of(&end);

@@ -1,6 +1,7 @@
 /* Lines of three guests, a source, a filter and a sink: they pass on some text, as many bytes as asked for, the same
    on two threads that take turns, and the same beside a guest that calls all it can with random arguments; lines of
-   which a guest traps or ends without a word; and one beside a guest that writes a bad item. */
+   which a guest traps or ends without a word; one beside a guest that writes a bad item; and one beside guests that
+   trap, each of which is given up at once, and another begins under its number. */
 #include <pthread.h>
 #include <stdio.h>
 #include <stdlib.h>
@@ -32,8 +33,10 @@ enum { SOURCE, FILTER, SINK, GUESTS };
 static const wasm2c_module *const modules[GUESTS] = {&source, &filter, &sink};
 
 typedef struct {
-    strm_store store;
+    embedder all;
     wasm2c_guest *guests[GUESTS];
+    /* The streams to the filter and to the sink. */
+    uint32_t streams[GUESTS - 1];
 } line;
 
 static void must(bool holds, const char *what) {
@@ -44,17 +47,28 @@ static void must(bool holds, const char *what) {
 
 static guest *of(const line *line, int k) { return &line->guests[k]->base; }
 
-/* Three guests in a line, about to pass on so many bytes. */
+static wasm2c_guest *guest_of(embedder *all, const wasm2c_module *module) {
+    wasm2c_guest *guest = wasm2c_new(all, module);
+    must(guest != NULL, "no guest");
+    return guest;
+}
+
+static strm_pair between(const guest *writer, const guest *reader, strm_type type) {
+    strm_pair ends;
+    strm_store *store = &writer->embedder->store;
+    must(strm_new_between(store, writer->number, reader->number, type, &ends) == STRM_DONE, "no stream");
+    return ends;
+}
+
+/* Three guests in a line, in a store of their own, about to pass on so many bytes. */
 static void begin(line *line, const wasm2c_module *const modules[GUESTS], uint32_t size) {
-    strm_pair first, second;
-    line->store.at = NULL;
-    must(strm_store_new(&line->store, 1, 100000, 100000) == STRM_DONE, "no store");
-    for (int k = 0; k < GUESTS; k++) {
-        line->guests[k] = wasm2c_new(&line->store, modules[k]);
-        must(line->guests[k] != NULL, "no guest");
-    }
-    must(strm_new_between(&line->store, 0, 1, STRM_U8, &first) == STRM_DONE, "no stream");
-    must(strm_new_between(&line->store, 1, 2, STRM_U8, &second) == STRM_DONE, "no stream");
+    line->all = (embedder){.count = 0};
+    must(strm_store_new(&line->all.store, 1, 100000, 100000) == STRM_DONE, "no store");
+    for (int k = 0; k < GUESTS; k++) line->guests[k] = guest_of(&line->all, modules[k]);
+    strm_pair first = between(of(line, SOURCE), of(line, FILTER), STRM_U8);
+    strm_pair second = between(of(line, FILTER), of(line, SINK), STRM_U8);
+    line->streams[0] = first.stream;
+    line->streams[1] = second.stream;
     guest_run(of(line, SOURCE), 0, first.write, size);
     guest_run(of(line, FILTER), first.read, second.write, size);
     guest_run(of(line, SINK), second.read, 0, size);
@@ -77,14 +91,13 @@ static bool turns(line *line, uint32_t rounds) {
 }
 
 static void end(line *line) {
-    for (int k = 0; k < GUESTS; k++) must(of(line, k)->owed == 0, "a guest kept a handle");
-    strm_store_free(&line->store);
     for (int k = 0; k < GUESTS; k++) wasm2c_free(line->guests[k]);
+    embedder_free(&line->all);
 }
 
 static uint64_t moved(const line *line, uint32_t stream) {
     strm_count count;
-    must(strm_moved(&line->store, stream, &count) == STRM_DONE, "no count");
+    must(strm_moved(&line->all.store, stream, &count) == STRM_DONE, "no count");
     return count.low;
 }
 
@@ -96,20 +109,19 @@ static void finish(line *line, const char *name, uint32_t size) {
     for (uint32_t k = 0; k < size; k++) hash = hash * 31 + (uint8_t)text[k % (sizeof text - 1)];
     for (int k = 0; k < GUESTS; k++) must(of(line, k)->state == GUEST_ENDED, "a guest trapped");
     must(WASM2C_EXPORT(sink, total)(sink) == size && WASM2C_EXPORT(sink, hash)(sink) == hash, "other bytes");
-    must(moved(line, 1) == size, "another count");
+    must(moved(line, line->streams[1]) == size, "another count");
     printf("%s: %u bytes, hash %08x\n", name, size, hash);
     end(line);
 }
 
 static void run_text(void) {
     line line;
-    uint8_t text[34];
-    begin(&line, modules, sizeof text);
+    enum { SIZE = 34 };
+    begin(&line, modules, SIZE);
     must(turns(&line, 1000), "no end");
-    uint32_t at = WASM2C_EXPORT(sink, first)(line.guests[SINK]->instance);
-    must(strm_memory_read(&line.store, SINK, at, text, sizeof text) == STRM_DONE, "no text");
-    fwrite(text, 1, sizeof text, stdout);
-    finish(&line, "text", sizeof text);
+    const wasm2c_guest *sink = line.guests[SINK];
+    fwrite(sink->memory->data + WASM2C_EXPORT(sink, first)(sink->instance), 1, SIZE, stdout);
+    finish(&line, "text", SIZE);
 }
 
 static void run_pipe(uint32_t size) {
@@ -161,31 +173,69 @@ static void run_broken(const char *name, int at, guest_state state, uint32_t siz
     begin(&line, broken_line, size);
     must(turns(&line, 1000), "no end");
     for (int k = 0; k < GUESTS; k++) must(of(&line, k)->state == (k == at ? state : GUEST_ENDED), "another end");
-    printf("%s: %llu bytes from the source, %llu to the sink\n", name, (unsigned long long)moved(&line, 0),
-           (unsigned long long)moved(&line, 1));
-    if (at == SOURCE) must(WASM2C_EXPORT(sink, total)(line.guests[SINK]->instance) == moved(&line, 1), "another count");
+    unsigned long long sent = moved(&line, line.streams[0]), came = moved(&line, line.streams[1]);
+    printf("%s: %llu bytes from the source, %llu to the sink\n", name, sent, came);
+    if (at == SOURCE) must(WASM2C_EXPORT(sink, total)(line.guests[SINK]->instance) == came, "another count");
     end(&line);
 }
 
-/* A guest that writes a letter that is none: nothing of its write moves, it is stopped, the reader is told that it is
-   gone, and a line in the same store goes on. */
+/* A guest that writes a letter that is none, to a read that waits or comes later: nothing of its write moves, it ends,
+   and the reader is told that it is gone. */
+static void stop_writer(line *line, bool reads_first) {
+    wasm2c_guest *writer = guest_of(&line->all, &letters), *reader = guest_of(&line->all, &letters);
+    strm_pair ends = between(&writer->base, &reader->base, STRM_CHAR);
+    if (reads_first) guest_run(&reader->base, ends.read, 0, 0);
+    guest_run(&writer->base, 0, ends.write, 0);
+    if (!reads_first) guest_run(&reader->base, ends.read, 0, 0);
+    must(writer->base.state == GUEST_TRAPPED && writer->base.refused == STRM_BAD_ITEM, "the writer goes on");
+    wasm2c_free(writer);
+    while (guest_turn(&reader->base)) continue;
+    must(reader->base.state == GUEST_ENDED, "the reader waits");
+    must(WASM2C_EXPORT(letters, total)(reader->instance) == 0, "a bad letter moved");
+    wasm2c_free(reader);
+}
+
+/* A line in the same store goes on. */
 static void run_bad_letter(uint32_t size) {
     line line;
-    strm_pair ends;
     begin(&line, modules, size);
-    wasm2c_guest *writer = wasm2c_new(&line.store, &letters), *reader = wasm2c_new(&line.store, &letters);
-    must(writer != NULL && reader != NULL, "no guest");
-    guest *from = &writer->base, *to = &reader->base;
-    must(strm_new_between(&line.store, from->number, to->number, STRM_CHAR, &ends) == STRM_DONE, "no stream");
-    guest_run(from, 0, ends.write, 0);
-    guest_run(to, ends.read, 0, 0);
-    must(to->state == GUEST_ENDED, "the reader waits");
-    must(WASM2C_EXPORT(letters, total)(reader->instance) == 0, "a bad letter moved");
-    must(guest_turn(from) && from->state == GUEST_TRAPPED, "the writer goes on");
+    stop_writer(&line, false);
+    stop_writer(&line, true);
     must(turns(&line, 0xffffffff), "no end");
     finish(&line, "bad letter", size);
+}
+
+/* Two guests of which the writer traps in mid-stream: its module and its memory go before the reader is told, which
+   then ends with what had moved. They have the numbers of two before them. How many bytes came. */
+static uint64_t bury(line *line) {
+    wasm2c_guest *writer = guest_of(&line->all, &broken), *reader = guest_of(&line->all, &sink);
+    must(writer->base.number < GUESTS + 2 && reader->base.number < GUESTS + 2, "a number is not given again");
+    strm_pair ends = between(&writer->base, &reader->base, STRM_U8);
+    guest_run(&writer->base, 0, ends.write, 100000);
+    guest_run(&reader->base, ends.read, 0, 0);
+    do guest_turn(&reader->base);
+    while (guest_turn(&writer->base) && writer->base.state == GUEST_RUNS);
+    must(writer->base.state == GUEST_TRAPPED && reader->base.state == GUEST_RUNS, "another end");
     wasm2c_free(writer);
+    while (guest_turn(&reader->base)) continue;
+    must(reader->base.state == GUEST_ENDED, "the reader waits");
+    uint64_t came = WASM2C_EXPORT(sink, total)(reader->instance);
+    must(came == moved(line, ends.stream), "another count");
     wasm2c_free(reader);
+    return came;
+}
+
+/* So many times at most, while a line in the same store goes on. */
+static void run_buried(uint32_t size, uint32_t most) {
+    line line;
+    uint32_t lives = 0;
+    uint64_t came = 0;
+    begin(&line, modules, size);
+    for (; lives < most && !turns(&line, 1); lives++) came += bury(&line);
+    must(line.all.count <= GUESTS + 2 && strm_streams(&line.all.store) <= 3, "more numbers than there were at once");
+    printf("buried: %u guests that trapped, of which %llu bytes came\n", lives, (unsigned long long)came);
+    must(turns(&line, 0xffffffff), "no end");
+    finish(&line, "buried", size);
 }
 
 /* One call of the hostile guest. It is entered again after a trap, which a runtime would not do. */
@@ -199,21 +249,20 @@ static void flood(void *instance, void *rounds) { WASM2C_EXPORT(hostile, flood)(
 
 /* In a store of ten handles and ten places, whatever memory the process may have. */
 static void run_flood(uint32_t rounds) {
-    strm_store store = {NULL};
-    must(strm_store_new(&store, 1, 10, 10) == STRM_DONE, "no store");
-    wasm2c_guest *enemy = wasm2c_new(&store, &hostile);
-    must(enemy != NULL, "no guest");
+    embedder all = {.count = 0};
+    must(strm_store_new(&all.store, 1, 10, 10) == STRM_DONE, "no store");
+    wasm2c_guest *enemy = guest_of(&all, &hostile);
     must(wasm2c_enter(enemy, flood, &rounds), "the hostile guest was refused a stream");
     printf("flood: %u streams made and dropped\n", rounds);
-    strm_store_free(&store);
     wasm2c_free(enemy);
+    embedder_free(&all);
 }
 
 /* A guest's memory, by its module; the store has the same, where it lies and as long as it is. */
 static wasm_rt_memory_t *memory_of(line *line, const guest *guest, wasm_rt_memory_t *memory) {
     uint8_t *at = NULL;
     size_t len = 0;
-    must(strm_memory_at(&line->store, guest->number, &at, &len) == STRM_DONE, "no memory");
+    must(strm_memory_at(&line->all.store, guest->number, &at, &len) == STRM_DONE, "no memory");
     must(memory->data == at && memory->size == len && memory->pages * 65536 == len, "the store was not told of a memory");
     return memory;
 }
@@ -225,7 +274,7 @@ typedef struct {
 } snapshot;
 
 static snapshot look(line *line) {
-    snapshot now = {.moved = {moved(line, 0), moved(line, 1)}};
+    snapshot now = {.moved = {moved(line, line->streams[0]), moved(line, line->streams[1])}};
     now.memories[SOURCE] = WASM2C_EXPORT(source, memory)(line->guests[SOURCE]->instance);
     now.memories[FILTER] = WASM2C_EXPORT(filter, memory)(line->guests[FILTER]->instance);
     now.memories[SINK] = WASM2C_EXPORT(sink, memory)(line->guests[SINK]->instance);
@@ -253,8 +302,7 @@ static void run_hostile(uint32_t size, uint32_t calls) {
     line line;
     uint32_t done = 0;
     begin(&line, modules, size);
-    wasm2c_guest *enemy = wasm2c_new(&line.store, &hostile);
-    must(enemy != NULL, "no guest");
+    wasm2c_guest *enemy = guest_of(&line.all, &hostile);
     must(!turns(&line, 5), "over before the attack");
     snapshot before = look(&line);
     for (uint32_t k = 0; k < calls; k++) done += wasm2c_enter(enemy, attack, NULL);
@@ -263,10 +311,9 @@ static void run_hostile(uint32_t size, uint32_t calls) {
     must(WASM2C_EXPORT(hostile, wrong)(enemy->instance) == 0, "memory.grow did or answered something else");
     printf("hostile: %u calls, %u done, %u refused, its memory grew %u times\n", calls, done, calls - done,
            WASM2C_EXPORT(hostile, grown)(enemy->instance));
-    must(turns(&line, 0xffffffff), "no end");
-    guest_end(&enemy->base, GUEST_ENDED);
-    finish(&line, "hostile", size);
     wasm2c_free(enemy);
+    must(turns(&line, 0xffffffff), "no end");
+    finish(&line, "hostile", size);
 }
 
 /* `guests BYTES`: all. `guests pipe BYTES`: the second alone, which is timed. `guests flood STREAMS`: the hostile
@@ -287,6 +334,7 @@ int main(int count, char **words) {
     run_broken("ended source", SOURCE, GUEST_ENDED, 0);
     run_broken("ended sink", SINK, GUEST_ENDED, 0);
     run_bad_letter(100000);
+    run_buried(size, 100);
     run_hostile(size, 100000);
     return 0;
 }

@@ -44,12 +44,23 @@ void strm_store_free(strm_store *store) {
     store->at = NULL;
 }
 
-strm_status strm_add_guest_at(strm_store *store, uint8_t *bytes, size_t len, uint32_t *out) {
-    plain *plain = store->at;
-    guest *guest = &plain->guests[*out = plain->guest_count++];
+strm_status strm_add_guest(strm_store *store, uint32_t size, uint32_t *out) {
+    (void)size;
+    *out = ((plain *)store->at)->guest_count++;
+    return STRM_DONE;
+}
+
+strm_status strm_begin_guest_at(strm_store *store, uint32_t number, uint8_t *bytes, size_t len) {
+    guest *guest = &((plain *)store->at)->guests[number];
     guest->memory = bytes;
     guest->len = len;
     guest->count = 1;
+    return STRM_DONE;
+}
+
+/* Guests of a line drop their ends themselves. */
+strm_status strm_end_guest(strm_store *store, uint32_t number) {
+    (void)store, (void)number;
     return STRM_DONE;
 }
 
@@ -71,6 +82,8 @@ strm_status strm_new_between(strm_store *store, uint32_t writer, uint32_t reader
     plain->guests[writer].handles[out->write].side = WRITING;
     return STRM_DONE;
 }
+
+uint32_t strm_streams(const strm_store *store) { return ((plain *)store->at)->stream_count; }
 
 strm_status strm_moved(const strm_store *store, uint32_t number, strm_count *out) {
     out->low = ((plain *)store->at)->streams[number].received;
@@ -169,7 +182,7 @@ strm_status strm_stream_drop_writable(strm_store *store, uint32_t number, strm_p
         return STRM_UNKNOWN_HANDLE;       \
     }
 #pragma GCC diagnostic ignored "-Wunused-parameter"
-ABSENT(strm_add_guest, strm_store *s, uint32_t z, uint32_t *o)
+ABSENT(strm_begin_guest, strm_store *s, uint32_t g, uint32_t z)
 ABSENT(strm_memory_grown, strm_store *s, uint32_t g, uint8_t *m, size_t l)
 ABSENT(strm_memory_moved, strm_store *s, uint32_t g, uint8_t *b, size_t l)
 ABSENT(strm_memory_read, const strm_store *s, uint32_t g, uint32_t a, uint8_t *o, size_t l)
@@ -185,9 +198,6 @@ ABSENT(strm_future_write, strm_store *s, uint32_t g, strm_payload p, uint32_t h,
 ABSENT(strm_future_drop_readable, strm_store *s, uint32_t g, strm_payload p, uint32_t h)
 ABSENT(strm_future_drop_writable, strm_store *s, uint32_t g, strm_payload p, uint32_t h)
 ABSENT(strm_find_bad_item, const strm_store *s, uint32_t w, uint32_t g, strm_type t, uint32_t h, uint32_t a, uint32_t c, strm_bad_item *o)
-ABSENT(strm_take_event, strm_store *s, uint32_t g, uint32_t h, uint32_t *o)
-ABSENT(strm_next_handle, const strm_store *s, uint32_t g, uint32_t h, strm_handle *o)
-ABSENT(strm_handle_count, const strm_store *s, uint32_t g, uint32_t *o)
 ABSENT(strm_set_drop, strm_store *s, uint32_t g, uint32_t h)
 ABSENT(strm_error_context_new, strm_store *s, uint32_t g, uint32_t a, uint32_t l, uint32_t *o)
 ABSENT(strm_error_context_drop, strm_store *s, uint32_t g, uint32_t h)

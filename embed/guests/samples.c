@@ -21,32 +21,34 @@ static void must(bool holds, const char *what) {
     exit(1);
 }
 
-static wasm2c_guest *guest_of(strm_store *store, const wasm2c_module *module) {
-    wasm2c_guest *guest = wasm2c_new(store, module);
+static wasm2c_guest *guest_of(embedder *all, const wasm2c_module *module) {
+    wasm2c_guest *guest = wasm2c_new(all, module);
     must(guest != NULL, "no guest");
     return guest;
 }
 
-static strm_pair between(strm_store *store, const wasm2c_guest *writer, const wasm2c_guest *reader, strm_type type) {
+static strm_pair between(const guest *writer, const guest *reader, strm_type type) {
     strm_pair ends;
-    must(strm_new_between(store, writer->base.number, reader->base.number, type, &ends) == STRM_DONE, "no stream");
+    strm_store *store = &writer->embedder->store;
+    must(strm_new_between(store, writer->number, reader->number, type, &ends) == STRM_DONE, "no stream");
     return ends;
 }
 
 int main(void) {
-    strm_store store = {NULL};
+    embedder all = {.count = 0};
     wasm_rt_init();
-    must(strm_store_new(&store, 1, 1000, 1000) == STRM_DONE, "no store");
-    wasm2c_guest *writer = guest_of(&store, &meter), *reader = guest_of(&store, &tally);
-    strm_pair samples = between(&store, writer, reader, STRM_TUPLE | STRM_FIELD(0, STRM_U8) | STRM_FIELD(1, STRM_U32));
-    strm_pair answer = between(&store, reader, writer, STRM_U64 | STRM_FUTURE);
-    guest_run(&writer->base, answer.read, samples.write, 1000000);
-    guest_run(&reader->base, samples.read, answer.write, 0);
-    while (guest_turn(&writer->base) || guest_turn(&reader->base)) continue;
-    must(writer->base.state == GUEST_ENDED && reader->base.state == GUEST_ENDED, "a guest trapped, or waits for ever");
-    printf("1000000 samples come to %llu\n", (unsigned long long)WASM2C_EXPORT(meter, answer)(writer->instance));
-    strm_store_free(&store);
-    wasm2c_free(writer);
-    wasm2c_free(reader);
+    must(strm_store_new(&all.store, 1, 1000, 1000) == STRM_DONE, "no store");
+    wasm2c_guest *meter_guest = guest_of(&all, &meter), *tally_guest = guest_of(&all, &tally);
+    guest *writer = &meter_guest->base, *reader = &tally_guest->base;
+    strm_pair samples = between(writer, reader, STRM_TUPLE | STRM_FIELD(0, STRM_U8) | STRM_FIELD(1, STRM_U32));
+    strm_pair answer = between(reader, writer, STRM_U64 | STRM_FUTURE);
+    guest_run(writer, answer.read, samples.write, 1000000);
+    guest_run(reader, samples.read, answer.write, 0);
+    while (guest_turn(writer) || guest_turn(reader)) continue;
+    must(writer->state == GUEST_ENDED && reader->state == GUEST_ENDED, "a guest trapped, or waits for ever");
+    printf("1000000 samples come to %llu\n", (unsigned long long)WASM2C_EXPORT(meter, answer)(meter_guest->instance));
+    wasm2c_free(meter_guest);
+    wasm2c_free(tally_guest);
+    embedder_free(&all);
     return 0;
 }

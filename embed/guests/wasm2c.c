@@ -58,10 +58,8 @@ void wasm2c_must(wasm2c_guest *guest, strm_status status) {
     wasm_rt_trap(WASM_RT_TRAP_UNREACHABLE);
 }
 
-/* MEMORIES. A guest's is lent to the store once its module is made, and the store is told of all that becomes of it
-   before the guest goes on. */
-
-#define NO_NUMBER 0xffffffffu
+/* MEMORIES. A guest's is lent to the store from when its module is made until the guest ends, and the store is told of
+   all that becomes of it before the guest goes on. */
 
 /* A store takes fewer than 2^32 bytes. */
 #define MOST_PAGES 65535u
@@ -97,7 +95,7 @@ void wasm2c_allocate_memory(wasm_rt_memory_t *memory, uint64_t pages, uint64_t m
 void wasm2c_allocate_memory(wasm_rt_memory_t *memory, uint32_t pages, uint32_t most) { allocate(memory, pages, most); }
 #endif
 
-static bool is_lent(const guest *guest) { return guest->number != NO_NUMBER; }
+static bool is_lent(const guest *guest) { return guest->number != GUEST_NONE; }
 
 #if WASM2C_MAPPED
 static bool add_pages(wasm2c_guest *at, page_count pages) {
@@ -105,7 +103,7 @@ static bool add_pages(wasm2c_guest *at, page_count pages) {
     uint8_t *end = at->memory->data + at->memory->size;
     if (wabt_grow_memory(at->memory, pages) == NOT_GROWN) return false;
     size_t len = (size_t)(at->memory->data + at->memory->size - end);
-    if (is_lent(guest)) wasm2c_must(at, strm_memory_grown(guest->store, guest->number, end, len));
+    if (is_lent(guest)) wasm2c_must(at, strm_memory_grown(&guest->embedder->store, guest->number, end, len));
     return true;
 }
 #else
@@ -116,7 +114,8 @@ static bool add_pages(wasm2c_guest *at, page_count pages) {
     make(&longer, at->memory->pages + pages, at->memory->max_pages);
     if (longer.data == NULL) return false;
     memcpy(longer.data, at->memory->data, at->memory->size);
-    if (is_lent(guest)) wasm2c_must(at, strm_memory_moved(guest->store, guest->number, longer.data, longer.size));
+    if (is_lent(guest))
+        wasm2c_must(at, strm_memory_moved(&guest->embedder->store, guest->number, longer.data, longer.size));
     wabt_free_memory(at->memory);
     *at->memory = longer;
     return true;
@@ -166,17 +165,16 @@ static const engine wasm2c = {run, callback, NULL};
 
 static void instantiate(void *instance, void *with) {
     wasm2c_guest *made = with;
-    guest *guest = &made->base;
     made->module->instantiate(instance, made);
     const wasm_rt_memory_t *memory = made->memory;
-    wasm2c_must(made, memory == NULL ? strm_add_guest(guest->store, 0, &guest->number)
-                                     : strm_add_guest_at(guest->store, memory->data, memory->size, &guest->number));
+    wasm2c_must(made, memory == NULL ? guest_begin(&made->base, NULL, 0)
+                                     : guest_begin(&made->base, memory->data, memory->size));
 }
 
-wasm2c_guest *wasm2c_new(strm_store *store, const wasm2c_module *module) {
+wasm2c_guest *wasm2c_new(embedder *embedder, const wasm2c_module *module) {
     wasm2c_guest *made = calloc(1, sizeof *made);
     if (made == NULL) return NULL;
-    made->base = (guest){.engine = &wasm2c, .store = store, .number = NO_NUMBER};
+    made->base = (guest){.engine = &wasm2c, .embedder = embedder, .number = GUEST_NONE};
     made->module = module;
     made->instance = calloc(1, module->instance_size);
     if (made->instance != NULL && wasm2c_enter(made, instantiate, made)) return made;
@@ -185,6 +183,7 @@ wasm2c_guest *wasm2c_new(strm_store *store, const wasm2c_module *module) {
 }
 
 void wasm2c_free(wasm2c_guest *guest) {
+    guest_end(&guest->base, GUEST_ENDED);
     if (guest->instance != NULL) guest->module->free(guest->instance);
     free(guest->instance);
     free(guest);
@@ -194,33 +193,33 @@ void wasm2c_free(wasm2c_guest *guest) {
 
 uint32_t CANON_SET(new)(wasm2c_guest *g) {
     uint32_t set = 0;
-    wasm2c_must(g, strm_set_new(g->base.store, g->base.number, &set));
+    wasm2c_must(g, strm_set_new(&g->base.embedder->store, g->base.number, &set));
     return set;
 }
 
 /* The place is tested before an event is taken. */
 uint32_t CANON_SET(poll)(wasm2c_guest *g, uint32_t set, uint32_t at) {
     uint32_t event, told[2];
-    wasm2c_must(g, strm_memory_read(g->base.store, g->base.number, at, (uint8_t *)told, sizeof told));
+    wasm2c_must(g, strm_memory_read(&g->base.embedder->store, g->base.number, at, (uint8_t *)told, sizeof told));
     wasm2c_must(g, guest_poll(&g->base, set, &event, told));
-    wasm2c_must(g, strm_memory_write(g->base.store, g->base.number, at, (const uint8_t *)told, sizeof told));
+    wasm2c_must(g, strm_memory_write(&g->base.embedder->store, g->base.number, at, (const uint8_t *)told, sizeof told));
     return event;
 }
 
 void CANON_SET(drop)(wasm2c_guest *g, uint32_t set) {
-    wasm2c_must(g, strm_set_drop(g->base.store, g->base.number, set));
+    wasm2c_must(g, strm_set_drop(&g->base.embedder->store, g->base.number, set));
 }
 
 void CANON(waitable, join)(wasm2c_guest *g, uint32_t handle, uint32_t set) {
-    wasm2c_must(g, strm_set_join(g->base.store, g->base.number, set, handle));
+    wasm2c_must(g, strm_set_join(&g->base.embedder->store, g->base.number, set, handle));
 }
 
 uint32_t CANON_CONTEXT(new)(wasm2c_guest *g, uint32_t at, uint32_t len) {
     uint32_t handle = 0;
-    wasm2c_must(g, strm_error_context_new(g->base.store, g->base.number, at, len, &handle));
+    wasm2c_must(g, strm_error_context_new(&g->base.embedder->store, g->base.number, at, len, &handle));
     return handle;
 }
 
 void CANON_CONTEXT(drop)(wasm2c_guest *g, uint32_t handle) {
-    wasm2c_must(g, strm_error_context_drop(g->base.store, g->base.number, handle));
+    wasm2c_must(g, strm_error_context_drop(&g->base.embedder->store, g->base.number, handle));
 }

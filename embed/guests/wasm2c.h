@@ -82,11 +82,11 @@ struct WASM2C_IMPORTS {
     wasm_rt_memory_t *memory;
 };
 
-/* Makes a guest of a module, whose memory it is lent; NULL where there is no room for it, or it traps as it is made,
-   as it does where it calls a built-in before it is a guest. */
-wasm2c_guest *wasm2c_new(strm_store *store, const wasm2c_module *module);
+/* Makes a module and begins a guest of it, whose memory is lent to the store; NULL where there is no room for it, or it
+   traps as it is made, as it does where it calls a built-in before it is a guest. */
+wasm2c_guest *wasm2c_new(embedder *embedder, const wasm2c_module *module);
 
-/* Gives up a guest's module and its memory. The store has that until it is given up itself: so it goes first. */
+/* Gives up a guest with its module and its memory, at any time but while it is entered: it ends before, if it runs. */
 void wasm2c_free(wasm2c_guest *guest);
 
 /* Calls a function of a guest's module, which is handed the instance: whether it came back. One that may trap, or have
@@ -132,7 +132,7 @@ bool wasm2c_enter(wasm2c_guest *guest, void (*call)(void *instance, void *with),
 #define CANON_ENDS(kind, T, payload)                                                                               \
     uint64_t CANON_END(kind, T, new)(wasm2c_guest * g) {                                                           \
         strm_pair pair = {0, 0, 0};                                                                                \
-        wasm2c_must(g, strm_##kind##_new(g->base.store, g->base.number, payload, &pair));                        \
+        wasm2c_must(g, strm_##kind##_new(&g->base.embedder->store, g->base.number, payload, &pair));               \
         return pair.read | (uint64_t)pair.write << 32;                                                             \
     }                                                                                                              \
     uint32_t CANON_SIDE(kind, T, cancel, read)(wasm2c_guest * g, uint32_t handle) {                                \
@@ -142,21 +142,21 @@ bool wasm2c_enter(wasm2c_guest *guest, void (*call)(void *instance, void *with),
         WASM2C_CODE(strm_##kind##_cancel_write, payload, handle);                                                  \
     }                                                                                                              \
     void CANON_SIDE(kind, T, drop, readable)(wasm2c_guest * g, uint32_t handle) {                                  \
-        wasm2c_must(g, strm_##kind##_drop_readable(g->base.store, g->base.number, payload, handle));             \
+        wasm2c_must(g, strm_##kind##_drop_readable(&g->base.embedder->store, g->base.number, payload, handle));    \
     }                                                                                                              \
     void CANON_SIDE(kind, T, drop, writable)(wasm2c_guest * g, uint32_t handle) {                                  \
-        wasm2c_must(g, strm_##kind##_drop_writable(g->base.store, g->base.number, payload, handle));             \
+        wasm2c_must(g, strm_##kind##_drop_writable(&g->base.embedder->store, g->base.number, payload, handle));    \
     }
 #define WASM2C_CODE(call, ...)                                                                                     \
     uint32_t code = 0;                                                                                             \
-    wasm2c_must(g, call(g->base.store, g->base.number, __VA_ARGS__, &code));                                     \
+    wasm2c_must(g, call(&g->base.embedder->store, g->base.number, __VA_ARGS__, &code));                            \
     return code
 
 #define WASM2C_READ(call, type, payload, count, ...)                                                               \
     uint32_t code = 0;                                                                                             \
-    strm_status status = call(g->base.store, g->base.number, payload, __VA_ARGS__, &code);                         \
+    strm_status status = call(&g->base.embedder->store, g->base.number, payload, __VA_ARGS__, &code);              \
     if (status == STRM_BAD_ITEM && guest_stop_writer(&g->base, type, handle, at, count))                           \
-        status = call(g->base.store, g->base.number, payload, __VA_ARGS__, &code);                                 \
+        status = call(&g->base.embedder->store, g->base.number, payload, __VA_ARGS__, &code);                      \
     wasm2c_must(g, status);                                                                                        \
     return code
 

@@ -68,6 +68,11 @@ impl Archive {
             payload: U8,
         }))
     }
+}
+
+// SAFETY, of each call below: as of those above.
+impl Rounds for Archive {
+    type Refusal = u32;
 
     fn try_round(&mut self, address: u32, count: u32) -> Result<(), u32> {
         let (store, bytes) = (&mut self.store, self.payload);
@@ -89,16 +94,6 @@ impl Archive {
             wrote(|out| unsafe { sys::strm_new_between(store, self.writer, self.reader, bytes, out) })?;
         done(unsafe { sys::strm_stream_drop_writable(store, self.writer, bytes, made.write) })?;
         done(unsafe { sys::strm_stream_drop_readable(store, self.reader, bytes, made.read) })
-    }
-}
-
-impl Rounds for Archive {
-    fn round(&mut self, address: u32, count: u32) {
-        self.try_round(address, count).expect("no refusal");
-    }
-
-    fn make_and_drop(&mut self) {
-        self.try_make_and_drop().expect("no refusal");
     }
 }
 
@@ -127,6 +122,10 @@ impl Proved {
             payload: black_box(Payload::U8),
         })
     }
+}
+
+impl Rounds for Proved {
+    type Refusal = Error;
 
     fn try_round(&mut self, address: u32, count: u32) -> Result<(), Error> {
         let written = self
@@ -147,16 +146,6 @@ impl Proved {
             .stream_drop_writable(self.writer, self.payload, pair.write)?;
         self.store
             .stream_drop_readable(self.reader, self.payload, pair.read)
-    }
-}
-
-impl Rounds for Proved {
-    fn round(&mut self, address: u32, count: u32) {
-        self.try_round(address, count).expect("no refusal");
-    }
-
-    fn make_and_drop(&mut self) {
-        self.try_make_and_drop().expect("no refusal");
     }
 }
 

@@ -3,6 +3,7 @@
 
 use crate::bare;
 use crate::plain::face::{self, Pair, StoreHandle};
+use std::fmt::Debug;
 use std::hint::black_box;
 
 /// The bytes of each of the two memories.
@@ -15,9 +16,20 @@ pub const U8: u64 = 3;
 
 /// A store with two guests and a stream of bytes from the first to the second.
 pub trait Rounds {
-    fn round(&mut self, address: u32, count: u32);
+    /// Why it does not: nothing that is timed is refused.
+    type Refusal: Debug;
 
-    fn make_and_drop(&mut self);
+    fn try_round(&mut self, address: u32, count: u32) -> Result<(), Self::Refusal>;
+
+    fn try_make_and_drop(&mut self) -> Result<(), Self::Refusal>;
+
+    fn round(&mut self, address: u32, count: u32) {
+        self.try_round(address, count).expect("no refusal");
+    }
+
+    fn make_and_drop(&mut self) {
+        self.try_make_and_drop().expect("no refusal");
+    }
 }
 
 // The calls that are timed. The compiler sees no more into them than into the archive's.
@@ -85,6 +97,10 @@ impl Plain {
             payload: U8,
         }))
     }
+}
+
+impl Rounds for Plain {
+    type Refusal = u32;
 
     fn try_round(&mut self, address: u32, count: u32) -> Result<(), u32> {
         let (calls, store, bytes) = (&self.calls, &mut self.store, self.payload);
@@ -108,16 +124,6 @@ impl Plain {
             made.write,
         ))?;
         done((calls.stream_drop_readable)(store, self.reader, bytes, made.read))
-    }
-}
-
-impl Rounds for Plain {
-    fn round(&mut self, address: u32, count: u32) {
-        self.try_round(address, count).expect("no refusal");
-    }
-
-    fn make_and_drop(&mut self) {
-        self.try_make_and_drop().expect("no refusal");
     }
 }
 
@@ -148,7 +154,9 @@ impl Default for Bare {
     }
 }
 
-impl Bare {
+impl Rounds for Bare {
+    type Refusal = bare::Refusal;
+
     fn try_round(&mut self, address: u32, count: u32) -> Result<(), bare::Refusal> {
         let (writing, reading) = (bare::Side::Writing, bare::Side::Reading);
         let stream = bare::Kind::Stream;
@@ -170,16 +178,6 @@ impl Bare {
         let (read, write) = self.store.new_between(0, 1, stream, self.payload);
         self.store.drop_end(writing, 0, stream, self.payload, write)?;
         self.store.drop_end(reading, 1, stream, self.payload, read)
-    }
-}
-
-impl Rounds for Bare {
-    fn round(&mut self, address: u32, count: u32) {
-        self.try_round(address, count).expect("no refusal");
-    }
-
-    fn make_and_drop(&mut self) {
-        self.try_make_and_drop().expect("no refusal");
     }
 }
 

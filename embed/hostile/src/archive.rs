@@ -40,7 +40,7 @@ type FutureCall = unsafe extern "C" fn(Handles, u32, u64, u32, u32, &mut u32) ->
 type StreamCall = unsafe extern "C" fn(Handles, u32, u64, u32, u32, u32, &mut u32) -> u32;
 type MoveCall = unsafe extern "C" fn(Handles, u32, u64, u32, u32, &mut u32) -> u32;
 
-/// A store, and where its memories were said to lie when their guests were added.
+/// A store, and where its memories were said to lie when their guests began.
 pub struct Archive {
     store: StoreHandle,
     memories: Vec<(*mut u8, usize)>,
@@ -72,7 +72,7 @@ impl Archive {
         self.memories.clear();
         // SAFETY: a handle of a store or of none, that this value has.
         unsafe { sys::strm_store_free(&mut self.store) }
-        assert!(self.gone.iter().all(Block::is_given_up), "a block was written after its memory moved");
+        assert!(self.gone.iter().all(Block::is_given_up), "a block that was given up was written");
         (self.lent, self.gone) = (HashMap::new(), Vec::new());
     }
 
@@ -83,7 +83,8 @@ impl Archive {
 
     /// The bytes of each guest's memory.
     pub fn memories(&self) -> impl Iterator<Item = &[u8]> {
-        // SAFETY: there they lie until the store is freed, and no call is made while they are looked at.
+        // SAFETY: there they lie until they move, their guests end or the store is freed, as this value knows, and
+        // no call is made while they are looked at.
         self.memories.iter().map(|(at, len)| match len {
             0 => &[][..],
             _ => unsafe { std::slice::from_raw_parts(*at, *len) },
@@ -106,6 +107,9 @@ impl Archive {
                 self.answer_set(call, before)
             }
             Call::AddGuest { .. } | Call::AddGuestAt { .. } => self.answer_guest(call, before),
+            Call::EndGuest { .. } | Call::BeginGuest { .. } | Call::BeginGuestAt { .. } => {
+                self.answer_life(call, before)
+            }
             Call::MemoryGrown { .. } | Call::MemoryMoved { .. } => self.answer_growth(call, before),
             Call::MemoryWrite { .. } | Call::MemoryRead { .. } | Call::MemoryAt { .. } => {
                 self.answer_memory(call, before)
@@ -256,6 +260,39 @@ impl Archive {
             if matches!(call, Call::AddGuestAt { .. }) {
                 self.lent.insert(guest, block);
             }
+        }
+        answer
+    }
+
+    // A guest ends, and its block is given up if its memory was lent; or one begins under its number.
+    fn answer_life(&mut self, call: &Call, before: Words) -> Answer {
+        let block = Block::new();
+        let (guest, answer) = match *call {
+            Call::EndGuest { guest } => {
+                (guest, self.done(before, |store| unsafe { sys::strm_end_guest(store, guest) }))
+            }
+            Call::BeginGuest { guest, size } => {
+                (guest, self.done(before, |store| unsafe { sys::strm_begin_guest(store, guest, size) }))
+            }
+            Call::BeginGuestAt { guest, size } => {
+                let at = if size < SIZE_LIMIT { block.at() } else { wide() };
+                let answer = self.done(before, |store| unsafe {
+                    sys::strm_begin_guest_at(store, guest, at, size as usize)
+                });
+                (guest, answer)
+            }
+            _ => unreachable!("a call of another family"),
+        };
+        if answer.status != 0 {
+            return answer;
+        }
+        self.memories[guest as usize] = self.place(guest);
+        if let Some(old) = self.lent.remove(&guest) {
+            old.give_up();
+            self.gone.push(old);
+        }
+        if let Call::BeginGuestAt { .. } = call {
+            self.lent.insert(guest, block);
         }
         answer
     }

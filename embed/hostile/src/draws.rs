@@ -209,6 +209,7 @@ impl<'a> Draws<'a> {
             Family::Context => self.context_call(),
             Family::Memory => Some(self.memory_call()),
             Family::AddGuest => Some(self.add_guest()),
+            Family::Life => Some(self.life()),
             Family::Grow => Some(self.grow()),
             Family::Query => self.query(),
             Family::Limits => Some(self.limits_call()),
@@ -289,20 +290,51 @@ impl Draws<'_> {
         Call::New { kind, guest: writer, payload }
     }
 
-    /// A guest, or one whose memory is the least that is too big.
-    pub fn add_guest(&mut self) -> Call {
+    // So many bytes of the store's own, or the least that are too many.
+    fn own_size(&mut self, is_too_big: bool) -> u32 {
         let own = self.store.guests.iter().filter(|guest| !guest.is_lent);
         let bytes: usize = own.map(|guest| guest.memory.len()).sum();
-        let is_too_big = self.goes_wrong() || self.store.guests.len() >= MOST_GUESTS;
-        if self.random.chance(40) {
-            let size = if is_too_big { SIZE_LIMIT } else { self.random.pick(&SIZES).into() };
-            return Call::AddGuestAt { size };
-        }
-        let size = match is_too_big {
+        match is_too_big {
             true => self.random.pick(&[(1 << 28) + 1 - bytes as u32, 1 << 29, u32::MAX]),
             false => self.random.pick(&SIZES),
-        };
-        Call::AddGuest { size }
+        }
+    }
+
+    // The same of bytes that are lent.
+    fn lent_size(&mut self, is_too_big: bool) -> u64 {
+        if is_too_big { SIZE_LIMIT } else { self.random.pick(&SIZES).into() }
+    }
+
+    /// A guest, or one whose memory is too big.
+    pub fn add_guest(&mut self) -> Call {
+        let is_too_big = self.goes_wrong() || self.store.guests.len() >= MOST_GUESTS;
+        match self.random.chance(40) {
+            true => Call::AddGuestAt { size: self.lent_size(is_too_big) },
+            false => Call::AddGuest { size: self.own_size(is_too_big) },
+        }
+    }
+
+    // The same under the number of one that is there.
+    fn begin_guest(&mut self, guest: u32) -> Call {
+        let is_too_big = self.goes_wrong();
+        match self.random.chance(40) {
+            true => Call::BeginGuestAt { guest, size: self.lent_size(is_too_big) },
+            false => Call::BeginGuest { guest, size: self.own_size(is_too_big) },
+        }
+    }
+
+    // One begins where a guest is found that has nothing, and else one ends; or sometimes the other way round.
+    fn life(&mut self) -> Call {
+        let store = self.store;
+        let is_free = |guest: &u32| store.guests.get(*guest as usize).is_some_and(|found| !found.is_used());
+        let mut tries = (0..TRIES).map(|_| self.guest());
+        let found = tries.find(is_free);
+        let guest = found.unwrap_or_else(|| self.guest());
+        let is_other = self.goes_wrong() || self.random.chance(10);
+        match found.is_some() != is_other {
+            true => self.begin_guest(guest),
+            false => Call::EndGuest { guest },
+        }
     }
 
     // A memory that is lent grows where it lies, or moves; some other does neither.

@@ -7,7 +7,6 @@ use crate::sys;
 use crate::words::status_of;
 use plain::codes::Refusal;
 use plain::store::{Guest, Store};
-use std::ffi::{c_int, c_void};
 use std::sync::OnceLock;
 
 /// The most bytes of a memory that is lent, and how many of a block lie behind its end at first.
@@ -16,8 +15,8 @@ pub const ROOM: u32 = 16 * 1024;
 /// A memory has fewer bytes.
 pub const SIZE_LIMIT: u64 = 1 << 32;
 
-// What stands in a block before it is written, and once it is no guest's any more.
-const UNWRITTEN: u8 = 0x5a;
+/// What stands in a block before it is written, and once it is no guest's any more.
+pub const UNWRITTEN: u8 = 0x5a;
 const GONE: u8 = 0xa5;
 
 /// A block of the engine's, of whose bytes the first are a guest's memory.
@@ -66,23 +65,11 @@ impl Drop for Block {
     }
 }
 
-unsafe extern "C" {
-    fn mmap(
-        at: *mut c_void,
-        len: usize,
-        protection: c_int,
-        flags: c_int,
-        file: c_int,
-        offset: i64,
-    ) -> *mut c_void;
-}
-
-/// Where 2^32 bytes lie that nobody touches.
+/// Where 2^32 zeros lie that nobody touches, so that none of their pages is there.
 pub fn wide() -> *mut u8 {
     static AT: OnceLock<usize> = OnceLock::new();
-    // SAFETY: the pages are zeros of this program's own, without reserve, and stay.
-    let map = || unsafe { mmap(std::ptr::null_mut(), 1 << 32, 3, 0x4022, -1, 0) }.expose_provenance();
-    std::ptr::with_exposed_provenance_mut(*AT.get_or_init(map))
+    let zeros = || vec![0u8; SIZE_LIMIT as usize].leak().as_mut_ptr().expose_provenance();
+    std::ptr::with_exposed_provenance_mut(*AT.get_or_init(zeros))
 }
 
 /// A guest with a memory of so many bytes as they stand in a new block.

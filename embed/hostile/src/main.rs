@@ -14,6 +14,7 @@ mod draws;
 mod history;
 mod lent;
 mod limits;
+mod lives;
 mod model;
 mod profiles;
 mod queries;

@@ -5,6 +5,7 @@ use crate::archive::{Answer, Words, over};
 use crate::calls::Call;
 use crate::lent;
 use crate::limits::Limits as GuestLimits;
+use crate::lives;
 use crate::queries::queried;
 use crate::sys;
 use crate::words::{NO_EVENT, event_word, payload_at, status_of, type_at};
@@ -63,6 +64,9 @@ impl Model {
         let Some(store) = &mut self.store else { return answer_of_none(call, before) };
         if let Some(answer) = queried(store, call, before).or_else(|| lent::answer(store, call, before)) {
             return answer;
+        }
+        if lives::is_in_use(store, call) {
+            return of(sys::IN_USE, before);
         }
         if let Some(answer) = self.limits.answer(store, call, before, seen) {
             return answer;
@@ -123,9 +127,11 @@ impl Step<'_> {
         Some(Step { call, ty })
     }
 
-    // An end that stays in its guest wants none; what wants none in any case, `strm.h` tells.
+    // An end that stays in its guest wants none; nor does a guest that ends, or begins over bytes that are lent. What else
+    // wants none in any case, `strm.h` tells.
     fn may_want_memory(&self) -> bool {
-        !matches!(self.call, Call::Transfer { guest, to, .. } if guest == to)
+        !matches!(self.call, Call::EndGuest { .. } | Call::BeginGuestAt { .. })
+            && !matches!(self.call, Call::Transfer { guest, to, .. } if guest == to)
     }
 
     // Does the step.
@@ -135,6 +141,9 @@ impl Step<'_> {
         Ok(match *self.call {
             Call::AddGuest { size } => Reply::Number(store.add_guest(size)?),
             Call::AddGuestAt { size } => Reply::Number(lent::add(store, size)?),
+            Call::EndGuest { guest } => store.end_guest(guest)?,
+            Call::BeginGuest { guest, size } => store.begin_guest(guest, size)?,
+            Call::BeginGuestAt { guest, size } => lives::begin_at(store, guest, size)?,
             Call::MemoryWrite { guest, address, bytes } => store.poke(guest, address, &bytes.list())?,
             Call::New { guest, .. } => make(store, guest, guest, ty, seen)?,
             Call::NewBetween { writer, reader, .. } => make(store, writer, reader, ty, seen)?,

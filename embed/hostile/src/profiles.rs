@@ -17,6 +17,8 @@ pub enum Family {
     Context,
     Memory,
     AddGuest,
+    /// A guest ends, or begins under the number of one that has ended.
+    Life,
     /// A memory that is lent grows.
     Grow,
     Query,
@@ -25,7 +27,7 @@ pub enum Family {
 }
 
 /// How often each family is drawn where the store is not drawn to make more or less of it.
-const SHARES: [(Family, u32); 12] = [
+const SHARES: [(Family, u32); 13] = [
     (Family::Operate, 450),
     (Family::Event, 150),
     (Family::End, 120),
@@ -35,6 +37,7 @@ const SHARES: [(Family, u32); 12] = [
     (Family::Context, 60),
     (Family::Memory, 40),
     (Family::AddGuest, 3),
+    (Family::Life, 6),
     (Family::Grow, 6),
     (Family::Query, 60),
     (Family::Limits, 4),

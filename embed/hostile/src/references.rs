@@ -24,7 +24,7 @@ fn names_of(call: &mut Call) -> Vec<(Role, &mut u32)> {
     match call {
         Call::Free | Call::Tag | Call::Streams | Call::AddGuest { .. } | Call::AddGuestAt { .. } => Vec::new(),
         Call::Moved { stream } | Call::TransmitIndex { stream } => vec![(Role::Stream, stream)],
-        Call::MemoryWrite { guest, .. } | Call::MemoryRead { guest, .. } | Call::MemoryAt { guest } | Call::MemoryGrown { guest, .. } | Call::MemoryMoved { guest, .. } | Call::NextHandle { guest, .. } | Call::HandleCount { guest } | Call::SetGuestLimits { guest, .. } | Call::GuestLimits { guest }
+        Call::MemoryWrite { guest, .. } | Call::MemoryRead { guest, .. } | Call::MemoryAt { guest } | Call::MemoryGrown { guest, .. } | Call::MemoryMoved { guest, .. } | Call::EndGuest { guest } | Call::BeginGuest { guest, .. } | Call::BeginGuestAt { guest, .. } | Call::NextHandle { guest, .. } | Call::HandleCount { guest } | Call::SetGuestLimits { guest, .. } | Call::GuestLimits { guest }
         | Call::New { guest, .. } | Call::SetNew { guest } | Call::ContextNew { guest, .. } => vec![(Role::Guest, guest)],
         Call::Operate { guest, handle, .. } | Call::FindBadItem { guest, handle, .. } | Call::Cancel { guest, handle, .. } | Call::Drop { guest, handle, .. }
         | Call::TakeEvent { guest, handle } | Call::HandleInfo { guest, handle } | Call::Lift { guest, handle, .. } | Call::SetPoll { guest, set: handle }

@@ -106,7 +106,9 @@ impl Search {
 // The sizes, addresses and counts of a call.
 fn amounts_of(call: &mut Call) -> Vec<&mut u32> {
     match call {
-        Call::AddGuest { size } | Call::MemoryGrown { more: size, .. } => vec![size],
+        Call::AddGuest { size } | Call::BeginGuest { size, .. } | Call::MemoryGrown { more: size, .. } => {
+            vec![size]
+        }
         Call::MemoryWrite { address, bytes, .. } => vec![address, &mut bytes.len],
         Call::MemoryRead { address, len, .. } | Call::ContextNew { address, len, .. } => vec![address, len],
         Call::Operate { address, count, .. } => vec![address, count],

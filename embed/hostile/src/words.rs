@@ -125,6 +125,7 @@ pub fn name_of(status: u32) -> String {
         sys::NO_BAD_ITEM => "NoBadItem".to_owned(),
         sys::NOT_LENT => "NotLent".to_owned(),
         sys::SHORTER => "Shorter".to_owned(),
+        sys::IN_USE => "InUse".to_owned(),
         number => match sys::REFUSALS.get(number as usize - 1) {
             Some(refusal) => format!("{refusal:?}"),
             None => return number.to_string(),

@@ -2,11 +2,14 @@
 //!
 //! `soak [--flat] streams N` makes, uses and drops N streams and futures in one store.
 //! `soak [--flat] server SECONDS` has a server with 500 open connections, one closed for another, for so long.
+//! `soak [--flat] guests N` has N guests of 256 KiB begin and end in one store, each with a stream to the next.
 //!
-//! With `--flat` the status is 1 where the process grew by more than 512 kB: behind the first thousand streams,
-//! or the first tenth of the time.
+//! With `--flat` the status is 1 where the process grew by more than 512 kB: behind the first thousand streams, the
+//! first tenth of the time, or the first tenth of the guests; or where a guest took more than twice the processor time
+//! in the end.
 
-mod resident;
+mod guests;
+mod process;
 mod server;
 mod streams;
 
@@ -17,21 +20,39 @@ use strm::Error;
 /// By how many kB a process may seem to grow that keeps nothing: pages of the allocator's and of its own.
 const MOST_GROWTH: u64 = 512;
 
+/// How many times as long a step may take in the end: what it does is the same, and a busy machine changes its time.
+const MOST_SLOWER: f64 = 2.0;
+
+/// What a run came to.
+struct Course {
+    /// By how many kB the process grew.
+    grown: u64,
+    /// How many times as long a step took in the end as at first; 1 where that is not asked.
+    slower: f64,
+}
+
+impl Course {
+    fn is_flat(&self) -> bool {
+        self.grown <= MOST_GROWTH && self.slower <= MOST_SLOWER
+    }
+}
+
 fn main() -> ExitCode {
     let mut words: Vec<String> = std::env::args().skip(1).collect();
     let is_flat = words.first().is_some_and(|word| word == "--flat");
     words.drain(..usize::from(is_flat));
     let number = words.get(1).and_then(|word| word.parse().ok());
-    let grown = match (words.first().map(String::as_str), number) {
+    let course = match (words.first().map(String::as_str), number) {
         (Some("streams"), Some(count)) => streams::run(count),
         (Some("server"), Some(seconds)) => server::run(Duration::from_secs(seconds)),
+        (Some("guests"), Some(count)) => guests::run(count),
         _ => {
-            eprintln!("usage: soak [--flat] streams N | soak [--flat] server SECONDS");
+            eprintln!("usage: soak [--flat] streams N | server SECONDS | guests N");
             return ExitCode::from(2);
         }
     };
-    match grown {
-        Ok(grown) if is_flat && grown > MOST_GROWTH => {
+    match course {
+        Ok(course) if is_flat && !course.is_flat() => {
             println!("it is not flat");
             ExitCode::FAILURE
         }

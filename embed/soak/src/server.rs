@@ -2,7 +2,8 @@
 //! them its client closes it and another is opened. The server waits by one waitable set, answers each request
 //! with its bytes in reverse, and is asked as fast as it can answer.
 
-use crate::resident::resident;
+use crate::process::resident;
+use crate::Course;
 use std::time::{Duration, Instant};
 use strm::{Code, Error, Guest, Handle, Limits, Pair, Payload, Store, Type, WaitableSet};
 
@@ -165,7 +166,7 @@ impl Server {
 }
 
 /// Runs it for so long: by how many kB the process grew behind the first tenth of the time.
-pub fn run(length: Duration) -> Result<u64, Error> {
+pub fn run(length: Duration) -> Result<Course, Error> {
     let mut server = Server::new()?;
     let (begun, mut figures) = (Instant::now(), Vec::new());
     println!("{CONNECTIONS} connections open, {} kB resident", resident());
@@ -179,5 +180,5 @@ pub fn run(length: Duration) -> Result<u64, Error> {
     }
     let Server { opened, answered, bytes, .. } = server;
     println!("{opened} connections made, {answered} requests answered, {bytes} bytes passed");
-    Ok(figures[figures.len() - 1].saturating_sub(figures[0]))
+    Ok(Course { grown: figures[figures.len() - 1].saturating_sub(figures[0]), slower: 1.0 })
 }

@@ -1,6 +1,7 @@
 //! Streams and futures, one after the other in one store, each of them used.
 
-use crate::resident::resident;
+use crate::process::resident;
+use crate::Course;
 use std::time::Instant;
 use strm::{Code, Error, Guest, Limits, Payload, Store, Type};
 
@@ -51,7 +52,7 @@ impl Guests {
 }
 
 /// Makes so many: by how many kB the process grew behind the first.
-pub fn run(count: u64) -> Result<u64, Error> {
+pub fn run(count: u64) -> Result<Course, Error> {
     let mut guests = Guests::new()?;
     let before = resident();
     let (mut behind_first, begun) = (before, Instant::now());
@@ -67,5 +68,5 @@ pub fn run(count: u64) -> Result<u64, Error> {
     let (end, each) = (resident(), begun.elapsed().as_nanos() as f64 / count as f64);
     println!("{count} streams and futures made, used and dropped, {each:.0} ns each");
     println!("resident: {before} kB before, {behind_first} kB behind the first {FIRST}, {end} kB at the end");
-    Ok(end.saturating_sub(behind_first))
+    Ok(Course { grown: end.saturating_sub(behind_first), slower: 1.0 })
 }

@@ -283,6 +283,9 @@ pub const NOT_LENT: u32 = 74;
 /// There are fewer bytes than the guest's memory has.
 pub const SHORTER: u32 = 75;
 
+/// The guest has bytes, handles, or a memory that was lent: it did not end, or began again.
+pub const IN_USE: u32 = 76;
+
 /// The handle is of an end of a stream or future.
 pub const KIND_END: u32 = 1;
 
@@ -339,8 +342,9 @@ unsafe extern "C" {
     pub fn strm_add_guest(store: *mut StoreHandle, size: u32, out: &mut u32) -> u32;
     /// Adds a guest whose memory is `len` bytes that the caller lends, from `bytes` on, and puts its number at
     /// `out`. They stay where they are, are touched only as the guest's memory is, and are not freed: they are the
-    /// caller's again once the store is given up, or at once where nothing is added. There is no limit on those of
-    /// all guests. Refused: MemoryTooBig (4,294,967,296 bytes or more), Full (1,048,576 guests). OUT_OF_MEMORY.
+    /// caller's again once the guest ended or the store is given up, or at once where nothing is added. There is no
+    /// limit on those of all guests. Refused: MemoryTooBig (4,294,967,296 bytes or more), Full (1,048,576 guests).
+    /// OUT_OF_MEMORY.
     pub fn strm_add_guest_at(store: *mut StoreHandle, bytes: *mut u8, len: usize, out: &mut u32) -> u32;
     /// Tells that a memory which the caller lent has `len` bytes more, from `more` on, which lie directly behind
     /// its end: it grew where it lies. Reads and writes that wait go on. Refused: UnknownGuest, MemoryTooBig
@@ -355,10 +359,25 @@ unsafe extern "C" {
     /// Copies `len` bytes of a guest's memory out, from `address` on. Refused: UnknownGuest, OutOfBounds.
     pub fn strm_memory_read(store: *mut StoreHandle, guest: u32, address: u32, out: *mut u8, len: usize) -> u32;
     /// Puts at `out` where a guest's memory lies, and at `len` how many bytes it has; of no bytes `out` is an
-    /// address that may not be read. The store's own lie there until the store is given up, from the beginning of a
-    /// block of malloc's on, at a multiple of 16; those that the caller lent until it tells that they moved. The
-    /// caller may read and write them between calls, and must not during one. Refused: UnknownGuest.
+    /// address that may not be read. The store's own lie there until the guest ends or the store is given up, from
+    /// the beginning of a block of malloc's on, at a multiple of 16; those that the caller lent until it tells that they
+    /// moved. The caller may read and write them between calls, and must not during one. Refused: UnknownGuest.
     pub fn strm_memory_at(store: *mut StoreHandle, guest: u32, out: &mut *mut u8, len: &mut usize) -> u32;
+    /// Ends a guest: each of its ends, by rising handle, is cancelled (what was moved stays moved) and dropped, and
+    /// whoever has the other end is told so by its event, the reader of a future that never gets its value too. Then its
+    /// waitable sets and error contexts go, and its memory: nobody may read or write there any more, and bytes that the
+    /// caller lent are the caller's again. The number stays a guest's that has nothing, until one begins under it; the
+    /// limits that were set of the number stay. Refused: UnknownGuest.
+    pub fn strm_end_guest(store: *mut StoreHandle, guest: u32) -> u32;
+    /// Begins a guest under the number of one that has nothing, as one that ended, with a memory of `size` zero bytes.
+    /// Refused: UnknownGuest, MemoryTooBig (268,435,456 bytes of all guests together, without those that were lent).
+    /// IN_USE, which comes between the two. OUT_OF_MEMORY.
+    pub fn strm_begin_guest(store: *mut StoreHandle, guest: u32, size: u32) -> u32;
+    /// Begins a guest under the number of one that has nothing, as one that ended, whose memory is `len` bytes that the
+    /// caller lends, from `bytes` on, as by strm_add_guest_at. They are the caller's again once the guest ended or the
+    /// store is given up, or at once where nothing begins. Refused: UnknownGuest, MemoryTooBig (4,294,967,296 bytes or
+    /// more). IN_USE, which comes between the two.
+    pub fn strm_begin_guest_at(store: *mut StoreHandle, guest: u32, bytes: *mut u8, len: usize) -> u32;
     /// Makes a stream whose two ends the guest gets, and puts their handles and the stream's number at `out`,
     /// which may be that of a stream both of whose ends are gone. `canon stream.new`. Refused: UnknownGuest,
     /// IndexOverflow, HandleLimit, Full. GUEST_LIMIT, OUT_OF_MEMORY, UNKNOWN_PAYLOAD.

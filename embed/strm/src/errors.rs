@@ -53,6 +53,9 @@ pub enum Error {
     NotLent,
     /// A memory would move to fewer bytes than it has. Nothing has changed.
     Shorter,
+    /// A guest was to begin under the number of one that has bytes, handles, or a memory of the host's: it has not
+    /// ended, or another has begun. Nothing has changed.
+    InUse,
     /// The two guests of a call are one, whose memory can't be lent twice. Nothing has changed.
     SameGuest,
     /// The other end is gone, and not all items were received, or no value came.
@@ -82,6 +85,7 @@ impl fmt::Display for Error {
             Error::GuestLimit => "the guest's limit would be passed",
             Error::NotLent => "the guest's memory is not the host's",
             Error::Shorter => "a memory would have fewer bytes",
+            Error::InUse => "the guest has not ended",
             Error::SameGuest => "the two guests are one",
             Error::Closed => "the other end is gone",
             Error::NoRoom => "there is no room for items in the guest's memory",
@@ -158,6 +162,7 @@ fn error(status: u32) -> Error {
         sys::GUEST_LIMIT => Error::GuestLimit,
         sys::NOT_LENT => Error::NotLent,
         sys::SHORTER => Error::Shorter,
+        sys::IN_USE => Error::InUse,
         number => Error::Refused(sys::REFUSALS[number as usize - 1]),
     }
 }

@@ -25,7 +25,7 @@ const PRIVATE_ZEROS_WITHOUT_RESERVE: c_int = 0x2 | 0x20 | 0x4000;
 
 /// Bytes that the host owns and lends to a guest, as [`Store::add_guest_with`](crate::Store::add_guest_with) has
 /// them: a boxed slice, or pages of the system's, of which none is there before it is touched. The store frees
-/// them when it is dropped.
+/// them when the guest ends, or it is dropped.
 ///
 /// ```
 /// use strm::Memory;

@@ -33,7 +33,8 @@ macro_rules! number {
 number!(
     Guest,
     "guest",
-    /// A guest of a store: they count from 0 in the order of their making.
+    /// A guest of a store: they count from 0 in the order of their making, and the number of one that has ended may be
+    /// the next one's.
     ///
     /// ```
     /// use strm::{Guest, Limits, Store};

@@ -7,7 +7,7 @@ use crate::ends::{End, EndError, Kind, ReadFuture, ReadStream, WriteFuture, Writ
 use crate::rooms::{Room, room_len};
 use crate::store::Named;
 use crate::waits::Place;
-use crate::{Code, EndInfo, Error, Guest, Item, Share, Side, StreamId};
+use crate::{Code, EndInfo, Error, Guest, Item, Share, Side, Store, StreamId};
 use alloc::vec::Vec;
 use core::fmt;
 use core::future::poll_fn;
@@ -28,6 +28,9 @@ pub use streams::stream;
 ///   [`Store::end_guest`](crate::Store::end_guest).
 /// - A call whose future is dropped is cancelled. What moved before stays moved: items that were received then are
 ///   handed out next, and [`Owned::given_up`] has the code.
+/// - Once its guest has ended, by [`Store::end_guest`](crate::Store::end_guest), its calls are refused with
+///   `UnknownHandle`, those that wait too, and dropping it does nothing; so too where another guest has begun under
+///   the number.
 /// - Whole items, as `recv` and `send` have them, lie in a room of the end's own in its guest's memory meanwhile: see
 ///   [`Store::add_room`](crate::Store::add_room). Without it `read` and `write` name addresses of the guest.
 ///
@@ -36,6 +39,8 @@ pub use streams::stream;
 pub struct Owned<K: Kind, T: Item, S: Share> {
     store: S,
     end: End<K, T>,
+    // How many guests had the number of its guest before that.
+    life: u64,
     stream: StreamId,
     room: Room,
     // The most items that lie in the room, and those that do: received and not handed out, or not sent yet.
@@ -116,13 +121,14 @@ impl<K: Kind, T: Item, S: Share> Owned<K, T, S> {
                 .checked_add(more)
                 .and_then(|count| room_len(T::SIZE, count));
             let room = store.take_room(end.guest(), len.ok_or(Error::NoRoom)?)?;
-            Ok((stream, room))
+            Ok((stream, room, store.life(end.guest())))
         });
         match made {
             Err(why) => Err(EndError::new(end, why)),
-            Ok((stream, room)) => Ok(Owned {
+            Ok((stream, room, life)) => Ok(Owned {
                 store: store.clone(),
                 end,
+                life,
                 stream,
                 room,
                 capacity,
@@ -141,6 +147,12 @@ impl<K: Kind, T: Item, S: Share> Owned<K, T, S> {
 
     fn place(&self) -> Place {
         (self.stream, K::SIDE)
+    }
+
+    // Calls on the end, and in its guest's memory, which are refused once the guest has ended.
+    fn with<R>(&self, calls: impl FnOnce(&mut Store) -> Result<R, Error>) -> Result<R, Error> {
+        let (guest, life) = (self.guest(), self.life);
+        self.store.with(|store| store.in_life(guest, life, calls))
     }
 
     // Where the item of this index lies.
@@ -208,7 +220,7 @@ impl<K: Kind, T: Item, S: Share> Owned<K, T, S> {
     /// # Ok::<(), strm::Error>(())
     /// ```
     pub fn info(&self) -> Result<EndInfo, Error> {
-        self.store.with(|store| self.end.info(store))
+        self.with(|store| self.end.info(store))
     }
 
     /// Whether it was told that the other end is gone.
@@ -261,7 +273,10 @@ impl<K: Kind, T: Item, S: Share> Owned<K, T, S> {
     pub fn into_end(mut self) -> End<K, T> {
         self.give_up();
         self.is_owner = false;
-        self.store.with(|store| store.give_room(self.room));
+        let _ = self.with(|store| {
+            store.give_room(self.room);
+            Ok(())
+        });
         End::from_raw(self.end.guest(), self.end.handle())
     }
 
@@ -285,8 +300,12 @@ impl<K: Kind, T: Item, S: Share> Owned<K, T, S> {
     pub fn transfer(&mut self, to: Guest) -> Result<(), Error> {
         self.give_up();
         let (named, room) = (self.named(), self.room);
-        let (named, room) = self.store.with(|store| store.move_end(named, room, to))?;
+        let (named, room, life) = self.with(|store| {
+            let (named, room) = store.move_end(named, room, to)?;
+            Ok((named, room, store.life(to)))
+        })?;
         self.end = End::from_raw(named.guest, named.handle);
+        self.life = life;
         self.room = room;
         Ok(())
     }
@@ -295,8 +314,8 @@ impl<K: Kind, T: Item, S: Share> Owned<K, T, S> {
     ///
     /// # Errors
     ///
-    /// Refused where another took the end away, or it can't write its last value. [`Error::BadItem`] where another wrote
-    /// over that value.
+    /// Refused where another took the end away, its guest has ended, or it can't write its last value.
+    /// [`Error::BadItem`] where another wrote over that value.
     ///
     /// ```
     /// # let (store, a, b) = strm::example_shared()?;
@@ -315,18 +334,18 @@ impl<K: Kind, T: Item, S: Share> Owned<K, T, S> {
         let is_value_sender = K::IS_FUTURE && K::SIDE == Side::Writing;
         let last = is_value_sender.then(|| self.address(self.capacity));
         let (named, place, room) = (self.named(), self.place(), self.room);
-        self.store.with(|store| store.release(named, place, room, last))
+        self.with(|store| store.release(named, place, room, last))
     }
 
     // Cancels what is under way, if anything is.
     fn give_up(&mut self) {
         let Some(call) = self.under_way.take() else { return };
         let (named, place) = (self.named(), self.place());
-        let code = self.store.with(|store| {
+        let code = self.with(|store| {
             store.unwait(place);
-            call.region().map(|_| store.cancel(named))
+            call.region().map(|_| store.cancel(named)).transpose()
         });
-        let Some(Ok(code)) = code else { return };
+        let Ok(Some(code)) = code else { return };
         self.given_up = Some(code);
         self.note(code);
         self.held = match call {
@@ -347,9 +366,7 @@ impl<K: Kind, T: Item, S: Share> Owned<K, T, S> {
         }
         let begin = call.region().filter(|_| self.under_way.is_none());
         let (named, place) = (self.named(), self.place());
-        let told = self
-            .store
-            .with(|store| store.poll_end(named, place, begin, cx.waker()));
+        let told = self.with(|store| store.poll_end(named, place, begin, cx.waker()));
         self.under_way = matches!(told, Ok(None)).then_some(call);
         match told.transpose() {
             None => Poll::Pending,
@@ -367,7 +384,7 @@ impl<K: Kind, T: Item, S: Share> Owned<K, T, S> {
         let count = self.held.len().min(limit) as u32;
         let (guest, address) = (self.guest(), self.address(self.held.start));
         self.held.start += count;
-        self.store.with(|store| store.get_items(guest, address, count))
+        self.with(|store| store.get_items(guest, address, count))
     }
 
     // Takes the next item that was received, if one was.
@@ -403,8 +420,7 @@ impl<K: Kind, T: Item, S: Share> Owned<K, T, S> {
         }
         let count = items.len().min(self.capacity as usize);
         let (guest, address) = (self.guest(), self.room.address);
-        self.store
-            .with(|store| store.put_items(guest, address, &items[..count]))?;
+        self.with(|store| store.put_items(guest, address, &items[..count]))?;
         self.held = 0..count as u32;
         Ok(count)
     }

@@ -12,6 +12,8 @@ pub struct SetWait<S: Share> {
     store: S,
     guest: Guest,
     set: WaitableSet,
+    // How many guests had the number before the one whose set it waits for, once it was polled.
+    life: Option<u64>,
     // Under which it is kept while it waits.
     key: Option<u64>,
 }
@@ -21,6 +23,7 @@ pub struct SetWait<S: Share> {
 ///
 /// Its task is woken when an end of the guest gets something to be told, or an end joins a set of the guest or a set
 /// is dropped, and asks the set again; any number of tasks may wait. Where the future is dropped nothing was taken.
+/// Where the guest ends meanwhile it is refused with `UnknownHandle`, also where another has begun under its number.
 ///
 /// [`Store::set_poll`]: crate::Store::set_poll
 ///
@@ -52,6 +55,7 @@ pub fn set_wait<S: Share>(store: &S, guest: Guest, set: WaitableSet) -> SetWait<
         store: store.clone(),
         guest,
         set,
+        life: None,
         key: None,
     }
 }
@@ -64,10 +68,11 @@ impl<S: Share> Future for SetWait<S> {
 
     fn poll(self: Pin<&mut Self>, cx: &mut Context<'_>) -> Poll<Result<Member, Error>> {
         let this = self.get_mut();
-        let (guest, set, key) = (this.guest, this.set, &mut this.key);
-        let told = this
-            .store
-            .with(|store| store.poll_set(guest, set, key, cx.waker()));
+        let (guest, set, life, key) = (this.guest, this.set, &mut this.life, &mut this.key);
+        let told = this.store.with(|store| {
+            let life = *life.get_or_insert_with(|| store.life(guest));
+            store.in_life(guest, life, |store| store.poll_set(guest, set, key, cx.waker()))
+        });
         match told.transpose() {
             None => Poll::Pending,
             Some(answer) => Poll::Ready(answer),

@@ -5,6 +5,7 @@ mod ends;
 mod futures;
 mod items;
 mod limits;
+mod lives;
 mod memories;
 mod moves;
 mod polling;
@@ -74,6 +75,8 @@ pub struct Store {
     pub(crate) rooms: BTreeMap<Guest, Rooms>,
     // The memories that the store was given: they are dropped after `raw` gave them up.
     memories: BTreeMap<Guest, Memory>,
+    // How many guests of a number have ended, where some have.
+    ended: BTreeMap<Guest, u64>,
 }
 
 // The archive's store. `UnsafeCell` keeps it from being shared.
@@ -130,6 +133,7 @@ impl Store {
             waits: Waits::default(),
             rooms: BTreeMap::new(),
             memories: BTreeMap::new(),
+            ended: BTreeMap::new(),
         })
     }
 

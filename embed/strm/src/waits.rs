@@ -107,6 +107,13 @@ impl Waits {
         last
     }
 
+    /// The end is gone with its guest: a task that waits is woken to learn that, and a last value goes.
+    pub fn end(&mut self, place: Place) {
+        if let Some(Waiter::Task(waker)) = self.waiters.remove(&place) {
+            self.released.woken.extend(waker);
+        }
+    }
+
     /// A task waits for a set of a guest, under a key that it gets where it has none.
     pub fn keep_set(&mut self, guest: Guest, key: &mut Option<u64>, waker: &Waker) {
         let key = *key.get_or_insert_with(|| {

@@ -102,7 +102,7 @@ fn a_bad_item_stops_the_calls_that_meet_it_alone() {
     assert_eq!(ready(recv), Ok(Some('x')));
     assert_eq!(ready(receiver.recv()), Err(Error::BadItem(item)));
     // Once the writer is ended, the reader is told so.
-    assert_eq!(store.with(|store| store.end_guest(item.guest)), Ok(0));
+    assert_eq!(store.with(|store| store.end_guest(item.guest)), Ok(()));
     assert_eq!(ready(receiver.recv()), Ok(None));
 }
 

@@ -81,7 +81,15 @@ fn by_a_guest_that_ends() {
     let (world, (_, reader)) = world();
     world.join(&reader);
     world.is_woken_by(Ok((reader.handle(), Code::Dropped(0))), |world| {
-        assert_eq!(world.store.with(|store| store.end_guest(world.writer)), Ok(0));
+        assert_eq!(world.store.with(|store| store.end_guest(world.writer)), Ok(()));
+    });
+}
+
+#[test]
+fn by_its_own_guest_that_ends() {
+    let (world, _) = world();
+    world.is_woken_by(Err(Error::Refused(Refusal::UnknownHandle)), |world| {
+        assert_eq!(world.store.with(|store| store.end_guest(world.reader)), Ok(()));
     });
 }
 

@@ -67,7 +67,7 @@ fn by_an_end_that_moved() {
 #[test]
 fn by_a_guest_that_ends() {
     is_woken_by(Ok(None), |store, [writer, ..], sender| {
-        assert_eq!(store.with(|store| store.end_guest(writer)), Ok(0));
+        assert_eq!(store.with(|store| store.end_guest(writer)), Ok(()));
         // The sender finds its end gone, and says nothing.
         assert_eq!(sender.close(), Err(Error::Refused(Refusal::UnknownHandle)));
     });
@@ -76,9 +76,9 @@ fn by_a_guest_that_ends() {
 #[test]
 fn by_a_guest_that_ends_with_the_end_that_waits() {
     is_woken_by(
-        Err(Error::Refused(Refusal::NoPending)),
+        Err(Error::Refused(Refusal::UnknownHandle)),
         |store, [_, reader, _], sender| {
-            assert_eq!(store.with(|store| store.end_guest(reader)), Ok(0));
+            assert_eq!(store.with(|store| store.end_guest(reader)), Ok(()));
             assert_eq!(sender.info().unwrap().event, Some(Code::Dropped(0)));
         },
     );
@@ -100,7 +100,7 @@ fn by_the_end_of_a_guest_that_writes_a_bad_item() {
                 index: 0,
             };
             assert_eq!(code, Err(Error::BadItem(item)));
-            assert_eq!(store.end_guest(item.guest), Ok(0));
+            assert_eq!(store.end_guest(item.guest), Ok(()));
         });
     });
 }

@@ -113,53 +113,46 @@ pub extern "C" fn new_between(
     put(answer, out)
 }
 
-macro_rules! operations {
-    ($(#[$doc:meta])* $name:ident, $side:expr, $ty:expr, $($count:ident)?) => {
-        $(#[$doc])*
+// A call on the end that a guest has of a type, by the word of its payload and its handle, with so many words more.
+macro_rules! on_end {
+    (
+        $name:ident($store:ident, $guest:ident, $ty:ident: $of:expr, $end:ident $(, $word:ident)*)
+        => $put:ident($call:expr)
+    ) => {
         #[inline(never)]
         pub extern "C" fn $name(
             store: &mut StoreHandle,
-            guest: u32,
+            $guest: u32,
             payload: u64,
-            handle: u32,
-            address: u32,
-            $($count: u32,)?
+            $end: u32,
+            $($word: u32,)*
             out: &mut u32,
         ) -> u32 {
-            let count = [$($count,)? 1][0];
-            let answer = with_payload(store, payload)
-                .and_then(|(store, payload)| store.operate($side, guest, $ty(payload), handle, address, count));
-            code(answer, out)
+            let answer = with_payload(store, payload).and_then(|($store, payload)| {
+                let $ty = $of(payload);
+                $call
+            });
+            $put(answer, out)
         }
     };
 }
 
-operations!(stream_write, Side::Writing, Type::stream, count);
-operations!(stream_read, Side::Reading, Type::stream, count);
-operations!(future_write, Side::Writing, Type::future,);
-operations!(future_read, Side::Reading, Type::future,);
+on_end!(stream_write(store, guest, ty: Type::stream, end, address, count)
+    => code(store.operate(Side::Writing, guest, ty, end, address, count)));
+on_end!(stream_read(store, guest, ty: Type::stream, end, address, count)
+    => code(store.operate(Side::Reading, guest, ty, end, address, count)));
+on_end!(future_write(store, guest, ty: Type::future, end, address)
+    => code(store.operate(Side::Writing, guest, ty, end, address, 1)));
+on_end!(future_read(store, guest, ty: Type::future, end, address)
+    => code(store.operate(Side::Reading, guest, ty, end, address, 1)));
 
-macro_rules! cancels {
-    ($name:ident, $side:expr, $ty:expr) => {
-        #[inline(never)]
-        pub extern "C" fn $name(
-            store: &mut StoreHandle,
-            guest: u32,
-            payload: u64,
-            handle: u32,
-            out: &mut u32,
-        ) -> u32 {
-            let answer = with_payload(store, payload)
-                .and_then(|(store, payload)| store.cancel($side, guest, $ty(payload), handle));
-            code(answer, out)
-        }
-    };
-}
+on_end!(stream_cancel_write(store, guest, ty: Type::stream, end) => code(store.cancel(Side::Writing, guest, ty, end)));
+on_end!(stream_cancel_read(store, guest, ty: Type::stream, end) => code(store.cancel(Side::Reading, guest, ty, end)));
+on_end!(future_cancel_write(store, guest, ty: Type::future, end) => code(store.cancel(Side::Writing, guest, ty, end)));
+on_end!(future_cancel_read(store, guest, ty: Type::future, end) => code(store.cancel(Side::Reading, guest, ty, end)));
 
-cancels!(stream_cancel_write, Side::Writing, Type::stream);
-cancels!(stream_cancel_read, Side::Reading, Type::stream);
-cancels!(future_cancel_write, Side::Writing, Type::future);
-cancels!(future_cancel_read, Side::Reading, Type::future);
+on_end!(stream_transfer(store, guest, ty: Type::stream, end, to) => put(store.transfer(guest, ty, end, to)));
+on_end!(future_transfer(store, guest, ty: Type::future, end, to) => put(store.transfer(guest, ty, end, to)));
 
 macro_rules! drops {
     ($name:ident, $side:expr, $ty:expr) => {
@@ -182,27 +175,6 @@ pub extern "C" fn take_event(handle: &mut StoreHandle, guest: u32, end: u32, out
     let answer = store(handle).and_then(|store| store.take_event(guest, end));
     put(answer.map(|told| told.map_or(NO_EVENT, Code::word)), out)
 }
-
-macro_rules! transfers {
-    ($name:ident, $ty:expr) => {
-        #[inline(never)]
-        pub extern "C" fn $name(
-            store: &mut StoreHandle,
-            guest: u32,
-            payload: u64,
-            handle: u32,
-            to: u32,
-            out: &mut u32,
-        ) -> u32 {
-            let answer = with_payload(store, payload)
-                .and_then(|(store, payload)| store.transfer(guest, $ty(payload), handle, to));
-            put(answer, out)
-        }
-    };
-}
-
-transfers!(stream_transfer, Type::stream);
-transfers!(future_transfer, Type::future);
 
 #[inline(never)]
 pub extern "C" fn lift(handle: &mut StoreHandle, guest: u32, ty: u64, end: u32, out: &mut u32) -> u32 {

@@ -68,7 +68,7 @@ impl<T: Item, S: Share> Owned<WriteFuture, T, S> {
     pub fn new(store: &S, end: FutureWriter<T>, last: T) -> Result<Self, EndError<WriteFuture, T>> {
         let owned = Owned::own(store, end, 1, 1)?;
         let (guest, address) = (owned.guest(), owned.address(1));
-        match store.with(|store| store.put_items(guest, address, &[last])) {
+        match owned.with(|store| store.put_items(guest, address, &[last])) {
             Ok(()) => Ok(owned),
             Err(why) => Err(EndError::new(owned.into_end(), why)),
         }
@@ -148,7 +148,7 @@ impl<T: Item, S: Share> Owned<ReadFuture, T, S> {
     ///
     /// # Errors
     ///
-    /// [`Error::Closed`] where the write end is gone without one. Those of
+    /// [`Error::Closed`] where the write end is gone without one, as where its guest has ended. Those of
     /// [`Store::future_read`](crate::Store::future_read), as where it was received before.
     ///
     /// ```

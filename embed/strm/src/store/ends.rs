@@ -1,7 +1,6 @@
 //! The calls on an end by its type and side, and all the ends of a guest.
 
-use crate::{Code, Error, Guest, Handle, HandleInfo, Refusal, Side, Store, Type};
-use crate::{ErrorContext, WaitableSet};
+use crate::{Code, Error, Guest, Handle, Refusal, Side, Store, Type};
 
 /// An end, as the calls name it.
 #[derive(Clone, Copy, Debug, PartialEq, Eq, Hash)]
@@ -84,56 +83,5 @@ impl Store {
             }
             answer => answer,
         }
-    }
-
-    /// Gives up all that a guest has, as where it trapped or writes a bad item: what its ends have under way is
-    /// cancelled, and ends, sets and error contexts are dropped. Whoever has the other ends is told so. Answers how
-    /// many handles stay: the write ends of futures that owe their readers a value, which the runtime writes in the
-    /// guest's place.
-    ///
-    /// # Errors
-    ///
-    /// Refused: `UnknownGuest`.
-    ///
-    /// ```
-    /// # use strm::{Code, Payload};
-    /// # let (mut store, writer, reader, pair) = strm::example()?;
-    /// let _ = store.stream_write(writer, Payload::U8, pair.write, 0, 3)?;
-    /// assert_eq!(store.end_guest(writer)?, 0);
-    /// assert_eq!(store.take_event(reader, pair.read)?, Some(Code::Dropped(0)));
-    /// # Ok::<(), strm::Error>(())
-    /// ```
-    pub fn end_guest(&mut self, guest: Guest) -> Result<u32, Error> {
-        self.each_handle(guest, |store, handle, is| match is {
-            HandleInfo::End(end) => store.give_up(Named {
-                guest,
-                handle,
-                ty: end.ty,
-                side: end.side,
-            }),
-            _ => Ok(()),
-        })?;
-        self.each_handle(guest, |store, handle, is| match is {
-            HandleInfo::WaitableSet => store.set_drop(guest, WaitableSet(handle.0)),
-            HandleInfo::ErrorContext => store.error_context_drop(guest, ErrorContext(handle.0)),
-            _ => Ok(()),
-        })?;
-        self.handle_count(guest)
-    }
-
-    // A call for each handle of a guest; one that is refused leaves its handle as it was.
-    fn each_handle(
-        &mut self,
-        guest: Guest,
-        call: impl Fn(&mut Store, Handle, HandleInfo) -> Result<(), Error>,
-    ) -> Result<(), Error> {
-        let mut after = Handle(0);
-        while let Some((handle, is)) = self.next_handle(guest, after)? {
-            match call(self, handle, is) {
-                Ok(()) | Err(Error::Refused(_)) => after = handle,
-                Err(error) => return Err(error),
-            }
-        }
-        Ok(())
     }
 }

@@ -102,8 +102,8 @@ impl Store {
     ///
     /// # Safety
     ///
-    /// From this call on until the store is dropped, or told by [`Store::memory_moved`] that they moved, the
-    /// bytes may be read and written, and stay where they are; no other guest's memory has one of them; and
+    /// From this call on until the guest has ended, the store is dropped, or told by [`Store::memory_moved`] that they
+    /// moved, the bytes may be read and written, and stay where they are; no other guest's memory has one of them; and
     /// nobody else reads or writes them while a call is made, or while the memory is borrowed of the store.
     pub unsafe fn add_guest_at(&mut self, bytes: NonNull<u8>, len: usize) -> Result<Guest, Error> {
         // SAFETY: above, and the caller's.
@@ -175,8 +175,8 @@ impl Store {
     pub fn memory(&self, guest: Guest) -> Result<&[u8], Error> {
         let (at, len) = self.place(guest)?;
         // SAFETY: the bytes are the guest's, in one block that stays where it is until the store is given up
-        // or, by `&mut self`, it moves, and calls by `&self` write none of them; none have an address that is
-        // not null.
+        // or, by `&mut self`, it moves or its guest ends, and calls by `&self` write none of them; none have an
+        // address that is not null.
         Ok(unsafe { core::slice::from_raw_parts(at, len) })
     }
 
@@ -194,8 +194,9 @@ impl Store {
     /// ```
     pub fn memory_mut(&mut self, guest: Guest) -> Result<&mut [u8], Error> {
         let (at, len) = self.place(guest)?;
-        // SAFETY: the bytes are the guest's, in one block that stays where it is until the store is given up
-        // or it moves, and `&mut self` leaves them to this borrow; none have an address that is not null.
+        // SAFETY: the bytes are the guest's, in one block that stays where it is until the store is given up,
+        // it moves or its guest ends, and `&mut self` leaves them to this borrow; none have an address that is
+        // not null.
         Ok(unsafe { core::slice::from_raw_parts_mut(at, len) })
     }
 
@@ -220,7 +221,8 @@ impl Store {
             return Err(Error::SameGuest);
         }
         // SAFETY: the bytes are two guests', each in a block of its own that stays where it is until the store is
-        // given up or it moves, and `&mut self` leaves them to these borrows; none have an address that is not null.
+        // given up, it moves or its guest ends, and `&mut self` leaves them to these borrows; none have an address
+        // that is not null.
         Ok(unsafe {
             (
                 core::slice::from_raw_parts_mut(a_at, a_len),
@@ -229,9 +231,9 @@ impl Store {
         })
     }
 
-    /// Where a guest's memory lies, and how many bytes it has: the same until the store is dropped, or the memory
-    /// grows; of no bytes a dangling address. It is for a runtime whose guests use their memory in place. A write there
-    /// while a call is made, or while the memory is borrowed, is undefined.
+    /// Where a guest's memory lies, and how many bytes it has: the same until the guest ends, the store is dropped, or
+    /// the memory grows; of no bytes a dangling address. It is for a runtime whose guests use their memory in place. A
+    /// write there while a call is made, or while the memory is borrowed, is undefined.
     ///
     /// # Errors
     ///

@@ -3,10 +3,11 @@
 //! An end gets something to be told by a call on the other end alone. So after each such call the store is asked who
 //! has the other end, and whether that is to be told something now: then the task that waits there is woken, and those
 //! that wait for a set of its guest. Where no task waits, nothing is asked, nor where the call was refused, since that
-//! changes nothing.
+//! changes nothing. A guest that ends is such a call on each of its ends.
 
 use crate::waits::{LastValue, Place, Released};
 use crate::{EndInfo, Error, Guest, Handle, HandleInfo, OtherEnd, Side, Store, StreamId};
+use alloc::vec::Vec;
 
 impl Store {
     // What of an end has to be asked before its handle goes.
@@ -52,6 +53,32 @@ impl Store {
             self.tell(end, true);
         }
         answer
+    }
+
+    // What of the ends of a guest has to be asked before it ends.
+    pub(crate) fn waited_ends(&self, guest: Guest) -> Vec<EndInfo> {
+        let mut ends = Vec::new();
+        if self.waits.is_empty() {
+            return ends;
+        }
+        let mut after = Handle(0);
+        while let Ok(Some((handle, info))) = self.next_handle(guest, after) {
+            if let HandleInfo::End(end) = info {
+                ends.push(end);
+            }
+            after = handle;
+        }
+        ends
+    }
+
+    // A guest ended, which had these ends: who waits at them or at the others is told, and who waits for its sets.
+    pub(crate) fn ended_with(&mut self, guest: Guest, ends: Vec<EndInfo>) {
+        for end in ends {
+            self.waits.end((end.stream, end.side));
+            self.tell_other(end);
+        }
+        self.waits.ready_sets(guest);
+        self.waits.flush();
     }
 
     // The loose read end of a stream was closed: the write end is to be told so.
