@@ -17,7 +17,7 @@ fn push_numbered(out: &mut TextBytes, word: &[u8], number: u32) -> Result<(), Ou
 }
 
 /// Adds the name of a lane.
-pub fn push_lane(out: &mut TextBytes, lane: Lane) -> Result<(), OutOfMemory> {
+pub(crate) fn push_lane(out: &mut TextBytes, lane: Lane) -> Result<(), OutOfMemory> {
     match lane {
         Lane::Guest(number) => push_numbered(out, b"guest ", number),
         Lane::Writer(number) => push_numbered(out, b"host writer ", number),
@@ -80,7 +80,7 @@ fn push_count(out: &mut TextBytes, deed: Deed, count: u32) -> Result<(), OutOfMe
 }
 
 /// Adds what a step does.
-pub fn push_label(out: &mut TextBytes, mark: &Mark) -> Result<(), OutOfMemory> {
+pub(crate) fn push_label(out: &mut TextBytes, mark: &Mark) -> Result<(), OutOfMemory> {
     out.push_slice(word_of_deed(mark.deed))?;
     if let Some(count) = mark.count {
         push_count(out, mark.deed, count)?;
@@ -110,7 +110,7 @@ fn push_answered(out: &mut TextBytes, deed: Deed, number: u32) -> Result<(), Out
 }
 
 /// Adds what was answered.
-pub fn push_said(out: &mut TextBytes, mark: &Mark) -> Result<(), OutOfMemory> {
+pub(crate) fn push_said(out: &mut TextBytes, mark: &Mark) -> Result<(), OutOfMemory> {
     match mark.said {
         Said::Done => Ok(()),
         Said::Number(number) => push_answered(out, mark.deed, number),
@@ -142,7 +142,7 @@ fn push_host_end(out: &mut TextBytes, end: HostEnd) -> Result<(), OutOfMemory> {
 }
 
 /// Adds why a run stopped.
-pub fn push_stop(out: &mut TextBytes, stop: Stop) -> Result<(), OutOfMemory> {
+pub(crate) fn push_stop(out: &mut TextBytes, stop: Stop) -> Result<(), OutOfMemory> {
     match stop {
         Stop::HostFailed { end } => {
             out.push_slice(b"host-failed ")?;

@@ -163,42 +163,7 @@ fn look(alloc: Global, store: &Store, step: &Step) -> Result<Seen, OutOfMemory>
     })
 }
 
-// Does a step of which so much was seen before, and draws it.
-fn do_step<H: HostEnds>(
-    store: &mut Store,
-    hosts: &mut H,
-    sketch: &mut Sketch,
-    seen: &Seen,
-    step: &Step,
-) -> Result<(), RunCause>
-    requires running { store.old.trapped ≡ false }
-    requires fits { Fits store.old (H.tells hosts.old) }
-    requires folding { IsFolding sketch.old.rows }
-    requires seen { WasSeen store.old step.now seen.now }
-    requires within { seen.now.span.first + seen.now.span.count ≤ 4294967296 }
-    requires all { length seen.now.before ≡ seen.now.span.count }
-    ensures drawn { OnOk result (IsStepDrawn step.now store.old store.new
-        (H.tells hosts.old) (H.tells hosts.new) (rows_kept sketch.old.rows)
-        (rows_kept sketch.new.rows) sketch.old.holders sketch.new.holders) }
-    ensures stopped { IfErr result (λ cause. IsStopDrawn step.now store.old store.new
-        (H.tells hosts.old) (H.tells hosts.new) cause (rows_kept sketch.old.rows)
-        (rows_kept sketch.new.rows)) }
-    ensures running { OnOk result (store.new.trapped ≡ false) }
-    ensures fits { OnOk result (Fits store.new (H.tells hosts.new)) }
-    ensures folding { OnOk result (IsFolding sketch.new.rows) }
-    ensures still { IfErr result (λ cause. (stop : Stop) → stop_of cause ≡ Some stop →
-        IsFolding sketch.new.rows) }
-{
-    match apply(store, hosts, step) {
-        Ok(reply) => match keep_step(sketch, store, seen, step, &reply) {
-            Ok(()) => Ok(()),
-            Err(_) => Err(RunCause::OutOfMemory),
-        },
-        Err(error) => Err(cause_of(error)),
-    }
-}
-
-// Does a step, and draws it.
+// Does a step, and draws it by what was seen before it.
 fn draw_step<H: HostEnds>(
     alloc: Global,
     store: &mut Store,
@@ -221,9 +186,15 @@ fn draw_step<H: HostEnds>(
     ensures still { IfErr result (λ cause. (stop : Stop) → stop_of cause ≡ Some stop →
         IsFolding sketch.new.rows) }
 {
-    match look(alloc, store, step) {
-        Ok(seen) => do_step(store, hosts, sketch, &seen, step),
-        Err(_) => Err(RunCause::OutOfMemory),
+    let Ok(seen) = look(alloc, store, step) else {
+        return Err(RunCause::OutOfMemory);
+    };
+    match apply(store, hosts, step) {
+        Ok(reply) => match keep_step(sketch, store, &seen, step, &reply) {
+            Ok(()) => Ok(()),
+            Err(_) => Err(RunCause::OutOfMemory),
+        },
+        Err(error) => Err(cause_of(error)),
     }
 }
 

@@ -4,6 +4,7 @@
 
 ghost use Rattle.std.specs.Prelude.{◌≡◌, ◌⊎◌, ℕ, [], Some, IfOk};
 ghost use Rattle.strm_input_output.specs.Serving.{ReadsWithin, Writes, port};
+ghost use Rattle.strm_lines.specs.Text.{bad_line_text};
 ghost use Rattle.strm_session.specs.Serving.{IsRunStatus, IsStopStatus};
 ghost use Rattle.strm_drawing.specs.Serving.{IsDrawnRun, IsDrawStatus, IsOfDrawing};
 
@@ -77,15 +78,15 @@ fn answer_source<S: Source, H: HostEnds>(
     ensures read { ReadsWithin MAX_BYTES (S.left source.old) (S.left source.new) }
 {
     match read_all(alloc, source) {
-        Ok(input) => answer_input(alloc, input.as_slice(), hosts),
+        Ok(input) => answer_lines(alloc, input.as_slice(), hosts),
         Err(InputError::TooLong) => Answer::too_long(alloc),
         Err(InputError::Fault) => Answer::read_fault(alloc),
         Err(InputError::OutOfMemory) => Err(OutOfMemory),
     }
 }
 
-// What is to be written for an input that was read.
-fn answer_input<H: HostEnds>(
+// What is to be written for the lines of an input that was read.
+fn answer_lines<H: HostEnds>(
     alloc: Global,
     input: &[u8],
     hosts: &mut H,
@@ -98,15 +99,20 @@ fn answer_input<H: HostEnds>(
     match parse_onto(&mut steps, input) {
         Ok(()) => answer_steps(alloc, &mut steps.left(), hosts),
         Err(ParseError::TooLong) => Answer::too_long(alloc),
-        Err(ParseError::BadLine { line }) => {
-            let text = bad_line_text(alloc, line)?;
-            Ok(Answer {
-                status: BAD_LINE,
-                text,
-            })
-        }
+        Err(ParseError::BadLine { line }) => answer_bad_line(alloc, line),
         Err(ParseError::OutOfMemory) => Err(OutOfMemory),
     }
+}
+
+// What is to be written for a line that is not in the grammar.
+fn answer_bad_line(alloc: Global, line: u32) -> Result<Answer, OutOfMemory>
+    ensures { IfOk result (λ a. (a.status ≡ BAD_LINE) × (a.text ≡ bad_line_text line)) }
+{
+    let text = bad_line_text(alloc, line)?;
+    Ok(Answer {
+        status: BAD_LINE,
+        text,
+    })
 }
 
 // What is to be written for steps.
