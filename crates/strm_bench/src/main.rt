@@ -5,6 +5,7 @@
 #![tactic(auto)]
 
 mod copies;
+mod ends;
 mod hosted;
 mod lanes;
 mod piped;
@@ -23,9 +24,6 @@ use crate::taken::{BESIDE, DRIVES, Writing};
 use crate::words::Timed;
 use std::io;
 use std::time::Instant;
-use strm_buffers::hosts::Hosts;
-use strm_buffers::readers::HostReader;
-use strm_buffers::writers::HostWriter;
 use strm_codes::codes::TransmitKind;
 use strm_codes::counts::ItemCount;
 use strm_codes::payloads::Payload;
@@ -134,17 +132,7 @@ fn time_copies(
 fn time_feeds(rt: &HostRuntime, rounds: u32) -> io::Result<()> {
     let alloc = rt.alloc();
     let queue = QueueWriter::new(alloc, TransmitKind::Stream, BYTES);
-    let mut writers: Vec<Box<dyn HostWriter>> = Vec::new(alloc);
-    let Ok(writer) = Box::new(alloc, queue) else {
-        return eprintln!(rt; "no memory");
-    };
-    let Ok(()) = writers.push(writer) else {
-        return eprintln!(rt; "no memory");
-    };
-    let mut hosts = Hosts {
-        writers,
-        readers: Vec::new(alloc),
-    };
+    let mut hosts = ends::of_writer(alloc, Box::new(alloc, queue)?)?;
     match Reading::new(alloc, &hosts, FED) {
         Ok(mut reading) => time_fed(rt, &mut reading, &mut hosts, rounds),
         Err(error) => eprintln!(rt; "{error:?}"),
@@ -174,20 +162,8 @@ fn time_fed<H: HostEnds>(
 // A list of 64 MiB that a host writer gives, read in pieces of 64 KiB.
 fn time_list(rt: &HostRuntime) -> io::Result<()> {
     let alloc = rt.alloc();
-    let Ok(list) = hosted::list(alloc, LISTED) else {
-        return eprintln!(rt; "no memory");
-    };
-    let mut writers: Vec<Box<dyn HostWriter>> = Vec::new(alloc);
-    let Ok(writer) = Box::new(alloc, Erased::stream(alloc, list)) else {
-        return eprintln!(rt; "no memory");
-    };
-    let Ok(()) = writers.push(writer) else {
-        return eprintln!(rt; "no memory");
-    };
-    let mut hosts = Hosts {
-        writers,
-        readers: Vec::new(alloc),
-    };
+    let erased = Erased::stream(alloc, hosted::list(alloc, LISTED)?);
+    let mut hosts = ends::of_writer(alloc, Box::new(alloc, erased)?)?;
     match Reading::new(alloc, &hosts, LISTED) {
         Ok(mut reading) => time_listed(rt, &mut reading, &mut hosts),
         Err(error) => eprintln!(rt; "{error:?}"),
@@ -217,17 +193,7 @@ fn time_listed<H: HostEnds>(
 fn time_granting(rt: &HostRuntime, beside: u32, grants: Option<u32>) -> io::Result<()> {
     let alloc = rt.alloc();
     let credit = CreditReader::new(alloc, TransmitKind::Stream, BYTES);
-    let mut readers: Vec<Box<dyn HostReader>> = Vec::new(alloc);
-    let Ok(reader) = Box::new(alloc, credit) else {
-        return eprintln!(rt; "no memory");
-    };
-    let Ok(()) = readers.push(reader) else {
-        return eprintln!(rt; "no memory");
-    };
-    let mut hosts = Hosts {
-        writers: Vec::new(alloc),
-        readers,
-    };
+    let mut hosts = ends::of_reader(alloc, Box::new(alloc, credit)?)?;
     match Writing::new(alloc, &mut hosts, FED, beside) {
         Ok(mut writing) => match grants {
             Some(rounds) => time_granted(rt, &mut writing, &mut hosts, rounds),
@@ -260,20 +226,9 @@ fn time_granted<H: HostEnds>(
 // A list of 64 MiB that a consumer takes, written in pieces of 64 KiB.
 fn time_consumer(rt: &HostRuntime) -> io::Result<()> {
     let alloc = rt.alloc();
-    let Ok(bytes) = Vec::with_capacity(alloc, LISTED as usize) else {
-        return eprintln!(rt; "no memory");
-    };
-    let mut readers: Vec<Box<dyn HostReader>> = Vec::new(alloc);
-    let Ok(reader) = Box::new(alloc, ErasedReader::stream(alloc, Copying { bytes })) else {
-        return eprintln!(rt; "no memory");
-    };
-    let Ok(()) = readers.push(reader) else {
-        return eprintln!(rt; "no memory");
-    };
-    let mut hosts = Hosts {
-        writers: Vec::new(alloc),
-        readers,
-    };
+    let bytes = Vec::with_capacity(alloc, LISTED as usize)?;
+    let erased = ErasedReader::stream(alloc, Copying { bytes });
+    let mut hosts = ends::of_reader(alloc, Box::new(alloc, erased)?)?;
     match Writing::new(alloc, &mut hosts, LISTED, 0) {
         Ok(mut writing) => time_taken(rt, &mut writing, &mut hosts),
         Err(error) => eprintln!(rt; "{error:?}"),

@@ -2,14 +2,12 @@
 
 ghost use Rattle.strm_host_machine.specs.Does.{Fits};
 
+use crate::ends::of_both;
 use crate::hosted::{BYTES, LISTED, list};
 use crate::piped::{Piping, ROUNDS};
 use crate::tell_time;
 use std::io;
 use std::time::Instant;
-use strm_buffers::hosts::Hosts;
-use strm_buffers::readers::HostReader;
-use strm_buffers::writers::HostWriter;
 use strm_codes::codes::TransmitKind;
 use strm_host::erased::Erased;
 use strm_host::erased_readers::ErasedReader;
@@ -26,22 +24,10 @@ fn tell_passed(rt: &HostRuntime, name: &str, piping: &Piping) -> io::Result<()> 
 /// A list of 64 MiB that a host writer gives, piped to a consumer.
 pub(crate) fn time_list(rt: &HostRuntime) -> io::Result<()> {
     let alloc = rt.alloc();
-    let given = list(alloc, LISTED);
-    let bytes = Vec::with_capacity(alloc, LISTED as usize);
-    let (Ok(given), Ok(bytes)) = (given, bytes) else {
-        return eprintln!(rt; "no memory");
-    };
-    let writer = Box::new(alloc, Erased::stream(alloc, given));
-    let reader = Box::new(alloc, ErasedReader::stream(alloc, Copying { bytes }));
-    let (Ok(writer), Ok(reader)) = (writer, reader) else {
-        return eprintln!(rt; "no memory");
-    };
-    let mut writers: Vec<Box<dyn HostWriter>> = Vec::new(alloc);
-    let mut readers: Vec<Box<dyn HostReader>> = Vec::new(alloc);
-    let (Ok(()), Ok(())) = (writers.push(writer), readers.push(reader)) else {
-        return eprintln!(rt; "no memory");
-    };
-    let mut hosts = Hosts { writers, readers };
+    let writer = Erased::stream(alloc, list(alloc, LISTED)?);
+    let bytes = Vec::with_capacity(alloc, LISTED as usize)?;
+    let reader = ErasedReader::stream(alloc, Copying { bytes });
+    let mut hosts = of_both(alloc, Box::new(alloc, writer)?, Box::new(alloc, reader)?)?;
     match Piping::new(alloc, &mut hosts) {
         Ok(mut piping) => time_piped(rt, &mut piping, &mut hosts),
         Err(error) => eprintln!(rt; "{error:?}"),
@@ -67,15 +53,7 @@ pub(crate) fn time_rounds(rt: &HostRuntime) -> io::Result<()> {
     let alloc = rt.alloc();
     let queue = QueueWriter::new(alloc, TransmitKind::Stream, BYTES);
     let credit = CreditReader::new(alloc, TransmitKind::Stream, BYTES);
-    let (Ok(writer), Ok(reader)) = (Box::new(alloc, queue), Box::new(alloc, credit)) else {
-        return eprintln!(rt; "no memory");
-    };
-    let mut writers: Vec<Box<dyn HostWriter>> = Vec::new(alloc);
-    let mut readers: Vec<Box<dyn HostReader>> = Vec::new(alloc);
-    let (Ok(()), Ok(())) = (writers.push(writer), readers.push(reader)) else {
-        return eprintln!(rt; "no memory");
-    };
-    let mut hosts = Hosts { writers, readers };
+    let mut hosts = of_both(alloc, Box::new(alloc, queue)?, Box::new(alloc, credit)?)?;
     match Piping::new(alloc, &mut hosts) {
         Ok(mut piping) => time_fed(rt, &mut piping, &mut hosts),
         Err(error) => eprintln!(rt; "{error:?}"),

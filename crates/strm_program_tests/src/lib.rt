@@ -12,6 +12,8 @@ mod errors;
 #[cfg(test)]
 mod mux;
 #[cfg(test)]
+mod rows;
+#[cfg(test)]
 mod scripts;
 #[cfg(test)]
 mod session;

@@ -4,8 +4,11 @@ ghost use Rattle.strm_shared.specs.Causes.{IsOf};
 ghost use Rattle.strm_shared.specs.Tokens.{Same};
 
 use crate::histories::{ends_right, history, is_replayed};
-use crate::stores::{STREAM, calls, has_moved, is_right, read, with_guests, with_streams, write};
-use crate::teams::{Job, four, tallied};
+use crate::stores::{
+    STREAM, Way, answer, calls, has_moved, is_right, read, split, split_two, with_guests,
+    with_streams, write,
+};
+use crate::teams::{Job, Team, four, tallied};
 use std::alloc::Global;
 use std::sync::Wait;
 use std::thread::{Threads, join};
@@ -58,10 +61,15 @@ fn is_one_history<R: Threads + Wait + Sync>(rt: &R, alloc: Global) -> bool {
         return false;
     };
     with_six_guests(rt, alloc, &store, &mut seat);
-    let Ok(team) = store.seat_split(rt, &mut seat) else {
+    let Some(first) = split(rt, &store, &mut seat) else {
         return false;
     };
-    let sum = four(rt, alloc, &store, team, Job::Work, 0);
+    let team = Team {
+        alloc,
+        store: &store,
+        job: Job::Work,
+    };
+    let sum = four(rt, team, first, 0);
     match history(rt, store, seat) {
         Some(history) => is_replayed(alloc, &history) && tallies_of(&history) == sum,
         None => false,
@@ -81,7 +89,7 @@ fn passes<R: Wait>(rt: &R, alloc: Global, store: &SharedStore, mut seat: Seat, s
 {
     let mut done = 0u32;
     for _ in 0..PASSES {
-        if has_moved(&store.sync(rt, alloc, &mut seat, step), 1) {
+        if has_moved(&answer(rt, alloc, store, &mut seat, Way::Sync, step), 1) {
             done = done.wrapping_add(1);
         }
     }
@@ -98,10 +106,7 @@ fn passed<R: Threads + Wait + Sync>(
     requires { IsOf store.now seat.old }
     ensures { Same seat.old seat.new }
 {
-    let Ok(writer) = store.seat_split(rt, seat) else {
-        return (0, 0);
-    };
-    let Ok(reader) = store.seat_split(rt, seat) else {
+    let Some((writer, reader)) = split_two(rt, store, seat) else {
         return (0, 0);
     };
     let (put, taken) = (write(0, 1, 1), read(1, 1, 1));

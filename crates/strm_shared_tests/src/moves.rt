@@ -6,7 +6,8 @@ ghost use Rattle.strm_shared.specs.Tokens.{Same};
 
 use crate::histories::{history, is_replayed};
 use crate::stores::{
-    STREAM, has_moved, is_awaited, is_raised, is_right, read, with_streams, write,
+    STREAM, Way, answer, has_moved, is_awaited, is_raised, is_right, read, split, split_two,
+    with_streams, write,
 };
 use std::alloc::Global;
 use std::sync::Wait;
@@ -28,7 +29,7 @@ fn writes<R: Wait>(rt: &R, alloc: Global, store: &SharedStore, mut seat: Seat) -
     requires { IsOf store.now seat }
 {
     let step = write(0, 1, 2);
-    has_moved(&store.sync(rt, alloc, &mut seat, &step), 2)
+    has_moved(&answer(rt, alloc, store, &mut seat, Way::Sync, &step), 2)
 }
 
 // A move of the write end, once the write waits.
@@ -43,7 +44,8 @@ fn shifts<R: Wait>(
 {
     let held = is_awaited(rt, alloc, store, &mut seat, 0, 1);
     tried.store(true, Ordering::SeqCst);
-    store.sync_move(rt, alloc, &mut seat, &MOVE) == Ok(Reply::Number(2)) && held
+    let told = answer(rt, alloc, store, &mut seat, Way::SyncMove, &MOVE);
+    told == Ok(Reply::Number(2)) && held
 }
 
 // The read that frees the write, once the move is about to be tried.
@@ -57,7 +59,7 @@ fn reads<R: Wait>(
     requires { IsOf store.now seat }
 {
     let step = read(1, 1, 2);
-    is_raised(tried) && has_moved(&store.call(rt, alloc, &mut seat, &step), 2)
+    is_raised(tried) && has_moved(&answer(rt, alloc, store, &mut seat, Way::Call, &step), 2)
 }
 
 // The move by a seat, and the read by one that is split off, in two threads.
@@ -69,7 +71,7 @@ fn shifts_and_reads<R: Threads + Wait + Sync>(
 ) -> bool
     requires { IsOf store.now seat }
 {
-    let Ok(reader) = store.seat_split(rt, &mut seat) else {
+    let Some(reader) = split(rt, store, &mut seat) else {
         return false;
     };
     let tried = AtomicBool::new(false);
@@ -91,10 +93,7 @@ fn are_done<R: Threads + Wait + Sync>(
     requires { IsOf store.now seat.old }
     ensures { Same seat.old seat.new }
 {
-    let Ok(writer) = store.seat_split(rt, seat) else {
-        return false;
-    };
-    let Ok(mover) = store.seat_split(rt, seat) else {
+    let Some((writer, mover)) = split_two(rt, store, seat) else {
         return false;
     };
     let (written, shifted) = join(

@@ -5,7 +5,7 @@ ghost use Rattle.strm_shared.specs.Tokens.{Same};
 
 use crate::histories::{history, is_replayed};
 use crate::stores::{
-    Answer, GUEST, STREAM, Way, answer, calls, is_right, with_guests, with_streams,
+    Answer, GUEST, STREAM, Way, answer, calls, is_right, split, with_guests, with_streams,
 };
 use std::alloc::Global;
 use std::sync::Wait;
@@ -158,7 +158,7 @@ fn joins<R: Wait>(rt: &R, alloc: Global) -> bool {
     let Some((store, mut seat)) = with_guests(rt, alloc, 0) else {
         return false;
     };
-    let Ok(mut other) = store.seat_split(rt, &mut seat) else {
+    let Some(mut other) = split(rt, &store, &mut seat) else {
         return false;
     };
     let numbers = (seat.number(), other.number());

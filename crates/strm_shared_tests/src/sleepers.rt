@@ -4,7 +4,9 @@ ghost use Rattle.strm_shared.specs.Causes.{IsOf};
 ghost use Rattle.strm_shared.specs.Tokens.{Same};
 
 use crate::histories::ends_right;
-use crate::stores::{Answer, PAIR, STREAM, Way, answer, calls, is_raised, is_right, with_guests};
+use crate::stores::{
+    Answer, PAIR, STREAM, Way, answer, calls, is_raised, is_right, split_two, with_guests,
+};
 use std::alloc::Global;
 use std::sync::Wait;
 use std::sync::atomic::{AtomicBool, Ordering};
@@ -100,10 +102,10 @@ fn wakes<R: Wait + Clock>(
     let begun = is_raised(signs.begun);
     sleep(rt, Duration::from_millis(WHILE));
     let slept = !signs.woken.load(Ordering::SeqCst);
-    let done = store.call(rt, alloc, &mut seat, &scene.wakes).is_ok();
+    let done = answer(rt, alloc, store, &mut seat, Way::Call, &scene.wakes).is_ok();
     let woken = is_raised_in_time(rt, signs.woken);
     if !woken {
-        let _ = store.call(rt, alloc, &mut seat, &NUDGE);
+        calls(rt, alloc, store, &mut seat, &NUDGE, 1);
     }
     begun && slept && done && woken
 }
@@ -119,10 +121,7 @@ fn is_woken<R: Threads + Wait + Clock + Sync>(
     requires { IsOf store.now seat.old }
     ensures { Same seat.old seat.new }
 {
-    let Ok(one) = store.seat_split(rt, seat) else {
-        return false;
-    };
-    let Ok(other) = store.seat_split(rt, seat) else {
+    let Some((one, other)) = split_two(rt, store, seat) else {
         return false;
     };
     let begun = AtomicBool::new(false);

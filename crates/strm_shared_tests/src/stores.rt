@@ -102,6 +102,37 @@ pub(crate) fn answer<R: Wait>(
     }
 }
 
+/// A seat that is split off, and no more of it than a test rests on.
+pub(crate) fn split<R: Wait>(rt: &R, store: &SharedStore, seat: &mut Seat) -> Option<Seat>
+    requires { IsOf store.now seat.old }
+    ensures same { Same seat.old seat.new }
+    ensures of { IfSome result (λ new. IsOf store.now new) }
+{
+    match store.seat_split(rt, seat) {
+        Ok(new) => Some(new),
+        Err(_) => None,
+    }
+}
+
+/// Two of them.
+pub(crate) fn split_two<R: Wait>(
+    rt: &R,
+    store: &SharedStore,
+    seat: &mut Seat,
+) -> Option<(Seat, Seat)>
+    requires { IsOf store.now seat.old }
+    ensures same { Same seat.old seat.new }
+    ensures of { IfSome result (λ two. IsOf store.now two.0 × IsOf store.now two.1) }
+{
+    let Some(one) = split(rt, store, seat) else {
+        return None;
+    };
+    let Some(other) = split(rt, store, seat) else {
+        return None;
+    };
+    Some((one, other))
+}
+
 /// A step is called so often.
 pub(crate) fn calls<R: Wait>(
     rt: &R,
@@ -115,7 +146,7 @@ pub(crate) fn calls<R: Wait>(
     ensures { Same seat.old seat.new }
 {
     for _ in 0..times {
-        let _ = store.call(rt, alloc, seat, step);
+        let _ = answer(rt, alloc, store, seat, Way::Call, step);
     }
 }
 
@@ -182,7 +213,7 @@ pub(crate) fn is_awaited<R: Wait>(
 {
     let event = Step::Event { guest, handle };
     for _ in 0..LOOKS {
-        if is_waiting(&store.call(rt, alloc, seat, &event)) {
+        if is_waiting(&answer(rt, alloc, store, seat, Way::Call, &event)) {
             return true;
         }
         yield_now();

@@ -3,7 +3,7 @@
 ghost use Rattle.std.specs.Thread.{IsSync};
 ghost use Rattle.strm_shared.specs.Causes.{IsOf};
 
-use crate::stores::{has_moved, read, write};
+use crate::stores::{Way, answer, has_moved, read, split, write};
 use std::alloc::Global;
 use std::sync::Wait;
 use std::thread::{Threads, join};
@@ -25,6 +25,14 @@ pub(crate) enum Job {
     Read,
     /// One write, which waits, on the stream whose write end has that handle.
     Write,
+}
+
+/// The store of a team, and what each thread of it does there.
+#[derive(Clone, Copy)]
+pub(crate) struct Team<'a> {
+    pub(crate) alloc: Global,
+    pub(crate) store: &'a SharedStore,
+    pub(crate) job: Job,
 }
 
 /// One reply more, in a number that tells what was replied in which order. Replies of the steps below
@@ -77,7 +85,7 @@ fn works<R: Wait>(rt: &R, alloc: Global, store: &SharedStore, mut seat: Seat, nu
     let mut sum = 0u64;
     for k in 0..CALLS {
         let step = step_of(number, k);
-        if let Ok(reply) = store.call(rt, alloc, &mut seat, &step) {
+        if let Ok(reply) = answer(rt, alloc, store, &mut seat, Way::Call, &step) {
             sum = tallied(sum, &reply);
         }
     }
@@ -88,23 +96,17 @@ fn works<R: Wait>(rt: &R, alloc: Global, store: &SharedStore, mut seat: Seat, nu
 fn moves<R: Wait>(rt: &R, alloc: Global, store: &SharedStore, mut seat: Seat, step: Step) -> u64
     requires { IsOf store.now seat }
 {
-    if has_moved(&store.sync(rt, alloc, &mut seat, &step), 1) {
+    if has_moved(&answer(rt, alloc, store, &mut seat, Way::Sync, &step), 1) {
         1
     } else {
         0
     }
 }
 
-fn one<R: Wait>(
-    rt: &R,
-    alloc: Global,
-    store: &SharedStore,
-    seat: Seat,
-    job: Job,
-    number: u32,
-) -> u64
-    requires { IsOf store.now seat }
+fn one<R: Wait>(rt: &R, team: Team, seat: Seat, number: u32) -> u64
+    requires { IsOf team.store.now seat }
 {
+    let Team { alloc, store, job } = team;
     match job {
         Job::Work => works(rt, alloc, store, seat, number),
         Job::Read => moves(rt, alloc, store, seat, read(1, number.wrapping_add(1), 1)),
@@ -112,99 +114,73 @@ fn one<R: Wait>(
     }
 }
 
-fn two<R: Threads + Wait + Sync>(
-    rt: &R,
-    alloc: Global,
-    store: &SharedStore,
-    mut seat: Seat,
-    job: Job,
-    number: u32,
-) -> u64
-    requires { IsOf store.now seat }
+fn two<R: Threads + Wait + Sync>(rt: &R, team: Team, mut seat: Seat, number: u32) -> u64
+    requires { IsOf team.store.now seat }
 {
-    let Ok(other) = store.seat_split(rt, &mut seat) else {
+    let Some(other) = split(rt, team.store, &mut seat) else {
         return 0;
     };
     let next = number.wrapping_add(1);
     let (left, right) = join(
         rt,
-        || one(rt, alloc, store, seat, job, number),
-        || one(rt, alloc, store, other, job, next),
+        || one(rt, team, seat, number),
+        || one(rt, team, other, next),
     );
     left.wrapping_add(right)
 }
 
 /// What four threads come to together, from this number in the team on.
-pub(crate) fn four<R: Threads + Wait + Sync>(
-    rt: &R,
-    alloc: Global,
-    store: &SharedStore,
-    mut seat: Seat,
-    job: Job,
-    number: u32,
-) -> u64
-    requires { IsOf store.now seat }
+pub(crate) fn four<R: Threads + Wait + Sync>(rt: &R, team: Team, mut seat: Seat, number: u32) -> u64
+    requires { IsOf team.store.now seat }
 {
-    let Ok(other) = store.seat_split(rt, &mut seat) else {
+    let Some(other) = split(rt, team.store, &mut seat) else {
         return 0;
     };
     let next = number.wrapping_add(2);
     let (left, right) = join(
         rt,
         ||
-            requires { IsSync R.row × IsOf store.now seat }
-        { two(rt, alloc, store, seat, job, number) },
+            requires { IsSync R.row × IsOf team.store.now seat }
+        { two(rt, team, seat, number) },
         ||
-            requires { IsSync R.row × IsOf store.now other }
-        { two(rt, alloc, store, other, job, next) },
+            requires { IsSync R.row × IsOf team.store.now other }
+        { two(rt, team, other, next) },
     );
     left.wrapping_add(right)
 }
 
 // What eight threads come to together.
-fn eight<R: Threads + Wait + Sync>(
-    rt: &R,
-    alloc: Global,
-    store: &SharedStore,
-    mut seat: Seat,
-    job: Job,
-) -> u64
-    requires { IsOf store.now seat }
+fn eight<R: Threads + Wait + Sync>(rt: &R, team: Team, mut seat: Seat) -> u64
+    requires { IsOf team.store.now seat }
 {
-    let Ok(other) = store.seat_split(rt, &mut seat) else {
+    let Some(other) = split(rt, team.store, &mut seat) else {
         return 0;
     };
     let (left, right) = join(
         rt,
         ||
-            requires { IsSync R.row × IsOf store.now seat }
-        { four(rt, alloc, store, seat, job, 0) },
+            requires { IsSync R.row × IsOf team.store.now seat }
+        { four(rt, team, seat, 0) },
         ||
-            requires { IsSync R.row × IsOf store.now other }
-        { four(rt, alloc, store, other, job, 4) },
+            requires { IsSync R.row × IsOf team.store.now other }
+        { four(rt, team, other, 4) },
     );
     left.wrapping_add(right)
 }
 
 /// What nine threads come to together.
-pub(crate) fn nine<R: Threads + Wait + Sync>(
-    rt: &R,
-    alloc: Global,
-    store: &SharedStore,
-    mut seat: Seat,
-    job: Job,
-) -> u64
-    requires { IsOf store.now seat }
+pub(crate) fn nine<R: Threads + Wait + Sync>(rt: &R, team: Team, mut seat: Seat) -> u64
+    requires { IsOf team.store.now seat }
 {
-    let Ok(other) = store.seat_split(rt, &mut seat) else {
+    let Some(other) = split(rt, team.store, &mut seat) else {
         return 0;
     };
     let (left, right) = join(
         rt,
         ||
-            requires { IsSync R.row × IsOf store.now seat }
-        { eight(rt, alloc, store, seat, job) },
-        || one(rt, alloc, store, other, job, 8),
+            requires { IsSync R.row × IsOf team.store.now seat }
+        { eight(rt, team, seat) },
+        || one(rt, team, other, 8),
     );
     left.wrapping_add(right)
 }

@@ -5,8 +5,10 @@ ghost use Rattle.strm_shared.specs.Causes.{IsOf};
 ghost use Rattle.strm_shared.specs.Tokens.{Same};
 
 use crate::histories::ends_right;
-use crate::stores::{has_moved, is_awaited, is_right, meets, read, with_streams, write};
-use crate::teams::{Job, nine};
+use crate::stores::{
+    Way, answer, has_moved, is_awaited, is_right, meets, read, split_two, with_streams, write,
+};
+use crate::teams::{Job, Team, nine};
 use std::alloc::Global;
 use std::sync::Wait;
 use std::sync::atomic::AtomicBool;
@@ -32,7 +34,10 @@ fn waits<R: Wait>(
 ) -> bool
     requires { IsOf store.now seat }
 {
-    meets(flags.own, flags.other) && has_moved(&store.sync(rt, alloc, &mut seat, step), 2)
+    if !meets(flags.own, flags.other) {
+        return false;
+    }
+    has_moved(&answer(rt, alloc, store, &mut seat, Way::Sync, step), 2)
 }
 
 // A step that is called once another seat waits for the report of the guest's handle 1; whether two
@@ -52,7 +57,7 @@ fn ends<R: Wait>(
         return false;
     }
     let held = is_awaited(rt, alloc, store, &mut seat, guest, 1);
-    has_moved(&store.call(rt, alloc, &mut seat, step), 2) && held
+    has_moved(&answer(rt, alloc, store, &mut seat, Way::Call, step), 2) && held
 }
 
 // Two threads: the first step, of a guest's handle 1, waits until the second is called.
@@ -67,10 +72,7 @@ fn is_held<R: Threads + Wait + Sync>(
     ensures { Same seat.old seat.new }
 {
     let (first, guest, second) = steps;
-    let Ok(one) = store.seat_split(rt, seat) else {
-        return false;
-    };
-    let Ok(other) = store.seat_split(rt, seat) else {
+    let Some((one, other)) = split_two(rt, store, seat) else {
         return false;
     };
     let left = AtomicBool::new(false);
@@ -142,7 +144,8 @@ fn wakes<R: Wait>(rt: &R, alloc: Global, store: &SharedStore, mut seat: Seat, jo
     }
     let mut done = 0u64;
     for k in 1..10u32 {
-        if has_moved(&store.call(rt, alloc, &mut seat, &step_for(job, k)), 1) {
+        let step = step_for(job, k);
+        if has_moved(&answer(rt, alloc, store, &mut seat, Way::Call, &step), 1) {
             done = done.wrapping_add(1);
         }
     }
@@ -176,17 +179,15 @@ fn woken<R: Threads + Wait + Sync>(
     requires { IsOf store.now seat.old }
     ensures { Same seat.old seat.new }
 {
-    let Ok(team) = store.seat_split(rt, seat) else {
+    let Some((first, other)) = split_two(rt, store, seat) else {
         return (0, 0);
     };
-    let Ok(other) = store.seat_split(rt, seat) else {
-        return (0, 0);
-    };
+    let team = Team { alloc, store, job };
     join(
         rt,
         ||
-            requires { IsSync R.row × IsOf store.now team }
-        { nine(rt, alloc, store, team, job) },
+            requires { IsSync R.row × IsOf team.store.now first }
+        { nine(rt, team, first) },
         || wakes(rt, alloc, store, other, job),
     )
 }

@@ -6,64 +6,39 @@ use crate::told::{BLOCKED, Told};
 use strm_codes::refusals::Refusal;
 use strm_machine::streams::Owner;
 
+// Who has the other end: of the write end the guest that reads, and of the read end the one that writes.
+const READER: Owner = Owner::Held {
+    guest: 1,
+    handle: 1,
+};
+
+const WRITER: Owner = Owner::Held {
+    guest: 0,
+    handle: 1,
+};
+
 const AN_END_IS_LOOKED_AT: [Row; 16] = [
     (Call::Guest(16), Told::Number(0)),
     (Call::Guest(16), Told::Number(1)),
     (Call::Between(0, 1, Type::Bytes), Told::Ends(1, 1, 0)),
     (
         Call::Look((0, 1)),
-        Told::End(
-            Type::Bytes,
-            false,
-            0,
-            None,
-            Owner::Held {
-                guest: 1,
-                handle: 1,
-            },
-        ),
+        Told::End(Type::Bytes, false, 0, None, READER),
     ),
     (Call::Write((0, 1), 0, 3), Told::Code(BLOCKED)),
     (Call::Read((1, 1), 0, 2), Told::Code(0x20)),
     (
         Call::Look((0, 1)),
-        Told::End(
-            Type::Bytes,
-            false,
-            0,
-            Some(0x20),
-            Owner::Held {
-                guest: 1,
-                handle: 1,
-            },
-        ),
+        Told::End(Type::Bytes, false, 0, Some(0x20), READER),
     ),
     (Call::Event((0, 1)), Told::Code(0x20)),
     (
         Call::Look((0, 1)),
-        Told::End(
-            Type::Bytes,
-            false,
-            0,
-            None,
-            Owner::Held {
-                guest: 1,
-                handle: 1,
-            },
-        ),
+        Told::End(Type::Bytes, false, 0, None, READER),
     ),
     (
         Call::Look((1, 1)),
-        Told::End(
-            Type::Bytes,
-            true,
-            0,
-            None,
-            Owner::Held {
-                guest: 0,
-                handle: 1,
-            },
-        ),
+        Told::End(Type::Bytes, true, 0, None, WRITER),
     ),
     (Call::Lift((1, 1), Type::Bytes), Told::Number(0)),
     (

@@ -1,6 +1,7 @@
 //! The limits: eight stages, two that double, and 65,536 bytes; and one more of each.
 
-use crate::words::words_of;
+use crate::rows::holds;
+use crate::words::{bytes_again, words_of};
 use std::alloc::{AllocError, Global};
 use std::process::Abort;
 use strm_chain::chains::{Chain, ChainEnd, chain_all, chain_run};
@@ -8,11 +9,6 @@ use strm_chain::faults::{ChainError, MAX_INPUT};
 use strm_chain::serving::chain_serve;
 use strm_chain::stages::Stage;
 use strm_input_output::in_memory::{BytesSink, BytesSource};
-
-// So many bytes, from 0 to 250 over and over.
-fn bytes(alloc: Global, count: usize) -> Result<Vec<u8>, AllocError> {
-    (0..count).map(|k| (k % 251) as u8).collect(alloc)
-}
 
 // Eight stages, which put each byte four times.
 const FOUR_TIMES: &[Stage] = &[
@@ -40,14 +36,6 @@ fn is_whole(end: &ChainEnd, count: usize) -> bool {
     end.ended && is_four_times(end.output.as_slice(), count)
 }
 
-fn holds(rt: &impl Abort, found: Result<bool, ChainError>) {
-    assert_eq!(rt; found, Ok(true));
-}
-
-fn is_so(rt: &impl Abort, found: Result<bool, AllocError>) {
-    assert_eq!(rt; found, Ok(true));
-}
-
 // So many rounds of ten guests, the last one first.
 fn rounds(alloc: Global, count: usize) -> Result<Vec<u32>, AllocError> {
     let mut schedule: Vec<u32> = Vec::new(alloc);
@@ -59,19 +47,19 @@ fn rounds(alloc: Global, count: usize) -> Result<Vec<u32>, AllocError> {
 
 fn run_is_whole(alloc: Global, count: usize) -> Result<bool, ChainError> {
     let schedule = rounds(alloc, 40_000)?;
-    let input = bytes(alloc, count)?;
+    let input = bytes_again(alloc, count)?;
     let end = chain_run(alloc, FOUR_TIMES, input, 64, schedule.as_slice())?;
     Ok(is_whole(&end, count))
 }
 
 #[test]
 fn the_greatest_input_by_a_schedule(rt: HostRuntime) {
-    holds(&rt, run_is_whole(rt.alloc(), MAX_INPUT));
+    holds(&rt, run_is_whole(rt.alloc(), MAX_INPUT), "run");
 }
 
 // A caller who gives the guests their turns, and asks for what came of them.
 fn driven_is_whole(alloc: Global, count: usize) -> Result<bool, ChainError> {
-    let mut chain = Chain::new(alloc, FOUR_TIMES, bytes(alloc, count)?, 64)?;
+    let mut chain = Chain::new(alloc, FOUR_TIMES, bytes_again(alloc, count)?, 64)?;
     for _ in 0..40_000u32 {
         for who in 0..10u32 {
             if who < chain.guests() {
@@ -86,7 +74,7 @@ fn driven_is_whole(alloc: Global, count: usize) -> Result<bool, ChainError> {
 
 #[test]
 fn the_greatest_input_turn_by_turn(rt: HostRuntime) {
-    holds(&rt, driven_is_whole(rt.alloc(), MAX_INPUT));
+    holds(&rt, driven_is_whole(rt.alloc(), MAX_INPUT), "driven");
 }
 
 const WORDS: [&str; 9] = [
@@ -103,7 +91,7 @@ const WORDS: [&str; 9] = [
 
 fn served_is_whole(alloc: Global, count: usize) -> Result<bool, AllocError> {
     let words = words_of(alloc, &WORDS)?;
-    let mut source = BytesSource::new(bytes(alloc, count)?, 40_000, Vec::new(alloc));
+    let mut source = BytesSource::new(bytes_again(alloc, count)?, 40_000, Vec::new(alloc));
     let mut sink = BytesSink::new(alloc, 40_000, Vec::new(alloc));
     let status = chain_serve(alloc, &words, &mut source, &mut sink);
     Ok(status == 0 && is_four_times(sink.taken(), count))
@@ -111,7 +99,7 @@ fn served_is_whole(alloc: Global, count: usize) -> Result<bool, AllocError> {
 
 #[test]
 fn the_greatest_input_of_the_program(rt: HostRuntime) {
-    is_so(&rt, served_is_whole(rt.alloc(), MAX_INPUT));
+    holds(&rt, served_is_whole(rt.alloc(), MAX_INPUT), "served");
 }
 
 // The error of a chain of these stages and so many bytes.
@@ -120,7 +108,7 @@ fn error_of(
     stages: &[Stage],
     count: usize,
 ) -> Result<Option<ChainError>, AllocError> {
-    let input = bytes(alloc, count)?;
+    let input = bytes_again(alloc, count)?;
     match chain_all(alloc, stages, input, 16) {
         Ok(_) => Ok(None),
         Err(error) => Ok(Some(error)),

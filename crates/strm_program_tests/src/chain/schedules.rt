@@ -1,5 +1,6 @@
 //! One chain under schedules that end it and schedules that do not.
 
+use crate::rows::holds;
 use std::alloc::Global;
 use std::process::Abort;
 use strm_chain::chains::{Chain, ChainEnd, chain_run};
@@ -34,10 +35,6 @@ fn run_by(alloc: Global, row: &Row) -> Result<ChainEnd, ChainError> {
 fn goes(alloc: Global, row: &Row) -> Result<bool, ChainError> {
     let end = run_by(alloc, row)?;
     Ok(end.ended == row.ended && end.output.as_slice() == row.output)
-}
-
-fn holds(rt: &impl Abort, found: Result<bool, ChainError>, row: usize) {
-    assert_eq!(rt; found, Ok(true), "row {row}");
 }
 
 const ENDING: [Row; 8] = [

@@ -1,8 +1,8 @@
 //! The statuses of `chain_serve` and what is written with them, also where a source or a sink fails.
 
+use crate::rows::holds;
 use crate::words::words_of;
 use std::alloc::{AllocError, Global};
-use std::process::Abort;
 use strm_chain::serving::chain_serve;
 use strm_input_output::in_memory::{BytesSink, BytesSource};
 
@@ -31,10 +31,6 @@ fn is_served(alloc: Global, row: &Row) -> Result<bool, AllocError> {
     let mut sink = BytesSink::new(alloc, 3, sink_fails);
     let status = chain_serve(alloc, &words, &mut source, &mut sink);
     Ok(status == row.status && sink.taken() == row.taken)
-}
-
-fn holds(rt: &impl Abort, found: Result<bool, AllocError>, row: usize) {
-    assert_eq!(rt; found, Ok(true), "row {row}");
 }
 
 const STATUSES: [Row; 8] = [

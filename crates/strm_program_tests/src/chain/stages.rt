@@ -2,8 +2,8 @@
 
 ghost use Rattle.std.specs.Prelude.{◌≤◌};
 
+use crate::rows::holds;
 use std::alloc::Global;
-use std::process::Abort;
 use strm_chain::chains::chain_all;
 use strm_chain::faults::ChainError;
 use strm_chain::stages::Stage;
@@ -22,10 +22,6 @@ fn is_made(alloc: Global, row: &Row, chunk: u32) -> Result<bool, ChainError>
 {
     let end = chain_all(alloc, row.stages, row.input.to_vec(alloc)?, chunk)?;
     Ok(end.ended && end.output.as_slice() == row.output)
-}
-
-fn holds(rt: &impl Abort, found: Result<bool, ChainError>, row: usize) {
-    assert_eq!(rt; found, Ok(true), "row {row}");
 }
 
 const ALONE: [Row; 14] = [

@@ -1,7 +1,8 @@
 //! The limits: full frames on all lanes, a mux of 1,048,576 bytes over the store, and an input of 262,144.
 
 use crate::mux::lanes::{is_answer, is_lane, is_rest};
-use crate::words::words_of;
+use crate::rows::holds;
+use crate::words::{bytes_again, words_of};
 use std::alloc::{AllocError, Global};
 use std::process::Abort;
 use strm_frames::demuxes::Demux;
@@ -27,11 +28,6 @@ fn a_full_frame_on_each_lane(rt: HostRuntime) {
     is_rest(&rt, &demux, 0);
 }
 
-// So many bytes, from 0 to 250 over and over.
-fn bytes(alloc: Global, count: usize) -> Result<Vec<u8>, AllocError> {
-    (0..count).map(|k| (k % 251) as u8).collect(alloc)
-}
-
 // Whether a mux of 1,048,576 bytes is carried in pieces of these sizes: 4,064 full frames, and one of 61.
 fn is_carried(rt: &impl Abort, alloc: Global, lane: &[u8], write: u32, read: u32) {
     let mut mux = Mux::new(alloc);
@@ -47,7 +43,7 @@ fn is_carried(rt: &impl Abort, alloc: Global, lane: &[u8], write: u32, read: u32
 
 #[test]
 fn the_greatest_mux_over_the_store(rt: HostRuntime) {
-    let Ok(lane) = bytes(rt.alloc(), 1_036_381) else {
+    let Ok(lane) = bytes_again(rt.alloc(), 1_036_381) else {
         panic!(rt; "no memory")
     };
     is_carried(&rt, rt.alloc(), lane.as_slice(), 16, 16);
@@ -96,11 +92,7 @@ fn lines_are_served(alloc: Global) -> Result<bool, AllocError> {
     Ok(is_long && is_served(alloc, input, wanted.as_slice())?)
 }
 
-fn is(rt: &impl Abort, found: Result<bool, AllocError>) {
-    assert_eq!(rt; found, Ok(true));
-}
-
 #[test]
 fn the_greatest_input_of_the_program(rt: HostRuntime) {
-    is(&rt, lines_are_served(rt.alloc()));
+    holds(&rt, lines_are_served(rt.alloc()), "lines");
 }

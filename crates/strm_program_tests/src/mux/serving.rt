@@ -1,5 +1,6 @@
 //! The statuses of `mux_serve` and their texts, also where a source or a sink fails.
 
+use crate::rows::holds;
 use crate::words::words_of;
 use std::alloc::{AllocError, Global};
 use std::process::Abort;
@@ -38,10 +39,6 @@ fn is_served(alloc: Global, row: &Row) -> Result<bool, AllocError> {
     let mut sink = BytesSink::new(alloc, 3, vec![in alloc; row.failing.1]?);
     let status = mux_serve(alloc, &words, &mut source, &mut sink);
     Ok(status == row.status && sink.taken() == row.text.as_bytes())
-}
-
-fn holds(rt: &impl Abort, found: Result<bool, AllocError>, text: &str) {
-    assert_eq!(rt; found, Ok(true), "{text}");
 }
 
 const ROWS: [Row; 9] = [

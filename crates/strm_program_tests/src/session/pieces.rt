@@ -1,8 +1,8 @@
 //! A source and a sink in memory, which give and take bytes in pieces, and of which a call fails.
 
+use crate::rows::holds;
 use crate::words::words_of;
 use std::alloc::{AllocError, Global};
-use std::process::Abort;
 use strm_session::in_memory::{BytesSink, BytesSource};
 use strm_session::serving::serve;
 use strm_session::whole::{read_all, write_whole};
@@ -43,23 +43,19 @@ pub(crate) fn pieces_of_eight<H: HostEnds>(
     Ok(found == status && sink.taken() == text.as_bytes())
 }
 
-// Whether a line is read whole where the call of this number fails.
-fn is_read(alloc: Global, failing: u32) -> Result<bool, AllocError> {
+// Whether a line is read whole, or not at all, where the call of this number fails.
+fn is_read(alloc: Global, failing: u32, whole: bool) -> Result<bool, AllocError> {
     let mut source = source(alloc, b"guest 16\n", failing)?;
     match read_all(alloc, &mut source) {
-        Ok(text) => Ok(text.as_slice() == b"guest 16\n".as_slice()),
-        Err(_) => Ok(false),
+        Ok(text) => Ok(whole && text.as_slice() == b"guest 16\n".as_slice()),
+        Err(_) => Ok(!whole),
     }
-}
-
-fn is(rt: &impl Abort, found: Result<bool, AllocError>, wanted: bool) {
-    assert_eq!(rt; found, Ok(wanted));
 }
 
 #[test]
 fn a_source_in_pieces(rt: HostRuntime) {
-    is(&rt, is_read(rt.alloc(), 9), true);
-    is(&rt, is_read(rt.alloc(), 2), false);
+    holds(&rt, is_read(rt.alloc(), 9, true), "whole");
+    holds(&rt, is_read(rt.alloc(), 2, false), "fault");
 }
 
 // Whether a text is written whole, and the sink has these bytes of it, where the call of this number
@@ -73,7 +69,7 @@ fn is_written(alloc: Global, failing: u32, taken: &str) -> Result<bool, AllocErr
 
 #[test]
 fn a_sink_in_pieces(rt: HostRuntime) {
-    is(&rt, is_written(rt.alloc(), 9, "done 0\n"), true);
-    is(&rt, is_written(rt.alloc(), 1, ""), true);
-    is(&rt, is_written(rt.alloc(), 2, "don"), true);
+    holds(&rt, is_written(rt.alloc(), 9, "done 0\n"), "done 0\n");
+    holds(&rt, is_written(rt.alloc(), 1, ""), "");
+    holds(&rt, is_written(rt.alloc(), 2, "don"), "don");
 }

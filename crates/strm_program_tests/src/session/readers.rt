@@ -1,9 +1,10 @@
 //! A host reader that follows a script, served: each rule that it owes, what comes where it is broken, and
 //! polls that are allowed beside it.
 
+use crate::rows::holds;
 use crate::scripts::{Taking, add_reader, no_hosts};
 use crate::session::serving::{BYTE, NONE, RUN, Row, is_served};
-use std::alloc::{AllocError, Global};
+use std::alloc::Global;
 use std::process::Abort;
 use strm_buffers::answers::Answer;
 use strm_codes::codes::TransmitKind;
@@ -37,11 +38,7 @@ fn comes(rt: &impl Abort, alloc: Global, kind: TransmitKind, payload: &Payload, 
         status: case.status,
         text: case.text,
     };
-    is_told(rt, is_served(alloc, &row, &mut hosts), case.input);
-}
-
-fn is_told(rt: &impl Abort, found: Result<bool, AllocError>, input: &str) {
-    assert!(rt; found == Ok(true), "{input}");
+    holds(rt, is_served(alloc, &row, &mut hosts), case.input);
 }
 
 // On a stream: Completed with nothing taken, Cancelled unasked, Failed; and a run that ends with the

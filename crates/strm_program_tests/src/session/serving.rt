@@ -1,10 +1,10 @@
 //! The statuses of `serve` and their texts, also where a source or a sink fails.
 
+use crate::rows::holds;
 use crate::scripts::no_hosts;
 use crate::session::pieces::{sink, source};
 use crate::words::words_of;
 use std::alloc::{AllocError, Global};
-use std::process::Abort;
 use strm_codes::payloads::Payload;
 use strm_codes::scalars::Scalar;
 use strm_session::serving::serve;
@@ -51,10 +51,6 @@ pub(crate) fn is_served<H: HostEnds>(
 fn is_served_alone(alloc: Global, row: &Row) -> Result<bool, AllocError> {
     let mut hosts = no_hosts(alloc);
     is_served(alloc, row, &mut hosts)
-}
-
-fn holds(rt: &impl Abort, found: Result<bool, AllocError>, status: u8) {
-    assert_eq!(rt; found, Ok(true), "{status}");
 }
 
 const STATUSES: [Row; 9] = [

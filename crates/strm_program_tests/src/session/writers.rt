@@ -1,10 +1,11 @@
 //! A host writer that follows a script, served: each rule that it owes, what comes where it is broken, and
 //! polls that are allowed beside it; and each poll, read and write of the first eight that fails.
 
+use crate::rows::holds;
 use crate::scripts::{add_writer, no_hosts};
 use crate::session::pieces::pieces_of_eight;
 use crate::session::serving::{NONE, RUN, Row, is_served};
-use std::alloc::{AllocError, Global};
+use std::alloc::Global;
 use std::process::Abort;
 use strm_buffers::answers::Answer;
 use strm_buffers::hosts::Hosts;
@@ -37,11 +38,7 @@ fn comes(rt: &impl Abort, alloc: Global, case: &Case) {
         status: case.status,
         text: case.text,
     };
-    is_told(rt, is_served(alloc, &row, &mut hosts), case.text);
-}
-
-fn is_told(rt: &impl Abort, found: Result<bool, AllocError>, text: &str) {
-    assert!(rt; found == Ok(true), "{text}");
+    holds(rt, is_served(alloc, &row, &mut hosts), case.text);
 }
 
 const CASES: [Case; 10] = [
@@ -201,7 +198,7 @@ fn each_poll_fails(rt: HostRuntime) {
 fn comes_in_pieces(rt: &impl Abort, alloc: Global, failing: (u32, u32), status: u8, text: &str) {
     let mut hosts = hosts_of(rt, alloc, TransmitKind::Stream, &[]);
     let found = pieces_of_eight(alloc, LINES, failing, status, text, &mut hosts);
-    is_told(rt, found, text);
+    holds(rt, found, text);
 }
 
 const TEXT: &str =
