@@ -1,0 +1,17 @@
+pub mod ByteLemmas
+pub mod NumberLemmas
+pub mod LoadLemmas
+pub mod FlatLemmas
+pub mod TypedRegionLemmas
+pub mod SpellingLemmas
+pub mod MeasureLemmas
+pub mod WalkLemmas
+pub mod StepLemmas
+pub mod CompoundLemmas
+pub mod ValueLemmas
+pub mod KeptBytes
+pub mod NoByteLemmas
+pub mod BeginLemmas
+pub mod FitLemmas
+pub mod LowerLemmas
+pub mod MoveLemmas

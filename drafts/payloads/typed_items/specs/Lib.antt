@@ -1,0 +1,12 @@
+pub mod Bytes
+pub mod Numbers
+pub mod Values
+pub mod ItemTypes
+pub mod Spellings
+pub mod Kept
+pub mod Measures
+pub mod Items
+pub mod Loads
+pub mod Regions
+pub mod Walks
+pub mod Insides
