@@ -1,5 +1,0 @@
-use Rattle.std.proofs.Common.{length}
-use Rattle.typed_items.proofs.fits.+begin_parts.Given as goal
-
-abbrev pub decreases-begin_parts : goal.decreases-begin_parts
-decreases-begin_parts l = length l.nodes.now

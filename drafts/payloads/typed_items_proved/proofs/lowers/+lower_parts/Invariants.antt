@@ -1,5 +1,0 @@
-use Rattle.std.proofs.Common.{length}
-use Rattle.typed_items.proofs.lowers.+lower_parts.Given as goal
-
-abbrev pub decreases-lower_parts : goal.decreases-lower_parts
-decreases-lower_parts l = length l.nodes.now
