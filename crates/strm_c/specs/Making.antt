@@ -1,9 +1,14 @@
 -- What C gets of a making, which may give a stream's number again. Ours.
 use Rattle.std.specs.Prelude.{◌≡◌, ℕ, Option, Some, None}
+use Rattle.strm_codes.specs.declared.codes.TransmitIndex.{TransmitIndex}
 use Rattle.strm_machine.specs.State.{State}
 use Rattle.strm_machine.specs.Reactions.{Reaction}
-use Rattle.strm_places.specs.Again.{IsFree}
+use Rattle.strm_machine.specs.declared.steps.Step.TheVariants as steps
+use Rattle.strm_places.specs.Again.{IsFree, reacts_at}
+use Rattle.strm_guest_store.specs.Limits.{is_pair_past}
 use Rattle.strm_c.specs.declared.exports.pairs.StrmPair.{StrmPair}
+use Rattle.strm_c.specs.declared.handles.StoreHandle.{StoreHandle}
+use Rattle.strm_c.specs.Limits.{WithinLimits, is_past_of}
 use Rattle.strm_c.specs.Pairs.{pair_in}
 use Rattle.strm_c.specs.Statuses.{IsAnswerOr, IsNothing, no_payload, no_store}
 
@@ -23,3 +28,9 @@ AnswersMaking (Some old) (Some named) step status old_pair new_pair new =
 AnswersMaking (Some old) None step status old_pair new_pair new =
     IsNothing (Some old) no_payload status 0 0 new
 AnswersMaking None named step status old_pair new_pair new = IsNothing None no_store status 0 0 new
+
+-- the making of a stream or future between two guests, of a type that was named or not
+abbrev pub AnswersBetween : StoreHandle → StoreHandle → ℕ → ℕ → Option TransmitIndex → ℕ → StrmPair → StrmPair → Type 0
+AnswersBetween old new writer reader named status old_pair new_pair =
+    WithinLimits old new (is_past_of old named (λ s limits. is_pair_past s limits writer reader)) status 0 0
+    (AnswersMaking old.state named (λ n s ty. reacts_at n s (steps.Between writer reader ty)) status old_pair new_pair new.state)

@@ -2,7 +2,8 @@
 //!
 //! Meaning: `Payloads.antt`. Ours.
 
-ghost use Rattle.std.specs.Prelude.{◌≡◌, ◌<◌, ◌≤◌, Some, length};
+ghost use Rattle.std.specs.Prelude.{◌≡◌, ◌<◌, ◌≤◌, if◌then◌else◌, Some, None, IfSome, length};
+ghost use Rattle.strm_codes.specs.declared.codes.TransmitIndex.TheVariants.{Stream, Future};
 ghost use Rattle.strm_c.specs.Payloads.{scalar_of_number, number_of_scalar, fields_at, fields_word, fields_limit, tuple_with, payload_at, payload_word, type_at, type_word};
 
 use strm_codes::codes::TransmitIndex;
@@ -62,8 +63,7 @@ fn tuple_of(fields: &[Scalar]) -> Option<Payload>
     Shape::new(fields).map(Payload::Tuple)
 }
 
-// The tuple whose fields a word has, four bits each. Cold, so that other payloads have the straight way.
-#[cold]
+// The tuple whose fields a word has, four bits each.
 fn tuple_at(word: u64) -> Option<Payload>
     ensures { result ≡ tuple_with (fields_at 8 word) }
 {
@@ -82,9 +82,11 @@ fn tuple_at(word: u64) -> Option<Payload>
     if rest == 0 { tuple_of(&fields) } else { None }
 }
 
-/// The payload of a word.
-#[inline(always)]
-pub fn payload_at(word: u64) -> Option<Payload>
+// The payload of a word that is no scalar's, apart from the code for scalars.
+#[cold]
+#[inline(never)]
+fn other_payload_at(word: u64) -> Option<Payload>
+    requires { scalar_of_number word ≡ None }
     ensures { result ≡ payload_at word }
 {
     if word >= TUPLE {
@@ -93,7 +95,30 @@ pub fn payload_at(word: u64) -> Option<Payload>
     if word == 0 {
         return Some(Payload::Nothing);
     }
-    scalar_at(word).map(Payload::One)
+    None
+}
+
+/// The payload of a word.
+#[inline(always)]
+pub fn payload_at(word: u64) -> Option<Payload>
+    ensures { result ≡ payload_at word }
+{
+    match scalar_at(word) {
+        Some(scalar) => Some(Payload::One(scalar)),
+        None => other_payload_at(word),
+    }
+}
+
+// The type of a future of this payload, or of a stream.
+#[inline(always)]
+fn type_of(is_future: bool, payload: Payload) -> TransmitIndex
+    ensures { result ≡ (if is_future then Future payload else Stream payload) }
+{
+    if is_future {
+        TransmitIndex::Future(payload)
+    } else {
+        TransmitIndex::Stream(payload)
+    }
 }
 
 /// The type of a word.
@@ -102,13 +127,22 @@ pub fn type_at(word: u64) -> Option<TransmitIndex>
     ensures { result ≡ type_at word }
 {
     let is_future = word >= FUTURE;
-    let Some(payload) = payload_at(if is_future { word - FUTURE } else { word }) else {
-        return None;
-    };
-    if is_future {
-        Some(TransmitIndex::Future(payload))
-    } else {
-        Some(TransmitIndex::Stream(payload))
+    match payload_at(if is_future { word - FUTURE } else { word }) {
+        Some(payload) => Some(type_of(is_future, payload)),
+        None => None,
+    }
+}
+
+/// The same where its items are one scalar each; none of any other word. No payload is written to memory
+/// for it, as it is where a tuple's word may stand.
+#[inline(always)]
+pub fn scalar_type_at(word: u64) -> Option<TransmitIndex>
+    ensures { IfSome result (λ ty. type_at word ≡ Some ty) }
+{
+    let is_future = word >= FUTURE;
+    match scalar_at(if is_future { word - FUTURE } else { word }) {
+        Some(scalar) => Some(type_of(is_future, Payload::One(scalar))),
+        None => None,
     }
 }
 

@@ -6,18 +6,17 @@ ghost use Rattle.std.specs.Prelude.{◌≡◌, ◌≢◌};
 ghost use Rattle.strm_codes.specs.declared.codes.TransmitIndex.TheVariants as index;
 ghost use Rattle.strm_machine.specs.Reactions.{react};
 ghost use Rattle.strm_machine.specs.declared.steps.Step.TheVariants as steps;
-ghost use Rattle.strm_places.specs.Again.{reacts_at};
-ghost use Rattle.strm_guest_store.specs.Limits.{is_past, is_pair_past};
+ghost use Rattle.strm_guest_store.specs.Limits.{is_past};
 ghost use Rattle.strm_guest_store.specs.declared.guest_limits.Gain.TheVariants.{Ends};
 ghost use Rattle.strm_c.specs.Limits.{WithinLimits, is_past_of};
-ghost use Rattle.strm_c.specs.Making.{AnswersMaking};
+ghost use Rattle.strm_c.specs.Making.{AnswersBetween};
 ghost use Rattle.strm_c.specs.Named.{AnswersMove};
 ghost use Rattle.strm_c.specs.Payloads.{type_at};
 ghost use Rattle.strm_c.specs.Statuses.{AnswersCall, AnswersOf, AnswersOfOr, no_memory};
 
 use crate::exports::pairs::{StrmPair, pair};
 use crate::handles::StoreHandle;
-use crate::payloads::{payload_at, type_at};
+use crate::payloads::{payload_at, scalar_type_at, type_at};
 use crate::statuses::{GUEST_LIMIT, NO_STORE, Status, UNKNOWN_PAYLOAD, done, number};
 
 /// Makes a stream or future from one guest to another, which may be the same, and puts the handles of its
@@ -32,18 +31,41 @@ pub extern "C" fn strm_new_between(
     ty: u64,
     out: &mut StrmPair,
 ) -> Status
-    ensures answers { WithinLimits store.old store.new
-        (is_past_of store.old (type_at ty) (λ s limits. is_pair_past s limits writer reader))
-        result 0 0
-        (AnswersMaking store.old.state (type_at ty)
-        (λ n s ty. reacts_at n s (steps.Between writer reader ty))
-        result out.old out.new store.new.state) }
+    ensures answers { AnswersBetween store.old store.new writer reader (type_at ty)
+        result out.old out.new }
+    ensures kept { result ≢ 0 → out.new ≡ out.old }
+{
+    let Some(ty) = scalar_type_at(ty) else {
+        return between_apart(store, writer, reader, ty, out);
+    };
+    let Some(store) = store.limited_mut() else {
+        return NO_STORE;
+    };
+    let Ok(answer) = store.new_between(writer, reader, ty) else {
+        return GUEST_LIMIT;
+    };
+    pair(answer, out)
+}
+
+// The same of any word, apart from the code for scalars.
+#[tactic(auto, using(crate::proofs::MakingLemmas::is_made))]
+#[cold]
+#[inline(never)]
+fn between_apart(
+    store: &mut StoreHandle,
+    writer: u32,
+    reader: u32,
+    word: u64,
+    out: &mut StrmPair,
+) -> Status
+    ensures answers { AnswersBetween store.old store.new writer reader (type_at word)
+        result out.old out.new }
     ensures kept { result ≢ 0 → out.new ≡ out.old }
 {
     let Some(store) = store.limited_mut() else {
         return NO_STORE;
     };
-    let Some(ty) = type_at(ty) else {
+    let Some(ty) = type_at(word) else {
         return UNKNOWN_PAYLOAD;
     };
     let Ok(answer) = store.new_between(writer, reader, ty) else {
