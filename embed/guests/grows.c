@@ -4,7 +4,7 @@
 #include <stdlib.h>
 #include <unistd.h>
 
-#include "wasm2c.h"
+#include "program.h"
 
 #include "growing.wasm.h"
 
@@ -13,25 +13,6 @@ CANON_STREAM(u8, STRM_U8)
 WASM2C_MODULE(growing)
 
 enum { GUESTS = 3, GIB = 1 << 30 };
-
-static void must(bool holds, const char *what) {
-    if (holds) return;
-    fprintf(stderr, "grows: %s\n", what);
-    exit(1);
-}
-
-static wasm2c_guest *guest_of(embedder *all) {
-    wasm2c_guest *guest = wasm2c_new(all, &growing);
-    must(guest != NULL, "no guest");
-    return guest;
-}
-
-static strm_pair between(embedder *all, const wasm2c_guest *writer, const wasm2c_guest *reader) {
-    strm_pair ends;
-    strm_status status = strm_new_between(&all->store, writer->base.number, reader->base.number, STRM_U8, &ends);
-    must(status == STRM_DONE, "no stream");
-    return ends;
-}
 
 /* While it runs the store has a guest's memory where it lies, and as long as it is. */
 static void must_have(const wasm2c_guest *guest) {
@@ -65,8 +46,9 @@ static void run_line(uint32_t size) {
     wasm2c_guest *guests[GUESTS];
     uint32_t grown = 0, moved = 0;
     must(strm_store_new(&all.store, 1, 100, 100) == STRM_DONE, "no store");
-    for (int k = 0; k < GUESTS; k++) guests[k] = guest_of(&all);
-    strm_pair first = between(&all, guests[0], guests[1]), second = between(&all, guests[1], guests[2]);
+    for (int k = 0; k < GUESTS; k++) guests[k] = guest_of(&all, &growing);
+    strm_pair first = between(&guests[0]->base, &guests[1]->base, STRM_U8);
+    strm_pair second = between(&guests[1]->base, &guests[2]->base, STRM_U8);
     guest_run(&guests[0]->base, 0, first.write, size);
     guest_run(&guests[1]->base, first.read, second.write, size);
     guest_run(&guests[2]->base, second.read, 0, size);
@@ -108,7 +90,7 @@ static void run_wide(uint32_t lives) {
     must(strm_store_new(&all.store, 1, 100, 100) == STRM_DONE, "no store");
     long before = resident(), most = 0;
     for (uint32_t life = 0; life < lives; life++) {
-        wasm2c_guest *wide = guest_of(&all);
+        wasm2c_guest *wide = guest_of(&all, &growing);
         must(wasm2c_enter(wide, widen, &pages), "it trapped");
         must_have(wide);
         must(wide->memory->size > GIB && wide->base.number == 0, "another size or number");

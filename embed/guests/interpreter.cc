@@ -1,11 +1,13 @@
 /* The same guests under an engine that takes no memory of another's, wabt's interpreter:
 
      interpreter line BYTES SOURCE.wasm FILTER.wasm SINK.wasm HOSTILE.wasm
+     interpreter growing BYTES GROWING.wasm
      interpreter samples COUNT METER.wasm TALLY.wasm
      interpreter letters LETTERS.wasm
 
    The first passes so many bytes on through a line of three, beside guests that call all they can at random, each under
-   the number of the one before; in the last a guest writes a letter that is none. */
+   the number of the one before; the second through three whose memories grow, and move, while their reads and writes
+   wait; in the last a guest writes a letter that is none. */
 #include <wabt/binary-reader.h>
 #include <wabt/interp/binary-reader-interp.h>
 #include <wabt/interp/interp.h>
@@ -13,14 +15,13 @@
 #include <cstdio>
 #include <cstdlib>
 #include <fstream>
-#include <functional>
 #include <iterator>
 #include <map>
 #include <memory>
 #include <string>
 #include <vector>
 
-#include "buffered.h"
+#include "builtins.h"
 
 namespace interp = wabt::interp;
 
@@ -30,90 +31,6 @@ void must(bool holds, const std::string &what) {
     if (holds) return;
     std::fprintf(stderr, "interpreter: %s\n", what.c_str());
     std::exit(1);
-}
-
-/* THE BUILT-INS: of how many words each is, how many it answers, and its call of the store. */
-
-struct Builtin {
-    size_t params, results;
-    std::function<strm_status(buffered_guest *, const uint32_t *words, uint32_t *out)> call;
-};
-
-strm_status make_ends(guest *g, strm_type type, uint32_t *out) {
-    strm_pair pair{};
-    strm_payload payload = type & ~STRM_FUTURE;
-    strm_store *store = &g->embedder->store;
-    strm_status status = (type & STRM_FUTURE ? strm_future_new : strm_stream_new)(store, g->number, payload, &pair);
-    out[0] = pair.read;
-    out[1] = pair.write;
-    return status;
-}
-
-/* Those of streams, or of futures, of a payload. */
-std::map<std::string, Builtin> builtins_of(strm_type type) {
-    bool is_future = (type & STRM_FUTURE) != 0;
-    strm_payload payload = type & ~STRM_FUTURE;
-    auto drop_readable = is_future ? strm_future_drop_readable : strm_stream_drop_readable;
-    auto drop_writable = is_future ? strm_future_drop_writable : strm_stream_drop_writable;
-    size_t operands = is_future ? 2 : 3;
-    return {
-        {"new", {0, 2, [=](auto *g, auto *, auto *out) { return make_ends(&g->base, type, out); }}},
-        {"read", {operands, 1, [=](auto *g, auto *w, auto *out) {
-             return buffered_read(g, type, w[0], w[1], is_future ? 1 : w[2], out);
-         }}},
-        {"write", {operands, 1, [=](auto *g, auto *w, auto *out) {
-             return buffered_write(g, type, w[0], w[1], is_future ? 1 : w[2], out);
-         }}},
-        {"cancel-read", {1, 1, [=](auto *g, auto *w, auto *out) { return buffered_cancel_read(g, type, w[0], out); }}},
-        {"cancel-write", {1, 1, [=](auto *g, auto *w, auto *out) { return buffered_cancel_write(g, type, w[0], out); }}},
-        {"drop-readable", {1, 0, [=](auto *g, auto *w, auto *) {
-             return drop_readable(&g->base.embedder->store, g->base.number, payload, w[0]);
-         }}},
-        {"drop-writable", {1, 0, [=](auto *g, auto *w, auto *) {
-             return drop_writable(&g->base.embedder->store, g->base.number, payload, w[0]);
-         }}},
-    };
-}
-
-const std::map<std::string, Builtin> other_builtins = {
-    {"waitable-set.new", {0, 1, [](auto *g, auto *, auto *out) {
-         return strm_set_new(&g->base.embedder->store, g->base.number, out);
-     }}},
-    {"waitable-set.poll", {2, 1, [](auto *g, auto *w, auto *out) { return buffered_poll(g, w[0], w[1], out); }}},
-    {"waitable-set.drop", {1, 0, [](auto *g, auto *w, auto *) {
-         return strm_set_drop(&g->base.embedder->store, g->base.number, w[0]);
-     }}},
-    {"waitable.join", {2, 0, [](auto *g, auto *w, auto *) {
-         return strm_set_join(&g->base.embedder->store, g->base.number, w[1], w[0]);
-     }}},
-    {"error-context.new", {2, 1, [](auto *g, auto *w, auto *out) {
-         return buffered_error_context_new(g, w[0], w[1], out);
-     }}},
-    {"error-context.drop", {1, 0, [](auto *g, auto *w, auto *) {
-         return strm_error_context_drop(&g->base.embedder->store, g->base.number, w[0]);
-     }}},
-};
-
-/* What guests call the payloads of their streams and futures. */
-const std::map<std::string, strm_payload> payloads = {
-    {"bool", STRM_BOOL}, {"s8", STRM_S8}, {"u8", STRM_U8}, {"s16", STRM_S16}, {"u16", STRM_U16}, {"s32", STRM_S32},
-    {"u32", STRM_U32}, {"s64", STRM_S64}, {"u64", STRM_U64}, {"char", STRM_CHAR},
-    {"sample", STRM_TUPLE | STRM_FIELD(0, STRM_U8) | STRM_FIELD(1, STRM_U32)},
-};
-
-/* The built-in of a name, as stream<u8>.read. */
-Builtin builtin(const std::string &name) {
-    size_t open = name.find('<'), close = name.find(">.");
-    if (close == std::string::npos) {
-        must(other_builtins.count(name) != 0, "no built-in " + name);
-        return other_builtins.at(name);
-    }
-    std::string kind = name.substr(0, open), item = name.substr(open + 1, close - open - 1);
-    std::string what = name.substr(close + 2);
-    must((kind == "stream" || kind == "future") && payloads.count(item) != 0, "no type of " + name);
-    auto builtins = builtins_of(payloads.at(item) | (kind == "future" ? STRM_FUTURE : 0));
-    must(builtins.count(what) != 0, "no built-in " + name);
-    return builtins.at(what);
 }
 
 /* GUESTS */
@@ -160,7 +77,9 @@ const engine interpreter = {run, callback, buffered_settle};
 
 /* What the engine calls for an import. What is refused traps the guest, and nothing else. */
 interp::HostFunc::Ptr import(Instance *guest, const std::string &name) {
-    Builtin of = builtin(name);
+    std::optional<Builtin<buffered_guest>> found = builtin_of<buffered_guest>(name);
+    must(found.has_value(), "no built-in " + name);
+    Builtin<buffered_guest> of = *found;
     interp::ValueTypes params(of.params, wabt::Type::I32), results;
     if (of.results > 0) results.push_back(of.results == 1 ? wabt::Type::I32 : wabt::Type::I64);
     auto call = [guest, of](interp::Thread &thread, const interp::Values &given, interp::Values &answer,
@@ -302,6 +221,31 @@ void run_line(const std::vector<std::string> &paths, uint32_t size) {
     hold(world.guests[2].get(), size);
 }
 
+/* What a source of these writes, and what a filter makes of it, as a hash. */
+uint32_t hash_of(uint32_t size, uint8_t with) {
+    uint32_t hash = 0;
+    for (uint32_t k = 0; k < size; k++) hash = hash * 31 + (static_cast<uint8_t>((k * 2654435761u) >> 24) ^ with);
+    return hash;
+}
+
+void run_growing(const std::string &path, uint32_t size) {
+    World world({path, path, path});
+    strm_pair first = world.between(0, 1, STRM_U8), second = world.between(1, 2, STRM_U8);
+    guest_run(world.of(0), 0, first.write, size);
+    guest_run(world.of(1), first.read, second.write, size);
+    guest_run(world.of(2), second.read, 0, size);
+    while (world.turn(3)) continue;
+    world.must_have_ended(3);
+    uint32_t grown = 0, hash = hash_of(size, 0x5a);
+    for (const auto &guest : world.guests) {
+        must(ask<uint32_t>(guest.get(), "done") == size, "another count");
+        grown += ask<uint32_t>(guest.get(), "grown");
+    }
+    must(ask<uint32_t>(world.guests[1].get(), "hash") == hash_of(size, 0), "other bytes to the filter");
+    must(ask<uint32_t>(world.guests[2].get(), "hash") == hash, "other bytes to the sink");
+    std::printf("%u bytes, hash %08x, through three guests whose memories grew %u times\n", size, hash, grown);
+}
+
 void run_samples(const std::vector<std::string> &paths, uint32_t count) {
     World world(paths);
     strm_pair samples = world.between(0, 1, payloads.at("sample"));
@@ -330,14 +274,17 @@ void run_letters(const std::string &path) {
 
 int main(int count, char **words) {
     std::vector<std::string> all(words + 1, words + count);
-    bool is_line = all.size() == 6 && all[0] == "line", is_samples = all.size() == 4 && all[0] == "samples";
-    must(is_line || is_samples || (all.size() == 2 && all[0] == "letters"),
-         "want line BYTES and four modules, samples COUNT and two, or letters and one");
-    if (!is_line && !is_samples) {
+    std::string what = all.empty() ? "" : all[0];
+    uint32_t size = all.size() > 2 ? static_cast<uint32_t>(std::strtoul(words[2], nullptr, 10)) : 0;
+    if (what == "line" && all.size() == 6)
+        run_line({all.begin() + 2, all.end()}, size);
+    else if (what == "growing" && all.size() == 3)
+        run_growing(all[2], size);
+    else if (what == "samples" && all.size() == 4)
+        run_samples({all.begin() + 2, all.end()}, size);
+    else if (what == "letters" && all.size() == 2)
         run_letters(all[1]);
-        return 0;
-    }
-    uint32_t size = static_cast<uint32_t>(std::strtoul(words[2], nullptr, 10));
-    (is_line ? run_line : run_samples)({all.begin() + 2, all.end()}, size);
+    else
+        must(false, "want line BYTES and four modules, growing BYTES and one, samples COUNT and two, or letters and one");
     return 0;
 }

@@ -8,7 +8,7 @@
 #include <string.h>
 #include <time.h>
 
-#include "wasm2c.h"
+#include "program.h"
 
 #include "broken.wasm.h"
 #include "filter.wasm.h"
@@ -39,26 +39,7 @@ typedef struct {
     uint32_t streams[GUESTS - 1];
 } line;
 
-static void must(bool holds, const char *what) {
-    if (holds) return;
-    fprintf(stderr, "guests: %s\n", what);
-    exit(1);
-}
-
 static guest *of(const line *line, int k) { return &line->guests[k]->base; }
-
-static wasm2c_guest *guest_of(embedder *all, const wasm2c_module *module) {
-    wasm2c_guest *guest = wasm2c_new(all, module);
-    must(guest != NULL, "no guest");
-    return guest;
-}
-
-static strm_pair between(const guest *writer, const guest *reader, strm_type type) {
-    strm_pair ends;
-    strm_store *store = &writer->embedder->store;
-    must(strm_new_between(store, writer->number, reader->number, type, &ends) == STRM_DONE, "no stream");
-    return ends;
-}
 
 /* Three guests in a line, in a store of their own, about to pass on so many bytes. */
 static void begin(line *line, const wasm2c_module *const modules[GUESTS], uint32_t size) {

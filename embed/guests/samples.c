@@ -1,9 +1,8 @@
 /* Two guests with a stream of tuples between them, and a future by which the reader answers: what it takes to run
    modules of one's own. */
 #include <stdio.h>
-#include <stdlib.h>
 
-#include "wasm2c.h"
+#include "program.h"
 
 #include "meter.wasm.h"
 #include "tally.wasm.h"
@@ -14,25 +13,6 @@ CANON_FUTURE(u64, STRM_U64)
 
 WASM2C_MODULE(meter)
 WASM2C_MODULE(tally)
-
-static void must(bool holds, const char *what) {
-    if (holds) return;
-    fprintf(stderr, "samples: %s\n", what);
-    exit(1);
-}
-
-static wasm2c_guest *guest_of(embedder *all, const wasm2c_module *module) {
-    wasm2c_guest *guest = wasm2c_new(all, module);
-    must(guest != NULL, "no guest");
-    return guest;
-}
-
-static strm_pair between(const guest *writer, const guest *reader, strm_type type) {
-    strm_pair ends;
-    strm_store *store = &writer->embedder->store;
-    must(strm_new_between(store, writer->number, reader->number, type, &ends) == STRM_DONE, "no stream");
-    return ends;
-}
 
 int main(void) {
     embedder all = {.count = 0};
