@@ -16,27 +16,6 @@ use strm_sys as sys;
 
 const RUNS: usize = 61;
 
-#[repr(C)]
-struct Time {
-    seconds: i64,
-    nanoseconds: i64,
-}
-
-unsafe extern "C" {
-    fn clock_gettime(clock: i32, time: *mut Time) -> i32;
-}
-
-// The processor time of this thread (CLOCK_THREAD_CPUTIME_ID of Linux), in nanoseconds.
-fn spent() -> i64 {
-    let mut time = Time {
-        seconds: 0,
-        nanoseconds: 0,
-    };
-    // SAFETY: the time is this function's own.
-    unsafe { clock_gettime(3, &mut time) };
-    time.seconds * 1_000_000_000 + time.nanoseconds
-}
-
 /// The archive, by its calls.
 struct Archive {
     store: sys::StoreHandle,
@@ -151,12 +130,12 @@ impl Rounds for Proved {
 
 // Nanoseconds of one round, of so many: of so many items, or of a stream that is made and dropped.
 fn timed(store: &mut impl Rounds, rounds: u32, count: Option<u32>) -> f64 {
-    let from = spent();
+    let from = clock::of_thread();
     match count {
         Some(count) => (0..rounds).for_each(|k| store.round(black_box(k % 4096 * 8), black_box(count))),
         None => (0..rounds).for_each(|_| store.make_and_drop()),
     }
-    (spent() - from) as f64 / f64::from(rounds)
+    (clock::of_thread() - from).as_nanos() as f64 / f64::from(rounds)
 }
 
 fn median(mut figures: Vec<f64>) -> f64 {

@@ -1,8 +1,8 @@
 //! Guests that begin and end, one after the other in one store, each with a stream to the next.
 
-use crate::process::{processor_time, resident};
-use crate::Course;
-use strm::{Code, Error, Guest, Limits, Memory, Pair, Payload, Store, Type};
+use crate::process::resident;
+use crate::{two_guests, Course};
+use strm::{Code, Error, Guest, Memory, Pair, Payload, Store, Type};
 
 /// How many bytes each guest's memory has.
 const SIZE: usize = 256 * 1024;
@@ -27,8 +27,7 @@ struct Lives {
 
 impl Lives {
     fn new() -> Result<Lives, Error> {
-        let mut store = Store::new(0, Limits { handles: 10, places: 10 })?;
-        let (older, younger) = (store.add_guest(SIZE as u32)?, store.add_guest(SIZE as u32)?);
+        let (mut store, older, younger) = two_guests(SIZE as u32)?;
         let stream = store.new_between(older, younger, Type::Stream(BYTES))?;
         Ok(Lives { store, older, younger, stream, ended: 0 })
     }
@@ -94,11 +93,11 @@ pub fn run(count: u64) -> Result<Course, Error> {
     let tenth = (count / 60).max(1) * 6;
     let (mut figures, mut times) = (Vec::new(), Vec::new());
     for _ in 0..10 {
-        let begun = processor_time();
+        let begun = clock::of_process();
         for _ in 0..tenth {
             lives.next()?;
         }
-        let each = (processor_time() - begun).as_secs_f64() * 1e6 / tenth as f64;
+        let each = (clock::of_process() - begun).as_secs_f64() * 1e6 / tenth as f64;
         println!("{} guests have ended, {each:.1} us each, {} kB resident", lives.ended, resident());
         figures.push(resident());
         times.push(each);

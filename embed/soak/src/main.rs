@@ -15,7 +15,7 @@ mod streams;
 
 use std::process::ExitCode;
 use std::time::Duration;
-use strm::Error;
+use strm::{Error, Guest, Limits, Store};
 
 /// By how many kB a process may seem to grow that keeps nothing: pages of the allocator's and of its own.
 const MOST_GROWTH: u64 = 512;
@@ -35,6 +35,13 @@ impl Course {
     fn is_flat(&self) -> bool {
         self.grown <= MOST_GROWTH && self.slower <= MOST_SLOWER
     }
+}
+
+/// A store of two guests with so many bytes each, with room for what the few streams between them take.
+fn two_guests(size: u32) -> Result<(Store, Guest, Guest), Error> {
+    let mut store = Store::new(0, Limits { handles: 10, places: 10 })?;
+    let (first, second) = (store.add_guest(size)?, store.add_guest(size)?);
+    Ok((store, first, second))
 }
 
 fn main() -> ExitCode {

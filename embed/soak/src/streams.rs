@@ -1,9 +1,9 @@
 //! Streams and futures, one after the other in one store, each of them used.
 
 use crate::process::resident;
-use crate::Course;
+use crate::{two_guests, Course};
 use std::time::Instant;
-use strm::{Code, Error, Guest, Limits, Payload, Store, Type};
+use strm::{Code, Error, Guest, Payload, Store, Type};
 
 /// So many are made before growth is looked at.
 const FIRST: u64 = 1000;
@@ -16,8 +16,7 @@ struct Guests {
 
 impl Guests {
     fn new() -> Result<Guests, Error> {
-        let mut store = Store::new(0, Limits { handles: 10, places: 10 })?;
-        let (writer, reader) = (store.add_guest(4096)?, store.add_guest(4096)?);
+        let (mut store, writer, reader) = two_guests(4096)?;
         store.memory_mut(writer)?.fill(7);
         Ok(Guests { store, writer, reader })
     }
