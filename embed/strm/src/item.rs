@@ -8,8 +8,8 @@ use crate::{Payload, Scalar};
 /// values and nothing worse. It is there for nothing `()`, `bool`, the integers of 8 to 64 bits, `char`, and tuples
 /// of one to eight of these scalars.
 ///
-/// A type composed of others needs no more than their [`SIZE`](Item::SIZE), [`put`](Item::put) and
-/// [`get`](Item::get); this is a record, as a macro would write it:
+/// A record of scalars is one by [`record!`](crate::record). Another type composed of others needs no more than their
+/// [`SIZE`](Item::SIZE), [`put`](Item::put) and [`get`](Item::get), as here a record by hand:
 ///
 /// ```
 /// use strm::{Field, Item, Payload};

@@ -74,6 +74,7 @@ mod memory;
 mod numbers;
 mod owned;
 mod payload;
+mod record;
 mod rooms;
 mod set_wait;
 mod share;
