@@ -80,7 +80,7 @@ module _ (guests : List Guest) (payload : Payload) (write : Operation) where
   region_by_size (suc w) (suc n) k e l = rw (not_zero w, not_zero n) refl
 
   -- items that the write has left lie there as at its own address
-  lifted_region : (k : ℕ) → k ≤ write.left → items_in ss memory (region_address payload write) k ≡ lifted_items guests payload write k
+  pub lifted_region : (k : ℕ) → k ≤ write.left → items_in ss memory (region_address payload write) k ≡ lifted_items guests payload write k
   lifted_region k l = ap listed (region_by_size (item_size ss) write.left k refl l)
 
   -- and one that is none as well

@@ -10,7 +10,7 @@
 pub mod pipes;
 mod reader_polls;
 pub mod reader_turns;
-mod regions;
-mod settling;
+pub mod regions;
+pub mod settling;
 mod writer_polls;
 pub mod writer_turns;

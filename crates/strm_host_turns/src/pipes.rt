@@ -49,8 +49,8 @@ fn poll_all(
     }
 }
 
-// Why an answer to such a poll, in which so many items were produced, stops the step, if it does.
-fn judge_fetch(kind: TransmitKind, answer: Answer, produced: usize) -> Result<(), WriterStops>
+/// Why an answer to the poll of a fetch, in which so many items were produced, stops the step, if it does.
+pub fn judge_fetch(kind: TransmitKind, answer: Answer, produced: usize) -> Result<(), WriterStops>
     ensures { result ≡ fetch_verdict kind answer produced }
 {
     if answer == Answer::Failed {

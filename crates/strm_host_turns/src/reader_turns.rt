@@ -39,7 +39,7 @@ pub enum ReaderStops {
 
 /// Why a poll with this record stops the step, if it does.
 #[inline(always)]
-pub(crate) fn judge_reader(kind: TransmitKind, said: &ReaderSaid) -> Result<(), ReaderStops>
+pub fn judge_reader(kind: TransmitKind, said: &ReaderSaid) -> Result<(), ReaderStops>
     ensures { result ≡ reader_verdict kind said.now }
 {
     if said.answer == Answer::Failed {
@@ -56,7 +56,7 @@ pub(crate) fn judge_reader(kind: TransmitKind, said: &ReaderSaid) -> Result<(), 
 
 /// How many items were taken since the host reader was last ready, once it took so many more and
 /// answered so.
-pub(crate) fn since_after(answer: Answer, since: u32, taken: u32) -> u32
+pub fn since_after(answer: Answer, since: u32, taken: u32) -> u32
     ensures { result ≡ since_after answer since taken }
 {
     match answer {

@@ -19,9 +19,9 @@ use strm_channels::guests::{Guest, put_memory, take_memory};
 use strm_codes::payloads::Payload;
 use strm_machine::streams::Operation;
 
-// Where the next items of a read or write lie. Those that take no bytes lie anywhere, so at the front.
+/// Where the next items of a read or write lie. Those that take no bytes lie anywhere, so at the front.
 #[inline(always)]
-fn region_address(payload: &Payload, operation: &Operation) -> u32
+pub fn region_address(payload: &Payload, operation: &Operation) -> u32
     ensures { result ≡ region_address payload.now operation.now }
 {
     if payload.size() == 0 || operation.left.equals_u32(0) {

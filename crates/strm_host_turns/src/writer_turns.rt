@@ -40,15 +40,15 @@ pub enum WriterStops {
     Broke,
 }
 
-// Whether a writer holds items is kept of it.
-fn note_held(producer: &mut Producer, held: usize)
+/// Whether a writer holds items is kept of it.
+pub fn note_held(producer: &mut Producer, held: usize)
     ensures { producer.new ≡ record producer.old { holding = nat_lt 0 held } }
 {
     producer.holding = held > 0;
 }
 
 /// A writer that answered Dropped has no more to come, and so many items are held.
-pub(crate) fn note_answer(producer: &mut Producer, answer: Answer, held: usize)
+pub fn note_answer(producer: &mut Producer, answer: Answer, held: usize)
     ensures { producer.new ≡ record producer.old {
       over = producer.old.over || is_last answer;
       holding = nat_lt 0 held;
@@ -58,9 +58,9 @@ pub(crate) fn note_answer(producer: &mut Producer, answer: Answer, held: usize)
     note_held(producer, held);
 }
 
-// Why an answer to a poll for a read, in which so many items were produced, stops the step, if it does.
+/// Why an answer to a poll for a read, in which so many items were produced, stops the step, if it does.
 #[inline(always)]
-fn judge_writer(
+pub fn judge_writer(
     kind: TransmitKind,
     answer: Answer,
     read: &Operation,
@@ -114,9 +114,9 @@ fn hand_over(
     );
 }
 
-// A writer that has no more to come, and holds nothing, is gone.
+/// A writer that has no more to come, and holds nothing, is gone.
 #[inline(always)]
-fn end_read(stream: &mut Channel, read: Operation)
+pub fn end_read(stream: &mut Channel, read: Operation)
     requires waiting { stream.old.reader.operation ≡ Some read }
     requires open { read.is_open ≡ true }
     requires counted { read.moved + read.left < 2 ^ 28 }
