@@ -8,7 +8,7 @@ use Rattle.strm_handles.specs.Handles.{next_index}
 use Rattle.strm_machine.specs.State.{State, guest_in, no_stream, producer_at, consumer_at, places_in_use}
 use Rattle.strm_machine.specs.Soundness.{IsSound, own_sizes_of}
 use Rattle.strm_machine.specs.Sides.{end_of}
-use Rattle.strm_machine.specs.Making.{with_ends, made_stream, writer_index}
+use Rattle.strm_machine.specs.Making.{with_ends, with_read_end, made_stream, writer_index}
 use Rattle.strm_machine.specs.Refusals.{refusal}
 use Rattle.strm_machine.specs.Tests.{is_unknown_guest, is_no_handle, are_handles_full, are_places_full, are_streams_full}
 use Rattle.strm_machine.specs.Reactions.{Reaction, goes, performs}
@@ -35,13 +35,15 @@ use Rattle.strm_transmit.specs.Meets.{Meets, admitted, or_found}
 use Rattle.strm_transmit.specs.Places.{IsGone, ArePlaces}
 use Rattle.strm_transmit.specs.declared.errors.StoreError.{StoreError}
 use Rattle.strm_transmit.specs.declared.errors.StoreError.TheVariants as errors
-use Rattle.strm_transmit.specs.Telling.{Retells, member_of}
+use Rattle.strm_transmit.specs.ReadyGuests.{Retold}
+use Rattle.strm_transmit.specs.Telling.{member_of}
 use Rattle.strm_transmit.specs.declared.store.Store.TheInside.{Inside}
 use Rattle.strm_transmit.proofs.MakingLemmas.{nobodys, stream_made, numbers_of, as_pair, own_sizes-made, sets-made, members-made}
 use Rattle.strm_transmit.proofs.ServedLemmas.{AreServed-set}
 use Rattle.strm_transmit.proofs.StepLemmas.{IsAdmitted, meets_not_admitted}
 use Rattle.strm_transmit.proofs.StoreLemmas.{SameBut, Agrees, IsStore-counted}
 use Rattle.strm_transmit.proofs.ToldLemmas.{but-besides, besides-set, told-retold}
+use Rattle.strm_transmit.proofs.ReadyGuestLemmas.{counted-retold}
 
 -- a stream in the place of one that is gone, with its two ends in their guests' tables
 pub record MakesAgain (old new : Inside) (n writer reader : ℕ) (ty : TransmitIndex) : Type 0 where
@@ -54,7 +56,7 @@ pub record MakesAgain (old new : Inside) (n writer reader : ℕ) (ty : TransmitI
   pub places : ArePlaces new.places new.streams.items
   pub guests : guests_of new.guests.items ≡ with_ends (guests_of old.guests.items) writer reader ty n
   pub streams : new.streams.items ≡ set old.streams.items n (stream_made old writer reader ty)
-  pub retold : Retells (guests_of new.guests.items) (stream_made old writer reader ty) old.ready.items new.ready.items
+  pub retold : Retold (guests_of new.guests.items) n (stream_made old writer reader ty) old.ready new.ready
 
 -- the place is free
 pub free_of : (old : Inside) (n : ℕ) → IsGone old.streams.items n → IsFree (state_of old).streams n
@@ -87,9 +89,12 @@ module _ (old new : Inside) (n writer reader : ℕ) (ty : TransmitIndex) (h : Ma
       record {
         held = held;
         told = rw h.streams
-            (told-retold (guests_of new.guests.items) (set old.streams.items n made) n (rw h.streams at held) old.ready.items new.ready.items made (get_or-set_same old.streams.items n made no_stream h.gone.made)
-            (but-besides guests (guests_of new.guests.items) old.streams.items (set old.streams.items n made) n old.ready.items (λ k number handle. ap (λ (x : _). member_of x k number handle) h.guests ∙ members-made guests writer reader ty n k number handle) (besides-set old.streams.items n made) i.told)
-            h.retold);
+            (told-retold (guests_of new.guests.items) (set old.streams.items n made) n (rw h.streams at held) old.ready.sets new.ready.sets made (get_or-set_same old.streams.items n made no_stream h.gone.made)
+            (but-besides guests (guests_of new.guests.items) old.streams.items (set old.streams.items n made) n old.ready.sets (λ k number handle. ap (λ (x : _). member_of x k number handle) h.guests ∙ members-made guests writer reader ty n k number handle) (besides-set old.streams.items n made) i.told)
+            h.retold.sets);
+        ready_counted = rw h.streams
+            (counted-retold guests (guests_of new.guests.items) (guests_of new.guests.items) old.streams.items n made old.ready new.ready
+            (ap length h.guests ∙ length-set (with_read_end guests reader ty n) writer _ ∙ length-set guests reader _) h.retold i.ready_counted);
       }
 
   -- no host end serves a stream, so none served that which is gone

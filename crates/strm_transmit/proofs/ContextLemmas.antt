@@ -1,6 +1,6 @@
 -- The store after an error context was made, told, shared or dropped; and the walk of the lowering of
 -- one, which is no step.
-use Rattle.std.proofs.Common.{◌≡◌, ℕ, ◌<◌, ◌≤◌, length, Option, None, Result, Ok, Err, refl, sym, ap, subst, ◌∙◌, arith}
+use Rattle.std.proofs.Common.{◌≡◌, ℕ, ◌<◌, ◌≤◌, length, Option, None, Result, Ok, Err, refl, sym, ap, subst, ◌∙◌, arith, length-set}
 use Rattle.std.specs.Prelude.{OnOk, OnErr}
 use Rattle.strm_codes.specs.declared.counts.OutOfMemory.{OutOfMemory}
 use Rattle.strm_codes.specs.declared.refusals.Refusal.{Refusal}
@@ -29,6 +29,7 @@ use Rattle.strm_transmit.proofs.StepLemmas.{is_admitted, not_admitted}
 use Rattle.strm_transmit.proofs.StoreLemmas.{PutsBytes, sets-with_table, IsCounted, more_counted, kept_tables, kept_streams, Agrees, agrees_still, IsStore-counted}
 use Rattle.strm_transmit.proofs.ToldLemmas.{members-with_table, told-same}
 use Rattle.strm_machine.proofs.HeldLemmas.{StateIsHeld}
+use Rattle.strm_transmit.proofs.ReadyGuestLemmas.{counted-alike}
 
 -- all but guests, error contexts and the handles' counter stays
 pub record KeepsRest (old new : Inside) : Type 0 where
@@ -62,7 +63,8 @@ module _ (old new : Inside) (g : ℕ) (handles : Handles) (contexts : Contexts) 
       let guests = guests_of old.guests.items in
       record {
         held = subst StateIsHeld (sym state_of-contexts) held;
-        told = rw (k.streams, k.ready, h.guests) (told-same guests (with_handles guests g handles) old.streams.items old.ready.items (members-with_table guests g handles (sets_in guests g) (λ n q. refl)) i.told);
+        told = rw (k.streams, k.ready, h.guests) (told-same guests (with_handles guests g handles) old.streams.items old.ready.sets (members-with_table guests g handles (sets_in guests g) (λ n q. refl)) i.told);
+        ready_counted = rw (k.streams, k.ready, h.guests) (counted-alike guests (with_handles guests g handles) old.streams.items old.streams.items old.ready (length-set guests g _) refl i.ready_counted);
       }
 
   pub IsStore-contexts : IsCounted new → IsSound then → StateIsHeld then → IsStore old → IsStore new

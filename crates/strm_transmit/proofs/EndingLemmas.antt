@@ -31,11 +31,11 @@ use Rattle.strm_machine.proofs.SideLemmas.{same_side_is, StreamKeeps}
 use Rattle.strm_machine.proofs.SoundLemmas.{placed_at}
 use Rattle.strm_channels.specs.Guests.{guests_of, removable}
 use Rattle.strm_transmit.specs.Inside.{state_of, IsStore}
-use Rattle.strm_transmit.specs.Telling.{Retells}
 use Rattle.strm_transmit.specs.declared.store.Store.TheInside.{Inside}
 use Rattle.strm_transmit.proofs.PlaceLemmas.{held_live}
 use Rattle.strm_transmit.proofs.StoreLemmas.{SameBut, IsStore-turn}
 use Rattle.strm_machine.proofs.TurnLemmas.{all_kept}
+use Rattle.strm_transmit.specs.ReadyGuests.{Retold}
 
 -- a stream became another, and nothing else changed
 pub record SetsStream (old new : Inside) (s : ℕ) (stream : Stream) : Type 0 where
@@ -46,7 +46,7 @@ pub record SetsStream (old new : Inside) (s : ℕ) (stream : Stream) : Type 0 wh
   pub live_sets : new.live_sets ≡ old.live_sets
   pub bytes : new.bytes ≡ old.bytes
   pub streams : new.streams.items ≡ set old.streams.items s stream
-  pub retold : Retells (guests_of old.guests.items) stream old.ready.items new.ready.items
+  pub retold : Retold (guests_of old.guests.items) s stream old.ready new.ready
 
 -- the turn of a stream that became another, with all guests as they were
 abbrev set_turn : List machine.Guest → Stream → Operated

@@ -36,8 +36,8 @@ use Rattle.strm_transmit.proofs.ServedLemmas.{at_set, same_stream, same_host, se
 use Rattle.strm_transmit.proofs.FitsLemmas.{AreMade, Fits-told, Fits-told_reader}
 use Rattle.strm_transmit.proofs.StepLemmas.{is_admitted}
 use Rattle.strm_transmit.proofs.HostStepLemmas.{does_admitted, Does-after, Fits-after, all_stays, unchanged}
-use Rattle.strm_transmit.proofs.StoreLemmas.{kept_tables, Agrees, agrees_still, IsStore-counted, IsSound-same}
-use Rattle.strm_transmit.proofs.ToldLemmas.{but-besides, besides-push, told-unheld, IsHeld-push}
+use Rattle.strm_transmit.proofs.StoreLemmas.{kept_tables, Agrees, agrees_room, IsStore-counted, IsSound-same}
+use Rattle.strm_transmit.proofs.ToldLemmas.{but-besides, besides-push, told-retold, IsHeld-push}
 use Rattle.strm_machine.proofs.HeldLemmas.{IsHeld}
 use Rattle.std.proofs.lemmas.List.{get_or_past, get_or_push, map-append}
 use Rattle.std.proofs.lemmas.List.Elements.{All-push, All-weaker}
@@ -59,6 +59,8 @@ use Rattle.strm_transmit.specs.Places.{ArePlaces}
 use Rattle.strm_transmit.specs.Keeping.{HasGrown, PlaceMade}
 use Rattle.strm_transmit.proofs.KeptLemmas.{have_grown, have_hosted, view_made}
 use Rattle.strm_transmit.specs.declared.store.Store.TheInside.{Inside}
+use Rattle.strm_transmit.specs.ReadyGuests.{SameCounts, Added}
+use Rattle.strm_transmit.proofs.ReadyGuestLemmas.{counted-added}
 
 -- ## Refusals
 
@@ -320,7 +322,7 @@ pub record HostsStream (old new : Inside) (n : ℕ) (stream : Stream) (p : Produ
   pub producers : new.producers ≡ set old.producers n p
   pub place : PlaceMade old.kept.items new.kept.items n stream.payload
   pub consumers : new.consumers ≡ old.consumers
-  pub ready : new.ready ≡ old.ready
+  pub added : Added (guests_of old.guests.items) stream old.ready new.ready
 
 state_of-hosted : (old new : Inside) (n : ℕ) (stream : Stream) (p : Producer) → HostsStream old new n stream p → padded_items new.kept.items ≡ padded_items old.kept.items → state_of new ≡ record (state_of old) { streams = old.streams.items ++ stream ∷ []; producers = set old.producers n p }
 state_of-hosted old new n stream p h k = rw (h.tag, h.limits, h.contexts, h.trapped, h.guests, h.streams, h.producers, h.consumers, k) refl
@@ -353,10 +355,11 @@ agrees_hosted old new n stream p h i =
     let held : IsHeld guests more = IsHeld-push guests old.streams.items stream unheld i.held in
     record {
       held = rw (h.guests, h.streams) held;
-      told = rw (h.guests, h.streams, h.ready)
-          (told-unheld guests more s held old.ready.items
-          (λ side. ap (λ (x : Stream). is_held (end_of side x).owner) (get_or_push old.streams.items stream no_stream s refl) ∙ unheld side)
-          (but-besides guests guests old.streams.items more s old.ready.items (λ _ _ _. refl) (besides-push old.streams.items stream) i.told));
+      told = rw (h.guests, h.streams)
+          (told-retold guests more s held old.ready.sets new.ready.sets stream (get_or_push old.streams.items stream no_stream s refl)
+          (but-besides guests guests old.streams.items more s old.ready.sets (λ _ _ _. refl) (besides-push old.streams.items stream) i.told)
+          h.added.sets);
+      ready_counted = rw (h.guests, h.streams) (counted-added guests guests guests old.streams.items stream old.ready new.ready refl h.added i.ready_counted);
     }
   where
     unheld : (side : Side) → is_held (end_of side stream).owner ≡ false
@@ -396,7 +399,8 @@ pub record GrowsPlaces (old new : Inside) : Type 0 where
   pub producers : new.producers ≡ old.producers
   pub consumers : new.consumers ≡ old.consumers
   pub grown : HasGrown old.kept.items new.kept.items
-  pub ready : new.ready ≡ old.ready
+  pub ready : new.ready.sets ≡ old.ready.sets
+  pub ready_counts : SameCounts old.ready new.ready
 
 pub IsStore-grown : (old new : Inside) → GrowsPlaces old new → IsStore old → IsStore new
 IsStore-grown old new h i =
@@ -409,7 +413,7 @@ IsStore-grown old new h i =
       few = rw h.streams i.few_streams;
     })
     (IsSound-same (state_of old) (state_of new) (ap (λ (g : _). guests_of g.items) h.guests) h.streams h.contexts i.sound)
-    (agrees_still old new (rw h.guests (all_kept (guests_of old.guests.items))) h.streams h.ready i) i
+    (agrees_room old new (rw h.guests (all_kept (guests_of old.guests.items))) h.streams h.ready h.ready_counts i) i
 
 -- a state with a stream more, which host writer n serves
 abbrev pub with_hosted : State → ℕ → Stream → Producer → State

@@ -8,6 +8,7 @@ pub mod FitsLemmas
 pub mod StillLemmas
 pub mod ForsakeLemmas
 pub mod ToldLemmas
+pub mod ReadyGuestLemmas
 pub mod HeldStoreLemmas
 pub mod PlaceLemmas
 pub mod StoreLemmas

@@ -37,6 +37,7 @@ use Rattle.strm_transmit.specs.Inside.{state_of, AreServed, IsStore}
 use Rattle.strm_transmit.specs.declared.store.Store.TheInside.{Inside}
 use Rattle.strm_transmit.proofs.StoreLemmas.{SameBut}
 use Rattle.strm_transmit.proofs.ToldLemmas.{told-same}
+use Rattle.strm_transmit.proofs.ReadyGuestLemmas.{counted-alike}
 use Rattle.strm_codes.specs.declared.refusals.Refusal.TheVariants as refusals
 use Rattle.strm_handles.specs.declared.errors.HandleError.{HandleError}
 use Rattle.strm_waitable_sets.specs.Sets.{is_member}
@@ -213,7 +214,8 @@ IsStore-replaced old new g x h r i =
     record {
       sound = rw after (IsSound-replaced (state_of old) g x r i.sound);
       held = subst StateIsHeld (sym after) (held-replaced (state_of old) g x r i.held);
-      told = rw (h.streams, h.ready, h.guests) (told-same guests (set guests g x) old.streams.items old.ready.items (λ k number handle. members-replaced guests g x r.there r.looks k number handle) i.told);
+      told = rw (h.streams, h.ready, h.guests) (told-same guests (set guests g x) old.streams.items old.ready.sets (λ k number handle. members-replaced guests g x r.there r.looks k number handle) i.told);
+      ready_counted = rw (h.streams, h.ready, h.guests) (counted-alike guests (set guests g x) old.streams.items old.streams.items old.ready (length-set guests g x) refl i.ready_counted);
       limit = rw (h.counter, h.same.limits) i.limit;
       live = rw (h.counter, h.guests) (i.live ∙ sym live);
       within = rw h.counter i.within;

@@ -1,5 +1,5 @@
 -- The store after a stream was made between two guests.
-use Rattle.std.proofs.Common.{◌≡◌, ℕ, false, ◌+◌, List, [], ◌∷◌, ◌++◌, length, refl, sym, ap, ◌∙◌, subst, None, arith, length-append}
+use Rattle.std.proofs.Common.{◌≡◌, ℕ, false, ◌+◌, List, [], ◌∷◌, ◌++◌, length, refl, sym, ap, ◌∙◌, subst, None, arith, length-append, length-set}
 use Rattle.std.proofs.lemmas.List.{get_or_push}
 use Rattle.strm_machine.specs.declared.streams.Side.{Side}
 use Rattle.strm_machine.specs.declared.streams.Side.TheVariants.{Writing, Reading}
@@ -27,9 +27,11 @@ use Rattle.strm_transmit.specs.declared.store.Store.TheInside.{Inside}
 use Rattle.strm_transmit.proofs.ServedLemmas.{AreServed-push}
 use Rattle.strm_transmit.proofs.KeptLemmas.{have_push}
 use Rattle.strm_machine.proofs.HeldLemmas.{StateIsHeld, between_held}
-use Rattle.strm_transmit.specs.Telling.{Retells, member_of}
+use Rattle.strm_transmit.specs.Telling.{member_of}
 use Rattle.strm_transmit.proofs.ToldLemmas.{SameMembers, members-with_table, but-besides, besides-push, told-retold}
 use Rattle.strm_transmit.proofs.StoreLemmas.{SameBut, sets-with_table, Agrees, IsStore-counted}
+use Rattle.strm_transmit.specs.ReadyGuests.{Added}
+use Rattle.strm_transmit.proofs.ReadyGuestLemmas.{counted-added}
 
 -- neither end is a host end's
 pub nobodys : (stream : Stream) → machine.is_host stream.writer.owner ≡ false → machine.is_host stream.reader.owner ≡ false → (side : Side) → machine.is_host (end_of side stream).owner ≡ false
@@ -51,7 +53,7 @@ pub record MakesStream (old new : Inside) (writer reader : ℕ) (ty : TransmitIn
   pub bytes : new.bytes ≡ old.bytes
   pub guests : guests_of new.guests.items ≡ with_ends (guests_of old.guests.items) writer reader ty (length old.streams.items)
   pub streams : new.streams.items ≡ old.streams.items ++ stream_made old writer reader ty ∷ []
-  pub retold : Retells (guests_of new.guests.items) (stream_made old writer reader ty) old.ready.items new.ready.items
+  pub added : Added (guests_of new.guests.items) (stream_made old writer reader ty) old.ready new.ready
 
 state_of-made : (old new : Inside) (writer reader : ℕ) (ty : TransmitIndex) → MakesStream old new writer reader ty → state_of new ≡ with_stream (state_of old) writer reader ty
 unfolding with_stream
@@ -87,9 +89,12 @@ agrees_made old new writer reader ty h fits i =
     record {
       held = held;
       told = rw h.streams
-          (told-retold (guests_of new.guests.items) (old.streams.items ++ stream ∷ []) s (rw h.streams at held) old.ready.items new.ready.items stream (get_or_push old.streams.items stream no_stream s refl)
-          (but-besides guests (guests_of new.guests.items) old.streams.items (old.streams.items ++ stream ∷ []) s old.ready.items (λ k number handle. ap (λ (x : _). member_of x k number handle) h.guests ∙ members-made guests writer reader ty s k number handle) (besides-push old.streams.items stream) i.told)
-          h.retold);
+          (told-retold (guests_of new.guests.items) (old.streams.items ++ stream ∷ []) s (rw h.streams at held) old.ready.sets new.ready.sets stream (get_or_push old.streams.items stream no_stream s refl)
+          (but-besides guests (guests_of new.guests.items) old.streams.items (old.streams.items ++ stream ∷ []) s old.ready.sets (λ k number handle. ap (λ (x : _). member_of x k number handle) h.guests ∙ members-made guests writer reader ty s k number handle) (besides-push old.streams.items stream) i.told)
+          h.added.sets);
+      ready_counted = rw h.streams
+          (counted-added guests (guests_of new.guests.items) (guests_of new.guests.items) old.streams.items stream old.ready new.ready
+          (ap length h.guests ∙ length-set (with_read_end guests reader ty s) writer _ ∙ length-set guests reader _) h.added i.ready_counted);
     }
 
 pub IsStore-made : (old new : Inside) (writer reader : ℕ) (ty : TransmitIndex) → MakesStream old new writer reader ty → refusal (state_of old) (Make (Between writer reader ty)) ≡ None → IsStore old → IsStore new

@@ -37,21 +37,24 @@ use Rattle.strm_transmit.proofs.ServedLemmas.{ComesNoHost, AreServed-set}
 use Rattle.strm_transmit.proofs.EndingLemmas.{named_made}
 use Rattle.strm_transmit.proofs.KeptLemmas.{have_set}
 use Rattle.strm_transmit.proofs.StoreLemmas.{SameBut, sets-with_table, kept_counted, more_counted, less_counted, fits_below, CountsStreams, Agrees, IsStore-counted, IsSound-same}
-use Rattle.strm_transmit.specs.Telling.{Ready, AreTold, Retells, Leaves}
+use Rattle.strm_transmit.specs.Telling.{AreTold, Leaves}
 use Rattle.strm_transmit.proofs.ToldLemmas.{SameOrFree, ToldBut, members-with_table, besides-set, but-besides, but-members, but-left, leaves-left, told-retold, IsHeld-set}
 use Rattle.strm_transmit.proofs.HeldStoreLemmas.{performs-held}
 use Rattle.strm_machine.proofs.HeldLemmas.{StateIsHeld, IsHeld, IsHeld-removed, owned_beside}
 use Rattle.strm_machine.proofs.NamedEndLemmas.{is_end-ok}
 use Rattle.strm_machine.specs.Moments.{is_end}
+use Rattle.strm_transmit.specs.ReadyGuests.{Known, AreReadyCounted, SameCounts, Retold}
+use Rattle.strm_transmit.proofs.ReadyGuestLemmas.{counted-kept, counted-retold}
 
 -- an end of stream s has another owner, and its ends are told again
-pub record SetsOwner (old new : Inside) (s : ℕ) (side : Side) (owner : Owner) (between : Ready) : Type 0 where
+pub record SetsOwner (old new : Inside) (s : ℕ) (side : Side) (owner : Owner) (between : Known) : Type 0 where
   pub same : SameBut old new
   pub bytes : new.bytes ≡ old.bytes
   pub live_sets : new.live_sets ≡ old.live_sets
   pub counted : ArePlaces new.places new.streams.items
   pub streams : new.streams.items ≡ set old.streams.items s (with_owner side (stream_at (state_of old) s) owner)
-  pub retold : Retells (guests_of new.guests.items) (with_owner side (stream_at (state_of old) s) owner) between new.ready.items
+  pub retold : Retold (guests_of new.guests.items) s (with_owner side (stream_at (state_of old) s) owner) between new.ready
+  pub kept_counts : SameCounts old.ready between
 
 -- the handles of guests stay, and their counter
 pub record KeepsHandles (old new : Inside) : Type 0 where
@@ -59,10 +62,10 @@ pub record KeepsHandles (old new : Inside) : Type 0 where
   pub guests : new.guests ≡ old.guests
 
 -- a handle leaves its set
-pub record LeavesHome (old : Inside) (g handle : ℕ) (between : Ready) : Type 0 where
+pub record LeavesHome (old : Inside) (g handle : ℕ) (between : Known) : Type 0 where
   pub home : Option ℕ
   pub is : home ≡ set_of (sets_in (guests_of old.guests.items) g) handle
-  pub leaves : Leaves g handle home old.ready.items between
+  pub leaves : Leaves g handle home old.ready.sets between.sets
 
 -- a handle of a guest is freed and counted off
 abbrev pub Frees : Inside → Inside → ℕ → ℕ → Type 0
@@ -92,16 +95,23 @@ owned-across Writing Reading stream owner was now = inl refl
 owned-across Reading Writing stream owner was now = inl refl
 owned-across Reading Reading stream owner was now = inr (was, now)
 
-module _ (old new : Inside) (s : ℕ) (side : Side) (owner : Owner) (between : Ready) (l : s < length old.streams.items) (u : is_host owner ≡ false) (o : SetsOwner old new s side owner between) (i : IsStore old) where
+module _ (old new : Inside) (s : ℕ) (side : Side) (owner : Owner) (between : Known) (l : s < length old.streams.items) (u : is_host owner ≡ false) (o : SetsOwner old new s side owner between) (i : IsStore old) where
   -- the stream then
   abbrev given : Stream
   given = with_owner side (stream_at (state_of old) s) owner
 
   -- what is known of the ends of other streams, once they are told of these
-  told_again : IsHeld (guests_of new.guests.items) new.streams.items → ToldBut (guests_of new.guests.items) (set old.streams.items s given) s between → AreTold (guests_of new.guests.items) new.streams.items new.ready.items
+  told_again : IsHeld (guests_of new.guests.items) new.streams.items → ToldBut (guests_of new.guests.items) (set old.streams.items s given) s between.sets → AreTold (guests_of new.guests.items) new.streams.items new.ready.sets
   told_again held but =
       rw o.streams
-      (told-retold (guests_of new.guests.items) (set old.streams.items s given) s (rw o.streams at held) between new.ready.items given (get_or-set_same old.streams.items s given no_stream l) but o.retold)
+      (told-retold (guests_of new.guests.items) (set old.streams.items s given) s (rw o.streams at held) between.sets new.ready.sets given (get_or-set_same old.streams.items s given no_stream l) but o.retold.sets)
+
+  -- and its ends are counted again
+  counted_again : length (guests_of new.guests.items) ≡ length (guests_of old.guests.items) → AreReadyCounted (guests_of new.guests.items) new.streams.items new.ready
+  counted_again many =
+      rw o.streams
+      (counted-retold (guests_of old.guests.items) (guests_of new.guests.items) (guests_of new.guests.items) old.streams.items s given between new.ready many o.retold
+      (counted-kept (guests_of old.guests.items) old.streams.items old.ready between o.kept_counts i.ready_counted))
 
   -- the stream alone
   owned : IsSound (record (state_of old) { streams = new.streams.items })
@@ -124,16 +134,17 @@ module _ (old new : Inside) (s : ℕ) (side : Side) (owner : Owner) (between : R
   as_many : sets_among (guests_of new.guests.items) ≡ sets_among (guests_of old.guests.items) → new.live_sets ≡ sets_in_use (state_of new)
   as_many e = o.live_sets ∙ i.sets ∙ sym e
 
-  agrees_owned : is_held (end_of side (stream_at (state_of old) s)).owner ≡ false → is_held owner ≡ false → between ≡ old.ready.items → KeepsHandles old new → Agrees new
+  agrees_owned : is_held (end_of side (stream_at (state_of old) s)).owner ≡ false → is_held owner ≡ false → between ≡ old.ready → KeepsHandles old new → Agrees new
   agrees_owned was now same h =
       let guests = guests_of old.guests.items in
       let held : IsHeld (guests_of new.guests.items) new.streams.items = rw (h.guests, o.streams) (IsHeld-set guests old.streams.items s given l (λ other. owned-across side other (stream_at (state_of old) s) owner was now) i.held) in
       record {
         held = held;
-        told = told_again held (rw (h.guests, same) (but-besides guests guests old.streams.items (set old.streams.items s given) s old.ready.items (λ _ _ _. refl) (besides-set old.streams.items s given) i.told));
+        told = told_again held (rw (h.guests, same) (but-besides guests guests old.streams.items (set old.streams.items s given) s old.ready.sets (λ _ _ _. refl) (besides-set old.streams.items s given) i.told));
+        ready_counted = counted_again (ap (λ (g : _). length (guests_of g.items)) h.guests);
       }
 
-  pub IsStore-owned : is_held (end_of side (stream_at (state_of old) s)).owner ≡ false → is_held owner ≡ false → between ≡ old.ready.items → KeepsHandles old new → IsStore new
+  pub IsStore-owned : is_held (end_of side (stream_at (state_of old) s)).owner ≡ false → is_held owner ≡ false → between ≡ old.ready → KeepsHandles old new → IsStore new
   IsStore-owned was now same h =
       IsStore-counted old new
       (record {
@@ -158,8 +169,9 @@ module _ (old new : Inside) (s : ℕ) (side : Side) (owner : Owner) (between : R
         held = held;
         told = told_again held
             (rw h.guests
-            (but-left guests freed more s g handle (leaves-left guests g _ handle there) old.ready.items between leaves.home leaves.is leaves.leaves
-            (but-besides guests guests old.streams.items more s old.ready.items (λ _ _ _. refl) (besides-set old.streams.items s given) i.told)));
+            (but-left guests freed more s g handle (leaves-left guests g _ handle there) old.ready.sets between.sets leaves.home leaves.is leaves.leaves
+            (but-besides guests guests old.streams.items more s old.ready.sets (λ _ _ _. refl) (besides-set old.streams.items s given) i.told)));
+        ready_counted = counted_again (ap length h.guests ∙ length-set guests g _);
       }
 
   pub IsStore-released : (g handle : ℕ) → g < length (guests_of old.guests.items) → is_end s side (end_named (state_of old) g handle) ≡ true → is_held owner ≡ false → LeavesHome old g handle between → Frees old new g handle → IsStore new
@@ -219,7 +231,7 @@ moved_made : (state : State) (end : NamedEnd) (to s : ℕ) → refusal state (Tr
 moved_made state end to s e same h = named_made state (side_named (named state end)) end s h (move_fits state end to e).leaves same
 
 -- the end of a stream went to a guest, under this handle
-module _ (old new : Inside) (s : ℕ) (side : Side) (end : NamedEnd) (to number : ℕ) (between : Ready) (o : SetsOwner old new s side (Held to number) between) (m : Moves old new side end to s number) where
+module _ (old new : Inside) (s : ℕ) (side : Side) (end : NamedEnd) (to number : ℕ) (between : Known) (o : SetsOwner old new s side (Held to number) between) (m : Moves old new side end to s number) where
   pub transfers-is : transfers (state_of old) s side end to ≡ goes (replies.Number number) (state_of new)
   transfers-is = rw (o.same.tag, o.same.limits, o.same.producers, o.same.kept, o.same.consumers, o.same.contexts, o.same.trapped, m.guests, o.streams, m.number) refl
 
@@ -234,9 +246,10 @@ module _ (old new : Inside) (s : ℕ) (side : Side) (end : NamedEnd) (to number 
         held = held;
         told = told_again old new s side (Held to number) between made refl o i held
             (rw m.guests
-            (but-members freed (with_end_in freed to side end.ty s) more s between (members-with_table freed to _ (sets_in freed to) (λ n q. refl))
-            (but-left guests freed more s end.guest end.handle (leaves-left guests end.guest _ end.handle (move_fits (state_of old) end to e).leaves.there) old.ready.items between leaves.home leaves.is leaves.leaves
-            (but-besides guests guests old.streams.items more s old.ready.items (λ _ _ _. refl) (besides-set old.streams.items s _) i.told))));
+            (but-members freed (with_end_in freed to side end.ty s) more s between.sets (members-with_table freed to _ (sets_in freed to) (λ n q. refl))
+            (but-left guests freed more s end.guest end.handle (leaves-left guests end.guest _ end.handle (move_fits (state_of old) end to e).leaves.there) old.ready.sets between.sets leaves.home leaves.is leaves.leaves
+            (but-besides guests guests old.streams.items more s old.ready.sets (λ _ _ _. refl) (besides-set old.streams.items s _) i.told))));
+        ready_counted = counted_again old new s side (Held to number) between made refl o i (ap length m.guests ∙ length-set freed to _ ∙ length-set guests end.guest _);
       }
 
   pub IsStore-moved : LeavesHome old end.guest end.handle between → old.is_trapped ≡ false → refusal (state_of old) (Transfer end to) ≡ None → s ≡ stream_named (named (state_of old) end) → side ≡ side_named (named (state_of old) end) → IsStore old → IsStore new
@@ -275,7 +288,7 @@ pub lower_made : (state : State) (reader g : ℕ) (ty : TransmitIndex) → refus
 lower_made state reader g ty e = loose_made state reader (lower_fits state reader g ty e).loose
 
 -- a loose end came into a guest, under this handle
-module _ (old new : Inside) (s g : ℕ) (ty : TransmitIndex) (number : ℕ) (o : SetsOwner old new s Reading (Held g number) old.ready.items) (m : Gives old new Reading ty g s number) where
+module _ (old new : Inside) (s g : ℕ) (ty : TransmitIndex) (number : ℕ) (o : SetsOwner old new s Reading (Held g number) old.ready) (m : Gives old new Reading ty g s number) where
   pub lowers-is : lowers (state_of old) s g ty ≡ goes (replies.Number number) (state_of new)
   lowers-is = rw (o.same.tag, o.same.limits, o.same.producers, o.same.kept, o.same.consumers, o.same.contexts, o.same.trapped, m.guests, o.streams, m.number) refl
 
@@ -286,9 +299,10 @@ module _ (old new : Inside) (s g : ℕ) (ty : TransmitIndex) (number : ℕ) (o :
       let held : StateIsHeld (state_of new) = subst (λ (r : Reaction). StateIsHeld r.state) lowers-is (lowers-held (state_of old) s g ty e i.sound i.held) in
       record {
         held = held;
-        told = told_again old new s Reading (Held g number) old.ready.items (lower_made (state_of old) s g ty e) refl o i held
+        told = told_again old new s Reading (Held g number) old.ready (lower_made (state_of old) s g ty e) refl o i held
             (rw m.guests
-            (but-besides guests (with_end_in guests g Reading ty s) old.streams.items more s old.ready.items (members-with_table guests g _ (sets_in guests g) (λ n q. refl)) (besides-set old.streams.items s _) i.told));
+            (but-besides guests (with_end_in guests g Reading ty s) old.streams.items more s old.ready.sets (members-with_table guests g _ (sets_in guests g) (λ n q. refl)) (besides-set old.streams.items s _) i.told));
+        ready_counted = counted_again old new s Reading (Held g number) old.ready (lower_made (state_of old) s g ty e) refl o i (ap length m.guests ∙ length-set guests g _);
       }
 
   pub IsStore-lowered : old.is_trapped ≡ false → refusal (state_of old) (OnLoose s (Lower g ty)) ≡ None → IsStore old → IsStore new
@@ -302,5 +316,5 @@ module _ (old new : Inside) (s g : ℕ) (ty : TransmitIndex) (number : ℕ) (o :
         sizes = ap own_sizes_of m.guests ∙ own_sizes_of-with_handles guests g _;
         bytes = o.bytes;
       })
-      (counts old new s Reading (Held g number) old.ready.items (lower_made (state_of old) s g ty e) refl o i)
+      (counts old new s Reading (Held g number) old.ready (lower_made (state_of old) s g ty e) refl o i)
       (subst (λ (r : Reaction). IsSound r.state) lowers-is (lowers-sound (state_of old) s g ty t e i.sound)) (agrees_lowered e i) i

@@ -60,10 +60,11 @@ use Rattle.strm_transmit.proofs.HostStepLemmas.{does_admitted, Does-after, Fits-
 use Rattle.strm_transmit.proofs.HostingLemmas.{no_logs, type_told, host_refusal-is, passes, known_host, unused_is}
 use Rattle.strm_transmit.proofs.KeptLemmas.{have_set}
 use Rattle.strm_transmit.proofs.ServedLemmas.{at_set, same_stream, same_host, serves_none, keeps_writers, reader_now, AreServed-turned}
-use Rattle.strm_transmit.specs.Telling.{Retells}
 use Rattle.strm_transmit.proofs.ToldLemmas.{but-besides, besides-set, told-retold, IsHeld-set}
 use Rattle.strm_machine.proofs.HeldLemmas.{IsHeld}
 use Rattle.strm_transmit.proofs.StoreLemmas.{kept_tables, Agrees, IsStore-counted, IsSound-same}
+use Rattle.strm_transmit.specs.ReadyGuests.{Retold}
+use Rattle.strm_transmit.proofs.ReadyGuestLemmas.{counted-retold}
 
 -- ## What refuses a pipe
 
@@ -374,7 +375,7 @@ pub record HandsTo (old new : Inside) (s r : ℕ) (c : Consumer) : Type 0 where
   pub same_kept : new.kept ≡ old.kept
   pub consumers : new.consumers ≡ set old.consumers r c
   pub loose : is_loose (stream_at (state_of old) s).reader.owner ≡ true
-  pub retold : Retells (guests_of new.guests.items) (with_owner Reading (stream_at (state_of old) s) (Host r)) old.ready.items new.ready.items
+  pub retold : Retold (guests_of new.guests.items) s (with_owner Reading (stream_at (state_of old) s) (Host r)) old.ready new.ready
 
 module _ (old new : Inside) (s r : ℕ) (c : Consumer) (h : HandsTo old new s r c) (i : IsStore old) where
   abbrev given : Stream
@@ -409,12 +410,13 @@ module _ (old new : Inside) (s r : ℕ) (c : Consumer) (h : HandsTo old new s r 
       let more = set old.streams.items s given in
       let same : guests_of new.guests.items ≡ guests = ap (λ (g : _). guests_of g.items) h.guests in
       let held : IsHeld guests more = IsHeld-set guests old.streams.items s given h.made owners i.held in
-      let retold : Retells guests given old.ready.items new.ready.items = subst (λ (x : _). Retells x given old.ready.items new.ready.items) same h.retold in
+      let retold : Retold guests s given old.ready new.ready = subst (λ (x : _). Retold x s given old.ready new.ready) same h.retold in
       record {
         held = rw (same, h.streams) held;
         told = rw (same, h.streams)
-            (told-retold guests more s held old.ready.items new.ready.items given (get_or-set_same old.streams.items s given no_stream h.made)
-            (but-besides guests guests old.streams.items more s old.ready.items (λ _ _ _. refl) (besides-set old.streams.items s given) i.told) retold);
+            (told-retold guests more s held old.ready.sets new.ready.sets given (get_or-set_same old.streams.items s given no_stream h.made)
+            (but-besides guests guests old.streams.items more s old.ready.sets (λ _ _ _. refl) (besides-set old.streams.items s given) i.told) retold.sets);
+        ready_counted = rw (same, h.streams) (counted-retold guests guests guests old.streams.items s given old.ready new.ready refl retold i.ready_counted);
       }
     where
       loose_unheld : (owner : Owner) → is_loose owner ≡ true → is_held owner ≡ false

@@ -39,6 +39,7 @@ use Rattle.strm_transmit.proofs.ServedLemmas.{ComesNoHost, same_owners, not_unus
 use Rattle.strm_transmit.proofs.StoreLemmas.{CountsTables, kept_tables, Agrees, agrees_still, IsStore-counted, IsSound-same}
 use Rattle.strm_transmit.proofs.ToldLemmas.{but-besides, besides-set, told-unheld, IsHeld-set}
 use Rattle.strm_machine.proofs.HeldLemmas.{IsHeld}
+use Rattle.strm_transmit.proofs.ReadyGuestLemmas.{counted-alike, ready_by-unheld, ready_by-put}
 
 -- ## What is held
 
@@ -279,9 +280,12 @@ module _ (old new : Inside) (n s : ℕ) (x : TypedItems) (h : LeavesItems old ne
         record {
           held = rw (h.guests, streams) held;
           told = rw (h.guests, streams, h.ready)
-              (told-unheld guests more s held old.ready.items
+              (told-unheld guests more s held old.ready.sets
               (λ side. ap (λ (x : Stream). is_held (end_of side x).owner) (get_or-set_same old.streams.items s after no_stream l) ∙ ap is_held (same_owner side) ∙ unheld side)
-              (but-besides guests guests old.streams.items more s old.ready.items (λ _ _ _. refl) (besides-set old.streams.items s after) i.told));
+              (but-besides guests guests old.streams.items more s old.ready.sets (λ _ _ _. refl) (besides-set old.streams.items s after) i.told));
+          ready_counted = rw (h.guests, streams, h.ready)
+              (counted-alike guests guests old.streams.items more old.ready refl
+              (ready_by-put old.streams.items s after (ready_by-unheld after (λ side. ap is_held (same_owner side) ∙ unheld side) ∙ sym (ready_by-unheld before unheld))) i.ready_counted);
         }
       where
         same_owner : (side : Side) → (end_of side after).owner ≡ (end_of side before).owner

@@ -26,10 +26,13 @@ use Rattle.strm_transmit.proofs.SceneLemmas.{SceneKeeps}
 use Rattle.strm_transmit.proofs.ReaderTurnLemmas.{TakingKeeps}
 use Rattle.strm_machine.proofs.TurnLemmas.{GuestsKeep, all_kept}
 use Rattle.strm_transmit.proofs.StoreLemmas.{kept_tables, Agrees, IsStore-counted, IsSound-same}
-use Rattle.strm_transmit.specs.Telling.{Retells, member_of}
+use Rattle.strm_transmit.specs.Telling.{member_of}
 use Rattle.strm_transmit.proofs.ToldLemmas.{SameOrFree, SameMembers, members-sets, but-besides, besides-set, told-retold, IsHeld-set}
 use Rattle.strm_machine.proofs.HeldLemmas.{IsHeld, IsHeld-same}
 use Rattle.strm_machine.proofs.TableLemmas.{handles-same}
+use Rattle.strm_transmit.specs.ReadyGuests.{Retold}
+use Rattle.strm_transmit.proofs.ReadyGuestLemmas.{counted-retold}
+use Rattle.strm_transmit.proofs.StoreLemmas.{as_many_guests}
 
 -- each end of a stream has the owner that it had, or was and is held by no guest
 abbrev KeepsOwners : Stream → Stream → Type 0
@@ -63,16 +66,21 @@ module _ (old new : Inside) (s : ℕ) (after : Stream) (l : s < length old.strea
   abbrev more : List Stream
   more = set old.streams.items s after
 
-  agrees_turned : (guests : List Guest) → guests_of new.guests.items ≡ guests → KeepsHandles before guests → SameMembers before guests
+  -- its ends are told, and counted again
+  abbrev IsToldBy : List Guest → Type 0
+  IsToldBy guests = Retold guests s after old.ready new.ready
+
+  agrees_turned : (gs : List Guest) → guests_of new.guests.items ≡ gs → length gs ≡ length before → KeepsHandles before gs → SameMembers before gs
       → KeepsOwners (stream_at (state_of old) s) after → new.streams.items ≡ more
-      → Retells guests after old.ready.items new.ready.items → IsStore old → Agrees new
-  agrees_turned guests e handles members owners streams retold i =
+      → IsToldBy gs → IsStore old → Agrees new
+  agrees_turned guests e many handles members owners streams retold i =
       let held : IsHeld guests more = IsHeld-same before guests more more handles (λ k side. refl) (IsHeld-set before old.streams.items s after l owners i.held) in
       record {
         held = rw (e, streams) held;
         told = rw (e, streams)
-            (told-retold guests more s held old.ready.items new.ready.items after (get_or-set_same old.streams.items s after no_stream l)
-            (but-besides before guests old.streams.items more s old.ready.items members (besides-set old.streams.items s after) i.told) retold);
+            (told-retold guests more s held old.ready.sets new.ready.sets after (get_or-set_same old.streams.items s after no_stream l)
+            (but-besides before guests old.streams.items more s old.ready.sets members (besides-set old.streams.items s after) i.told) retold.sets);
+        ready_counted = rw (e, streams) (counted-retold before guests guests old.streams.items s after old.ready new.ready many retold i.ready_counted);
       }
 
 -- what guests keep where they are those of a turn
@@ -96,7 +104,7 @@ pub record TakesScene (old new : Inside) (s n : ℕ) (after : WriterScene) : Typ
   pub producers : new.producers ≡ set old.producers n after.producer
   pub kept : new.kept ≡ old.kept
   pub consumers : new.consumers ≡ old.consumers
-  pub retold : Retells (guests_of new.guests.items) after.stream old.ready.items new.ready.items
+  pub retold : Retold (guests_of new.guests.items) s after.stream old.ready new.ready
 
 -- the scene of a turn in a store
 abbrev pub scene_of : Inside → ℕ → ℕ → WriterTells → WriterScene
@@ -146,7 +154,7 @@ module _ (old new : Inside) (s n : ℕ) (tells : WriterTells) (after : WriterSce
       IsStore-counted old new
       (kept_tables old new (record { limits = h.limits; counter = h.counter; live_sets = h.live_sets; bytes = h.bytes; guests = rw h.guests k.guests }) i)
       (record { places = h.counted; served = served; kept = places; few = rw (h.streams, length-set old.streams.items s after.stream) i.few_streams })
-      sound (agrees_turned old new s after.stream l (guests_of new.guests.items) refl (keeps_handles k.guests h.guests) (keeps_sets k.guests h.guests) (moves_held Writing (stream_at (state_of old) s) after.stream k.stream.done k.stream.leaves k.stream.stays (ap is_held o)) h.streams h.retold i) i
+      sound (agrees_turned old new s after.stream l (guests_of new.guests.items) refl (ap length h.guests ∙ as_many_guests (guests_of old.guests.items) after.guests k.guests.handles) (keeps_handles k.guests h.guests) (keeps_sets k.guests h.guests) (moves_held Writing (stream_at (state_of old) s) after.stream k.stream.done k.stream.leaves k.stream.stays (ap is_held o)) h.streams h.retold i) i
 
 -- ## The host writer that serves a stream
 
@@ -178,7 +186,7 @@ pub record TakesTaking (old new : Inside) (s r : ℕ) (after : ReaderScene) : Ty
   pub producers : new.producers ≡ old.producers
   pub kept : new.kept ≡ old.kept
   pub consumers : new.consumers ≡ set old.consumers r after.consumer
-  pub retold : Retells (guests_of new.guests.items) after.stream old.ready.items new.ready.items
+  pub retold : Retold (guests_of new.guests.items) s after.stream old.ready new.ready
 
 -- what a turn touches in a store
 abbrev pub taking_of : Inside → ℕ → ℕ → ReaderTells → ReaderScene
@@ -227,7 +235,7 @@ module _ (old new : Inside) (s r : ℕ) (tells : ReaderTells) (after : ReaderSce
       IsStore-counted old new
       (kept_tables old new (record { limits = h.limits; counter = h.counter; live_sets = h.live_sets; bytes = h.bytes; guests = rw same_guests (all_kept (guests_of old.guests.items)) }) i)
       (record { places = h.counted; served = taken_served; kept = places_then; few = rw (h.streams, length-set old.streams.items s after.stream) i.few_streams })
-      taken_sound (agrees_turned old new s after.stream l (guests_of new.guests.items) refl (λ g. ap (λ (x : _). (guest_in x g).handles) same_guests) (λ g number handle. ap (λ (x : _). member_of x g number handle) same_guests) (moves_held Reading (stream_at (state_of old) s) after.stream k.stream.done k.stream.leaves k.stream.stays (ap is_held o)) h.streams h.retold i) i
+      taken_sound (agrees_turned old new s after.stream l (guests_of new.guests.items) refl (ap length same_guests) (λ g. ap (λ (x : _). (guest_in x g).handles) same_guests) (λ g number handle. ap (λ (x : _). member_of x g number handle) same_guests) (moves_held Reading (stream_at (state_of old) s) after.stream k.stream.done k.stream.leaves k.stream.stays (ap is_held o)) h.streams h.retold i) i
 
 -- ## The host reader that serves a stream
 

@@ -1,5 +1,5 @@
 -- The store after a waitable set was made, joined, left or dropped, and the member that a poll finds.
-use Rattle.std.proofs.Common.{◌≡◌, ◌≢◌, ℕ, ◌+◌, ◌-◌, ◌<◌, Bool, true, false, cond, ◌&&◌, List, [], ◌∷◌, length, not, Option, Some, None, Ok, refl, sym, ap, ◌∙◌, subst, arith}
+use Rattle.std.proofs.Common.{◌≡◌, ◌≢◌, ℕ, ◌+◌, ◌-◌, ◌<◌, Bool, true, false, cond, ◌&&◌, List, [], ◌∷◌, length, not, Option, Some, None, Ok, refl, sym, ap, ◌∙◌, subst, arith, length-set}
 use Rattle.std.specs.Prelude.{nat_eq, ◌==◌, IfSome, IfNone}
 use Rattle.std.specs.List.{list_any}
 use Rattle.std.specs.Option.{option_map}
@@ -31,6 +31,8 @@ use Rattle.strm_machine.specs.declared.streams.Stream.{Stream}
 use Rattle.strm_machine.proofs.HeldLemmas.{StateIsHeld, IsHeld, IsHeld-same}
 use Rattle.strm_transmit.proofs.HeldStoreLemmas.{on_set-held, with_set-held}
 use Rattle.strm_machine.proofs.TableLemmas.{set-keeps}
+use Rattle.strm_transmit.specs.ReadyGuests.{SameCounts}
+use Rattle.strm_transmit.proofs.ReadyGuestLemmas.{counted-alike, counted-kept}
 
 -- streams and memories stay
 pub record KeepsStreams (old new : Inside) : Type 0 where
@@ -47,11 +49,16 @@ IsStore-tables old new k tables sound agrees i =
 state_with : (old new : Inside) → KeepsStreams old new → (guests : List Guest) → guests_of new.guests.items ≡ guests → state_of new ≡ record (state_of old) { guests = guests }
 state_with old new k guests e = rw (k.same.tag, k.same.limits, k.same.producers, k.same.kept, k.same.consumers, k.same.contexts, k.same.trapped, k.streams, e) refl
 
+-- guests are as many as there were
+abbrev AsMany : Inside → List Guest → Type 0
+AsMany old guests = length guests ≡ length (guests_of old.guests.items)
+
 -- handles and ends agree, and guests have the members that they had
-agrees_tables : (old new : Inside) → KeepsStreams old new → (guests : List Guest) → guests_of new.guests.items ≡ guests → new.ready ≡ old.ready → SameMembers (guests_of old.guests.items) guests → StateIsHeld (record (state_of old) { guests = guests }) → IsStore old → Agrees new
-agrees_tables old new k guests e ready members held i = record {
+agrees_tables : (old new : Inside) → KeepsStreams old new → (guests : List Guest) → guests_of new.guests.items ≡ guests → AsMany old guests → new.ready ≡ old.ready → SameMembers (guests_of old.guests.items) guests → StateIsHeld (record (state_of old) { guests = guests }) → IsStore old → Agrees new
+agrees_tables old new k guests e many ready members held i = record {
   held = subst StateIsHeld (sym (state_with old new k guests e)) held;
-  told = rw (k.streams, ready, e) (told-same (guests_of old.guests.items) guests old.streams.items old.ready.items members i.told);
+  told = rw (k.streams, ready, e) (told-same (guests_of old.guests.items) guests old.streams.items old.ready.sets members i.told);
+  ready_counted = rw (k.streams, ready, e) (counted-alike (guests_of old.guests.items) guests old.streams.items old.streams.items old.ready many refl i.ready_counted);
 }
 
 -- ## A set more
@@ -76,7 +83,7 @@ IsStore-made_set old new g k h e i =
       bytes = k.bytes;
     })
     (subst IsSound (sym (state_with old new k (with_set_in (guests_of old.guests.items) g) h.guests)) (with_set-sound (state_of old) g i.sound e))
-    (agrees_tables old new k (with_set_in (guests_of old.guests.items) g) h.guests h.ready (members-with_table (guests_of old.guests.items) g _ _ (λ n q. refl)) (with_set-held (state_of old) g i.sound i.held e) i) i
+    (agrees_tables old new k (with_set_in (guests_of old.guests.items) g) h.guests (length-set (guests_of old.guests.items) g _) h.ready (members-with_table (guests_of old.guests.items) g _ _ (λ n q. refl)) (with_set-held (state_of old) g i.sound i.held e) i) i
 
 -- ## A set joined or left
 
@@ -95,10 +102,11 @@ sets_held_still guests g sets streams h =
     (λ k. set-keeps (λ (x : Guest). x.handles) guests g k (record (guest_in guests g) { sets = sets }) no_guest refl)
     (λ s side. refl) h
 
--- handles and sets stay counted as they were
+-- handles and sets stay counted as they were, and so do the ends that are to be told something
 pub record KeepsCounts (old new : Inside) : Type 0 where
   pub counter : new.counter ≡ old.counter
   pub live_sets : new.live_sets ≡ old.live_sets
+  pub counted : SameCounts old.ready new.ready
 
 module _ (old new : Inside) (k : KeepsStreams old new) (n : KeepsCounts old new) (i : IsStore old) where
   -- nothing joined
@@ -112,14 +120,14 @@ module _ (old new : Inside) (k : KeepsStreams old new) (n : KeepsCounts old new)
         bytes = k.bytes;
       })
       (subst IsSound (sym (state_with old new k (guests_of old.guests.items) e)) i.sound)
-      (agrees_tables old new k (guests_of old.guests.items) e ready (λ _ _ _. refl) i.held i) i
+      (agrees_tables old new k (guests_of old.guests.items) e refl ready (λ _ _ _. refl) i.held i) i
 
   -- the guests with other sets in one of them
   abbrev with_sets_of : ℕ → Sets → List Guest
   with_sets_of g sets = with_sets (guests_of old.guests.items) g sets
 
   other_sets : (g : ℕ) (sets : Sets) → how_many sets ≡ how_many (sets_in (guests_of old.guests.items) g) → IsSound (sets_changed (state_of old) g sets) → guests_of new.guests.items ≡ with_sets_of g sets
-      → AreTold (with_sets_of g sets) old.streams.items new.ready.items → IsStore new
+      → AreTold (with_sets_of g sets) old.streams.items new.ready.sets → IsStore new
   other_sets g sets many sound e told =
       let handles = (guest_in (guests_of old.guests.items) g).handles in
       IsStore-tables old new k
@@ -133,6 +141,7 @@ module _ (old new : Inside) (k : KeepsStreams old new) (n : KeepsCounts old new)
       (record {
         held = subst StateIsHeld (sym (state_with old new k (with_sets (guests_of old.guests.items) g sets) e)) (sets_held_still (guests_of old.guests.items) g sets old.streams.items i.held);
         told = rw (k.streams, e) told;
+        ready_counted = rw (k.streams, e) (counted-kept (with_sets (guests_of old.guests.items) g sets) old.streams.items old.ready new.ready n.counted (counted-alike (guests_of old.guests.items) (with_sets (guests_of old.guests.items) g sets) old.streams.items old.streams.items old.ready (length-set (guests_of old.guests.items) g _) refl i.ready_counted));
       }) i
 
   module _ (g set handle : ℕ) (may : refusal (state_of old) (OnSet g set (Join handle)) ≡ None) where
@@ -152,10 +161,10 @@ module _ (old new : Inside) (k : KeepsStreams old new) (n : KeepsCounts old new)
     guest_there : g < length (guests_of old.guests.items)
     guest_there = (on_set_fits (state_of old) g set (Join handle) may).0
 
-    pub IsStore-left : (home : Option ℕ) → set ≡ 0 → home ≡ set_of sets handle → Leaves g handle home old.ready.items new.ready.items → SetsBecome (handle_left sets handle) → IsStore new
+    pub IsStore-left : (home : Option ℕ) → set ≡ 0 → home ≡ set_of sets handle → Leaves g handle home old.ready.sets new.ready.sets → SetsBecome (handle_left sets handle) → IsStore new
     IsStore-left home zero is leaves e =
         other_sets g (handle_left sets handle) refl (joined_sound true (rw zero refl)) e
-        (told-left (guests_of old.guests.items) _ old.streams.items g handle old.ready.items new.ready.items home
+        (told-left (guests_of old.guests.items) _ old.streams.items g handle old.ready.sets new.ready.sets home
         (leaves-left (guests_of old.guests.items) g _ handle guest_there) is leaves i.told)
 
     -- what is said once the handle has joined
@@ -163,8 +172,8 @@ module _ (old new : Inside) (k : KeepsStreams old new) (n : KeepsCounts old new)
       pub home : Option ℕ
       pub is : home ≡ set_of sets handle
       pub between : Ready
-      pub leaves : Leaves g handle home old.ready.items between
-      pub joins : Joins g number handle alone says between new.ready.items
+      pub leaves : Leaves g handle home old.ready.sets between
+      pub joins : Joins g number handle alone says between new.ready.sets
       pub empty : alone ≡ not (has_member (state_of old) g number)
       pub ready : says ≡ is_ready (state_of old) g handle
 
@@ -177,8 +186,8 @@ module _ (old new : Inside) (k : KeepsStreams old new) (n : KeepsCounts old new)
         other_sets g (handle_joined sets handle number) refl
         (subst (λ m. IsSound (sets_changed (state_of old) g (handle_joined sets handle m))) (sym is) (joined_sound false (eq-other set 0 some))) ok
         (told-joined (guests_of old.guests.items) _ old.streams.items g handle number (joins-joined (guests_of old.guests.items) g _ handle number guest_there) joins.home joins.is alone says
-        old.ready.items joins.between new.ready.items joins.leaves joins.joins (none_before number alone joins.empty)
-        (λ s side owner. joins.ready ∙ ready_is (state_of old) g number i.sound i.held old.ready.items i.told handle s side owner) i.told)
+        old.ready.sets joins.between new.ready.sets joins.leaves joins.joins (none_before number alone joins.empty)
+        (λ s side owner. joins.ready ∙ ready_is (state_of old) g number i.sound i.held old.ready.sets i.told handle s side owner) i.told)
 
 -- the set that is joined is there
 pub joined_made : (state : State) (g set handle number : ℕ) → IsSound state → refusal state (OnSet g set (Join handle)) ≡ None → set ≢ 0 → number ≡ number_named (set_named state g set) → is_set_there (sets_in state.guests g) number ≡ true
@@ -232,7 +241,7 @@ IsStore-dropped_set old new g set number k h may is i =
     })
     (subst IsSound (sym (state_with old new k (without_set_in (guests_of old.guests.items) g set (number_named (set_named (state_of old) g set))) (h.guests ∙ ap (without_set_in (guests_of old.guests.items) g set) is)))
     (on_set-sound (state_of old) g set Drop i.sound may))
-    (agrees_tables old new k (without_set_in (guests_of old.guests.items) g set (number_named (set_named (state_of old) g set))) (h.guests ∙ ap (without_set_in (guests_of old.guests.items) g set) is) h.ready
+    (agrees_tables old new k (without_set_in (guests_of old.guests.items) g set (number_named (set_named (state_of old) g set))) (h.guests ∙ ap (without_set_in (guests_of old.guests.items) g set) is) (length-set (guests_of old.guests.items) g _) h.ready
     (members-with_table (guests_of old.guests.items) g _ _ (λ n q. refl)) (on_set-held (state_of old) g set Drop i.sound i.held may) i) i
 
 -- ## The member that a poll finds, by what a look at each member says

@@ -45,8 +45,10 @@ use Rattle.strm_transmit.proofs.ServedLemmas.{AreServed-set, same_owners}
 use Rattle.strm_transmit.proofs.KeptLemmas.{have_set}
 use Rattle.strm_machine.proofs.HeldLemmas.{StateIsHeld, IsHeld, IsHeld-same}
 use Rattle.strm_machine.proofs.TableLemmas.{handles-same, handles-more, sets-more, owner-set_stays}
-use Rattle.strm_transmit.specs.Telling.{AreTold, Retells}
+use Rattle.strm_transmit.specs.Telling.{AreTold}
 use Rattle.strm_transmit.proofs.ToldLemmas.{members-sets, but-besides, besides-set, told-same, told-retold}
+use Rattle.strm_transmit.specs.ReadyGuests.{AreReadyCounted, SameCounts, Retold}
+use Rattle.strm_transmit.proofs.ReadyGuestLemmas.{AddsCounted, counted-alike, counted-kept, counted-guest, counted-retold}
 
 -- fields that a call leaves as they were
 pub record SameBut (old new : Inside) : Type 0 where
@@ -76,7 +78,8 @@ pub record AddsGuest (old new : Inside) (g : ours.Guest) (linear : LinearMemory)
   pub memory : g.memory ≡ linear
   pub handles : g.table.handles ≡ no_handles
   pub sets : g.sets ≡ no_sets
-  pub ready : new.ready ≡ old.ready
+  pub ready : new.ready.sets ≡ old.ready.sets
+  pub ready_guests : AddsCounted old.ready new.ready
 
 state_of-guest : (old new : Inside) (g : ours.Guest) (memory : LinearMemory) (size : ℕ) → AddsGuest old new g memory size → state_of new ≡ record (state_of old) { guests = guests_of old.guests.items ++ guest_of g ∷ [] }
 state_of-guest old new g memory size h =
@@ -105,7 +108,8 @@ IsStore-guest old new g memory size h fits room s =
     record {
       sound = rw after sound;
       held = subst StateIsHeld (sym after) (IsHeld-same (guests_of old.guests.items) (guests_of old.guests.items ++ guest_of g ∷ []) old.streams.items old.streams.items (λ k. handles-more (guests_of old.guests.items) (guest_of g) k h.handles) (λ k side. refl) s.held);
-      told = rw (h.streams, h.ready, h.guests, guests_of-push old.guests.items g) (told-same (guests_of old.guests.items) (guests_of old.guests.items ++ guest_of g ∷ []) old.streams.items old.ready.items (λ k number handle. ap (λ (x : Sets). is_member x number handle) (sets-more (guests_of old.guests.items) (guest_of g) k h.sets)) s.told);
+      told = rw (h.streams, h.ready, h.guests, guests_of-push old.guests.items g) (told-same (guests_of old.guests.items) (guests_of old.guests.items ++ guest_of g ∷ []) old.streams.items old.ready.sets (λ k number handle. ap (λ (x : Sets). is_member x number handle) (sets-more (guests_of old.guests.items) (guest_of g) k h.sets)) s.told);
+      ready_counted = rw (h.streams, h.guests, guests_of-push old.guests.items g) (counted-guest (guests_of old.guests.items) (guest_of g) old.streams.items old.ready new.ready h.ready_guests s.ready_counted);
       limit = rw (h.counter, h.same.limits) s.limit;
       live = ap (λ (c : Counter). c.live) h.counter ∙ s.live ∙ live;
       within = rw h.counter s.within;
@@ -249,20 +253,37 @@ kept_streams old new streams places same i = record {
   few = rw streams i.few_streams;
 }
 
--- handles and ends agree, and what is known of ready members is so
+-- handles and ends agree, and what is known of ready members and guests is so
 pub record Agrees (new : Inside) : Type 0 where
   pub held : StateIsHeld (state_of new)
-  pub told : AreTold (guests_of new.guests.items) new.streams.items new.ready.items
+  pub told : AreTold (guests_of new.guests.items) new.streams.items new.ready.sets
+  pub ready_counted : AreReadyCounted (guests_of new.guests.items) new.streams.items new.ready
+
+-- guests with as many tables are as many
+pub as_many_guests : (guests others : List machine.Guest) → handles_of others ≡ handles_of guests → length others ≡ length guests
+as_many_guests guests others e =
+    sym (length-map others (λ (g : machine.Guest). g.handles)) ∙ ap length e ∙ length-map guests (λ (g : machine.Guest). g.handles)
 
 -- guests that keep their handles and sets, beside the same streams
 agrees_alike : (old new : Inside) → handles_of (guests_of new.guests.items) ≡ handles_of (guests_of old.guests.items) → sets_of (guests_of new.guests.items) ≡ sets_of (guests_of old.guests.items) → new.streams.items ≡ old.streams.items → new.ready ≡ old.ready → IsStore old → Agrees new
 agrees_alike old new handles sets streams ready i = record {
   held = rw streams (IsHeld-same (guests_of old.guests.items) (guests_of new.guests.items) old.streams.items old.streams.items (λ k. handles-same (guests_of old.guests.items) (guests_of new.guests.items) k handles) (λ k side. refl) i.held);
-  told = rw (streams, ready) (told-same (guests_of old.guests.items) (guests_of new.guests.items) old.streams.items old.ready.items (members-sets (guests_of old.guests.items) (guests_of new.guests.items) sets) i.told);
+  told = rw (streams, ready) (told-same (guests_of old.guests.items) (guests_of new.guests.items) old.streams.items old.ready.sets (members-sets (guests_of old.guests.items) (guests_of new.guests.items) sets) i.told);
+  ready_counted = rw (streams, ready) (counted-alike (guests_of old.guests.items) (guests_of new.guests.items) old.streams.items old.streams.items old.ready (as_many_guests (guests_of old.guests.items) (guests_of new.guests.items) handles) refl i.ready_counted);
 }
 
 pub agrees_still : (old new : Inside) → GuestsKeep (guests_of old.guests.items) (guests_of new.guests.items) → new.streams.items ≡ old.streams.items → new.ready ≡ old.ready → IsStore old → Agrees new
 agrees_still old new guests streams ready i = agrees_alike old new guests.handles guests.sets streams ready i
+
+-- the same where there is more room for what is known
+pub agrees_room : (old new : Inside) → GuestsKeep (guests_of old.guests.items) (guests_of new.guests.items) → new.streams.items ≡ old.streams.items → new.ready.sets ≡ old.ready.sets → SameCounts old.ready new.ready → IsStore old → Agrees new
+agrees_room old new guests streams sets counts i =
+    let same = agrees_still old (record new { ready = old.ready }) guests streams refl i in
+    record {
+      held = same.held;
+      told = rw sets same.told;
+      ready_counted = counted-kept (guests_of new.guests.items) new.streams.items old.ready new.ready counts same.ready_counted;
+    }
 
 -- the parts are the whole
 pub IsStore-counted : (old new : Inside) → CountsTables old new → CountsStreams new → IsSound (state_of new) → Agrees new → IsStore old → IsStore new
@@ -272,6 +293,7 @@ IsStore-counted old new tables streams sound agrees i =
       sound = sound;
       held = agrees.held;
       told = agrees.told;
+      ready_counted = agrees.ready_counted;
       limit = tables.handles.limit;
       live = tables.handles.live;
       within = tables.handles.within;
@@ -304,7 +326,8 @@ pub record MakesRoom (old new : Inside) : Type 0 where
   pub live_sets : new.live_sets ≡ old.live_sets
   pub bytes : new.bytes ≡ old.bytes
   pub guests : guests_of new.guests.items ≡ guests_of old.guests.items
-  pub ready : new.ready ≡ old.ready
+  pub ready : new.ready.sets ≡ old.ready.sets
+  pub ready_counts : SameCounts old.ready new.ready
   pub streams : new.streams.items ≡ old.streams.items
   pub places : ArePlaces new.places new.streams.items
 
@@ -320,7 +343,7 @@ IsStore-room old new h i =
       few = rw h.streams i.few_streams;
     })
     (IsSound-same (state_of old) (state_of new) h.guests h.streams h.same.contexts i.sound)
-    (agrees_still old new kept h.streams h.ready i) i
+    (agrees_room old new kept h.streams h.ready h.ready_counts i) i
 
 -- ## Bytes
 
@@ -474,7 +497,7 @@ pub record TakesTurn (old new : Inside) (s : ℕ) (t : Operated) : Type 0 where
   pub bytes : new.bytes ≡ old.bytes
   pub guests : guests_of new.guests.items ≡ t.guests
   pub streams : new.streams.items ≡ set old.streams.items s t.stream
-  pub retold : Retells t.guests t.stream old.ready.items new.ready.items
+  pub retold : Retold t.guests s t.stream old.ready new.ready
 
 -- what is known of the ends of the stream is as the turn left them
 agrees_turned : (old new : Inside) (s : ℕ) (t : Operated) → s < length old.streams.items → TurnKeeps (guests_of old.guests.items) (stream_at (state_of old) s) t → TakesTurn old new s t → IsStore old → Agrees new
@@ -486,9 +509,10 @@ agrees_turned old new s t l keeps h i =
     record {
       held = rw (h.guests, h.streams) held;
       told = rw (h.guests, h.streams)
-          (told-retold t.guests (set old.streams.items s t.stream) s held old.ready.items new.ready.items t.stream (get_or-set_same old.streams.items s t.stream no_stream l)
-          (but-besides before t.guests old.streams.items (set old.streams.items s t.stream) s old.ready.items (members-sets before t.guests keeps.guests.sets) (besides-set old.streams.items s t.stream) i.told)
-          h.retold);
+          (told-retold t.guests (set old.streams.items s t.stream) s held old.ready.sets new.ready.sets t.stream (get_or-set_same old.streams.items s t.stream no_stream l)
+          (but-besides before t.guests old.streams.items (set old.streams.items s t.stream) s old.ready.sets (members-sets before t.guests keeps.guests.sets) (besides-set old.streams.items s t.stream) i.told)
+          h.retold.sets);
+      ready_counted = rw (h.guests, h.streams) (counted-retold before t.guests t.guests old.streams.items s t.stream old.ready new.ready (as_many_guests before t.guests keeps.guests.handles) h.retold i.ready_counted);
     }
 
 -- guests and one stream as a turn left them, which keeps handles, memory lengths, type and owners

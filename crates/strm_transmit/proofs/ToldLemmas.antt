@@ -1,6 +1,6 @@
 -- What the store knows of ready members, and that handles and ends agree, after each change: a change of
 -- one stream leaves what is known of the ends of others, and then those of this one are told again.
-use Rattle.std.proofs.Common.{◌≡◌, ◌≢◌, ℕ, suc, ◌<◌, ◌≤◌, Bool, true, false, ◌&&◌, List, [], ◌∷◌, ◌++◌, length, get_or, set, Option, Some, None, is_some, Ok, Err, arith, refl, sym, ap, ◌∙◌, subst, ⊎_elim, inl, inr}
+use Rattle.std.proofs.Common.{◌≡◌, ◌≢◌, ℕ, zero, suc, ◌<◌, ◌≤◌, Bool, true, false, ◌&&◌, List, [], ◌∷◌, ◌++◌, length, get_or, set, Option, Some, None, is_some, Ok, Err, arith, refl, sym, ap, ◌∙◌, subst, ⊎_elim, inl, inr}
 use Rattle.std.specs.Prelude.{nat_eq, ◌==◌, ◌⊎◌, is_ok}
 use Rattle.std.specs.Cmp.{nat_eq_equiv}
 use Rattle.std.specs.FinMap.{get-empty}
@@ -353,3 +353,29 @@ module _ (state : State) (g number : ℕ) (sound : IsSound state) (held : StateI
       by : (b : Bool) → member_of state.guests g number handle ≡ b → SaysOf ready g number handle (b && is_ready state g handle)
       by true e = member_says handle e
       by false e = h.within g number handle e
+
+-- ## Nothing is known
+
+-- so nothing is said of any handle
+pub says_nothing : (g number handle : ℕ) (b : Bool) → SaysOf [] g number handle b
+says_nothing zero zero handle b = tt
+says_nothing zero (suc number) handle b = tt
+says_nothing (suc g) zero handle b = tt
+says_nothing (suc g) (suc number) handle b = tt
+
+says_none : (ready : Ready) (g number handle : ℕ) (b : Bool) → ready ≡ [] → SaysOf ready g number handle b
+says_none ready g number handle b none = subst (λ (r : Ready). SaysOf r g number handle b) (sym none) (says_nothing g number handle b)
+
+-- of an end that has changed either
+pub retells-nothing : (guests : List Guest) (stream : Stream) (ready : Ready) → ready ≡ [] → Retells guests stream ready ready
+retells-nothing guests stream ready none = record {
+  told = λ side g number handle owner apart member. says_none ready g number handle (has_report side stream) none;
+  others = λ g number handle b says unless. says;
+}
+
+-- or of a handle that leaves its set
+pub leaves-nothing : (g handle : ℕ) (home : Option ℕ) (ready : Ready) → ready ≡ [] → Leaves g handle home ready ready
+leaves-nothing g handle home ready none = record {
+  gone = λ number says. says_none ready g number handle false none;
+  others = λ k number other b says apart. says;
+}

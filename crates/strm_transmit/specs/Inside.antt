@@ -17,6 +17,7 @@ use Rattle.strm_machine.proofs.HeldLemmas.{StateIsHeld}
 use Rattle.strm_channels.specs.Guests.{guests_of}
 use Rattle.strm_transmit.specs.Places.{ArePlaces}
 use Rattle.strm_transmit.specs.Telling.{AreTold}
+use Rattle.strm_transmit.specs.ReadyGuests.{AreReadyCounted}
 use Rattle.strm_transmit.specs.declared.store.Store.TheInside.{Inside}
 
 -- of host writers for which the store has no place yet nothing is kept
@@ -64,11 +65,12 @@ pub record HavePlaces (producers : List Producer) (kept : List TypedItems) (stre
       (slice_index_or kept n nothing_kept).items ≡ []
 
 -- handles name streams and sets, and operations lie in memory; an end that a handle names is its guest's
--- under that handle; what is counted is what is there, and what is known of ready members is so
+-- under that handle; what is counted is what is there, and what is known of ready members and guests is so
 pub record IsStore (s : Inside) : Type 0 where
   pub sound : IsSound (state_of s)
   pub held : StateIsHeld (state_of s)
-  pub told : AreTold (guests_of s.guests.items) s.streams.items s.ready.items
+  pub told : AreTold (guests_of s.guests.items) s.streams.items s.ready.sets
+  pub ready_counted : AreReadyCounted (guests_of s.guests.items) s.streams.items s.ready
   pub limit : s.counter.limit ≡ s.limits.handles
   pub live : s.counter.live ≡ handles_in_use (state_of s)
   pub within : s.counter.live ≤ s.counter.limit

@@ -1,5 +1,6 @@
 pub mod Celled
 pub mod Telling
+pub mod ReadyGuests
 pub mod Places
 pub mod Inside
 pub mod Keeping

@@ -10,6 +10,8 @@
 pub mod errors;
 pub mod host_ends;
 mod places;
+mod readiness;
+mod ready_counts;
 pub mod steps;
 pub mod store;
 mod telling;

@@ -31,6 +31,7 @@ mod turning;
 
 use crate::errors::StoreError;
 use crate::places::StreamPlaces;
+use crate::readiness::Readiness;
 use std::alloc::Global;
 use std::marker::Model;
 use strm_buffers::items::Items;
@@ -44,7 +45,6 @@ use strm_error_contexts::contexts::ErrorContexts;
 use strm_handles::counters::HandleCounter;
 use strm_machine::limits::Limits;
 use strm_machine::streams::{Consumer, Duty, Producer};
-use strm_waitable_sets::ready::ReadySets;
 
 /// A host writer that was never used.
 const NO_PRODUCER: Producer = Producer {
@@ -107,8 +107,8 @@ pub struct Store {
     // The bytes of all memories of the store's own together.
     bytes: u32,
     is_trapped: bool,
-    // What is known of the ready members of each guest's sets.
-    ready: Vec<ReadySets>,
+    // What is known of ends that are to be told something.
+    ready: Readiness,
     alloc: Global,
 }
 
@@ -157,7 +157,7 @@ impl Store {
             live_sets: 0,
             bytes: 0,
             is_trapped: false,
-            ready: Vec::new(alloc),
+            ready: Readiness::new(alloc),
             alloc,
         }
     }

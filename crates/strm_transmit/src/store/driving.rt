@@ -132,8 +132,14 @@ impl Store {
         }
     }
 
-    // The turn of a stream in a drive round.
-    fn drive_stream<H: HostEnds>(&mut self, hosts: &mut H, stream: u32) -> Result<(), StoreError>
+    /// The turn of one stream, as in a drive round: the host ends that serve it are polled or take, where an
+    /// operation waits for them. Of a stream that no host end serves nothing changes. Whether the store was
+    /// trapped is not looked at (`trapped`); after any error it is. HostFailed, HostBroke, BadItem, OutOfMemory.
+    pub fn drive_stream<H: HostEnds>(
+        &mut self,
+        hosts: &mut H,
+        stream: u32,
+    ) -> Result<(), StoreError>
         requires there { stream < length self.old.streams }
         requires fits { Fits self.old (H.tells hosts.old) }
         ensures part { IsPart self.old self.new (H.tells hosts.old) (H.tells hosts.new) result

@@ -29,7 +29,6 @@ use crate::errors::StoreError;
 use crate::host_ends::HostEnds;
 use crate::store::refusals::{refusal_of, side_of};
 use crate::store::{Store, number_type};
-use crate::telling::retell;
 use strm_channels::endings::cancel_operation;
 use strm_codes::codes::{ReturnCode, TransmitIndex};
 use strm_codes::payloads::Payload;
@@ -111,7 +110,7 @@ impl Store {
     {
         let meeting = &mut self.streams[stream as usize];
         let told = meeting.deliver(side);
-        retell(&mut self.ready, &self.guests, meeting);
+        self.ready.retell(&self.guests, stream, meeting);
         told
     }
 
@@ -331,7 +330,7 @@ impl Store {
     {
         let meeting = &mut self.streams[stream as usize];
         let code = cancel_operation(meeting, side);
-        retell(&mut self.ready, &self.guests, meeting);
+        self.ready.retell(&self.guests, stream, meeting);
         code
     }
 

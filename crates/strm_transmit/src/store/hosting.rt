@@ -195,8 +195,10 @@ impl Store {
     {
         let stream = self.streams.len() as u32;
         make_room(&mut self.streams, &mut self.places)?;
+        self.ready.reserve()?;
         let hosted = Channel::new(kind, payload, Owner::Host { number }, Owner::Loose);
         make_place(self.alloc, &mut self.kept, number as usize, &hosted)?;
+        self.ready.add_stream(&self.guests, &hosted);
         append(&mut self.streams, &mut self.places, hosted);
         self.producers[number as usize] = Producer {
             duty: Duty::Serves { stream },

@@ -29,7 +29,6 @@ ghost use Rattle.strm_transmit.specs.Hosted.{StillFits};
 use crate::errors::StoreError;
 use crate::places::{append, make_room, reuse};
 use crate::store::Store;
-use crate::telling::retell;
 use strm_channels::channels::Channel;
 use strm_channels::ends::insert_ends;
 use strm_codes::codes::{TransmitIndex, TransmitKind};
@@ -116,7 +115,8 @@ impl Store {
     pub(crate) fn are_handles_full(&self, needed: u32) -> bool
         ensures { result ≡ are_handles_full self.now needed }
     {
-        (self.limits.handles as u128) < self.counter.live() as u128 + u128::from(needed)
+        // No more are live than may be.
+        self.limits.handles - self.counter.live() < needed as usize
     }
 
     // Whether so many places more would pass the limit.
@@ -173,18 +173,13 @@ impl Store {
         let stream = self.streams.len() as u32;
         let (kind, payload) = (ty.kind(), ty.payload());
         make_room(&mut self.streams, &mut self.places)?;
+        self.ready.reserve()?;
         let (guests, counter) = (&mut self.guests, &mut self.counter);
-        let numbers = insert_ends(
-            guests,
-            counter,
-            writer as usize,
-            reader as usize,
-            ty,
-            stream,
-        )?;
+        let (from, to) = (writer as usize, reader as usize);
+        let numbers = insert_ends(guests, counter, from, to, ty, stream)?;
         let pair = pair_of(numbers, stream);
         let joined = stream_of(kind, payload, writer, reader, &pair);
-        retell(&mut self.ready, &self.guests, &joined);
+        self.ready.add_stream(&self.guests, &joined);
         append(&mut self.streams, &mut self.places, joined);
         Ok(pair)
     }
@@ -209,19 +204,13 @@ impl Store {
         };
         let (kind, payload) = (ty.kind(), ty.payload());
         let (guests, counter) = (&mut self.guests, &mut self.counter);
-        let numbers = insert_ends(
-            guests,
-            counter,
-            writer as usize,
-            reader as usize,
-            ty,
-            stream,
-        )?;
+        let (from, to) = (writer as usize, reader as usize);
+        let numbers = insert_ends(guests, counter, from, to, ty, stream)?;
         let pair = pair_of(numbers, stream);
         let joined = stream_of(kind, payload, writer, reader, &pair);
         reuse(&mut self.streams, &mut self.places, stream, joined);
         let placed = &self.streams[stream as usize];
-        retell(&mut self.ready, &self.guests, placed);
+        self.ready.retell(&self.guests, stream, placed);
         Ok(pair)
     }
 

@@ -68,6 +68,7 @@ impl Store {
         let number = self.guests.len() as u32;
         let memory = GuestMemory::new(self.alloc, size)?;
         self.guests.reserve(1)?;
+        self.ready.add_guest()?;
         self.guests.push_reserved(Guest {
             memory,
             table: HandleTable::new(self.alloc),
@@ -111,6 +112,7 @@ impl Store {
         let number = self.guests.len() as u32;
         let memory = GuestMemory::lent(self.alloc, bytes);
         self.guests.reserve(1)?;
+        self.ready.add_guest()?;
         self.guests.push_reserved(Guest {
             memory,
             table: HandleTable::new(self.alloc),

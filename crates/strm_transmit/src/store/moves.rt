@@ -28,7 +28,7 @@ use crate::errors::StoreError;
 use crate::host_ends::HostEnds;
 use crate::places::set_owner;
 use crate::store::Store;
-use crate::telling::{home_of, leave, retell};
+use crate::telling::home_of;
 use strm_channels::ends::{give_end, move_end, remove_end};
 use strm_codes::codes::{TransmitIndex, TransmitKind};
 use strm_codes::payloads::Payload;
@@ -58,11 +58,8 @@ impl Store {
     {
         let (streams, places) = (&mut self.streams, &mut self.places);
         set_owner(streams, places, stream, side, Owner::Gone);
-        retell(
-            &mut self.ready,
-            &self.guests,
-            &self.streams[stream as usize],
-        );
+        self.ready
+            .retell(&self.guests, stream, &self.streams[stream as usize]);
     }
 
     // A guest's handle is freed, and the end of a stream that it names has another owner.
@@ -80,12 +77,9 @@ impl Store {
         remove_end(guests, counter, end);
         let (streams, places) = (&mut self.streams, &mut self.places);
         set_owner(streams, places, stream, side, owner);
-        leave(&mut self.ready, end.guest as usize, home, end.handle);
-        retell(
-            &mut self.ready,
-            &self.guests,
-            &self.streams[stream as usize],
-        );
+        self.ready.leave(end.guest as usize, home, end.handle);
+        self.ready
+            .retell(&self.guests, stream, &self.streams[stream as usize]);
     }
 
     // The number that an end gets in a guest's table, once its handle is freed.
@@ -158,12 +152,9 @@ impl Store {
         let owner = Owner::Held { guest: to, handle };
         let (streams, places) = (&mut self.streams, &mut self.places);
         set_owner(streams, places, stream, side, owner);
-        leave(&mut self.ready, end.guest as usize, home, end.handle);
-        retell(
-            &mut self.ready,
-            &self.guests,
-            &self.streams[stream as usize],
-        );
+        self.ready.leave(end.guest as usize, home, end.handle);
+        self.ready
+            .retell(&self.guests, stream, &self.streams[stream as usize]);
         Ok(handle)
     }
 
@@ -305,11 +296,8 @@ impl Store {
         let owner = Owner::Held { guest, handle };
         let (streams, places) = (&mut self.streams, &mut self.places);
         set_owner(streams, places, reader, Side::Reading, owner);
-        retell(
-            &mut self.ready,
-            &self.guests,
-            &self.streams[reader as usize],
-        );
+        self.ready
+            .retell(&self.guests, reader, &self.streams[reader as usize]);
         Ok(handle)
     }
 

@@ -38,7 +38,6 @@ ghost use Rattle.strm_transmit.specs.Turning.{IsPlacedOn, IsNumberWithin};
 use crate::errors::StoreError;
 use crate::host_ends::HostEnds;
 use crate::store::{Store, number_type};
-use crate::telling::retell;
 use strm_channels::meetings::{begin, meet_or_wait};
 use strm_codes::codes::ReturnCode;
 use strm_codes::counts::ItemCount;
@@ -322,7 +321,7 @@ impl Store {
     {
         let meeting = &mut self.streams[stream as usize];
         let taken = meet_or_wait(self.alloc, &mut self.guests, meeting, payload, side, mine);
-        retell(&mut self.ready, &self.guests, meeting);
+        self.ready.retell(&self.guests, stream, meeting);
         taken
     }
 }

@@ -106,9 +106,10 @@ impl Store {
         }
     }
 
-    // The host end on the other side of an end, if there is one.
+    /// The number of the host end on the other side of an end of a stream, counted among the host writers or
+    /// among the host readers: none where a guest has that end, or nobody.
     #[inline(always)]
-    pub(crate) fn host_across(&self, side: Side, stream: u32) -> Option<u32>
+    pub fn host_across(&self, side: Side, stream: u32) -> Option<u32>
         requires { stream < length self.now.streams }
         ensures some { IfSome result (λ number. (across self.now side stream).owner ≡ Host number) }
         ensures none { IfNone result (is_host (across self.now side stream).owner ≡ false) }

@@ -27,7 +27,6 @@ use crate::places::set_owner;
 use crate::store::hosting::is_unknown_host;
 use crate::store::moves::same_kind;
 use crate::store::{Store, type_with};
-use crate::telling::retell;
 use strm_channels::channels::Channel;
 use strm_codes::codes::TransmitIndex;
 use strm_codes::refusals::Refusal;
@@ -90,7 +89,7 @@ impl Store {
     {
         let meeting = &mut self.streams[stream as usize];
         withdraw(meeting);
-        retell(&mut self.ready, &self.guests, meeting);
+        self.ready.retell(&self.guests, stream, meeting);
     }
 
     // A stream has its read end at a host reader that was not used.
@@ -104,11 +103,8 @@ impl Store {
         let (streams, places) = (&mut self.streams, &mut self.places);
         let owner = Owner::Host { number: host };
         set_owner(streams, places, stream, Side::Reading, owner);
-        retell(
-            &mut self.ready,
-            &self.guests,
-            &self.streams[stream as usize],
-        );
+        self.ready
+            .retell(&self.guests, stream, &self.streams[stream as usize]);
         self.consumers[host as usize] = Consumer {
             duty: Duty::Serves { stream },
             since: 0,

@@ -1,17 +1,20 @@
-//! What is asked of a guest's handles: what one is of, which one is next, and how many there are.
+//! What is asked of a guest's handles: what one is of, which one is next, and how many there are; and which guest
+//! has one that is to be told something.
 //!
-//! Meaning: `Queries.antt`. Source: Canonical ABI, "Table State"; wasmtime, `handle_table.rs`,
-//! `HandleTable`. Ours: the calls. They change nothing, take no memory, and a store that was trapped
-//! answers them as any other.
+//! Meaning: `Queries.antt` and `ReadyGuests.antt`. Source: Canonical ABI, "Table State"; wasmtime, `handle_table.rs`,
+//! `HandleTable`. Ours: the calls. They change no guest and no stream, and a store that was trapped answers them
+//! as any other. They take no memory, but for `next_ready_guest` at its first call.
 
-ghost use Rattle.std.specs.Prelude.{◌≡◌, ◌<◌, length, Some, is_some, option_copied};
+ghost use Rattle.std.specs.Prelude.{◌≡◌, ◌<◌, length, IfOk, Some, is_some, option_copied};
 ghost use Rattle.strm_handles.specs.Handles.{entry_at};
 ghost use Rattle.strm_machine.specs.State.{guest_in};
 ghost use Rattle.strm_machine.specs.Soundness.{types_of, EntryIsNamed};
+ghost use Rattle.strm_transmit.specs.ReadyGuests.{next_ready_guest};
 ghost use Rattle.strm_transmit.specs.Queries.{end_told, told_of, handle_told, handle_answer, next_above, handle_with_told, next_handle_answer, count_answer};
 
 use crate::store::refusals::side_of;
 use crate::store::{Store, type_with};
+use std::alloc::AllocError;
 use strm_channels::sides::opposite;
 use strm_codes::codes::{ReturnCode, TransmitIndex};
 use strm_codes::refusals::Refusal;
@@ -168,5 +171,21 @@ impl Store {
             return Err(Refusal::UnknownGuest);
         }
         Ok(self.guests[guest as usize].table.len())
+    }
+
+    /// The least guest, of those from a number on, that has an end which is to be told something; none where
+    /// there is none. It is told as long as that is so, whoever asked before. No guest is looked at in vain:
+    /// of 1,048,576 guests 11 words are at most. A trapped store answers too.
+    ///
+    /// The first call counts the ends of all streams, and takes memory for one number a guest and for which guests
+    /// each stream is counted; where there is none it answers so, and the next call begins anew. From then on a
+    /// call that changes a stream lists it, and the next call of this one counts again what is listed, each stream
+    /// once. Who never asks pays nothing.
+    pub fn next_ready_guest(&mut self, from: u32) -> Result<Option<u32>, AllocError>
+        ensures exact { IfOk result (λ guest. guest ≡ next_ready_guest self.old from) }
+        ensures same { self.new ≡ self.old }
+    {
+        self.ready.count(&self.guests, &self.streams, self.alloc)?;
+        Ok(self.ready.next_guest(from))
     }
 }

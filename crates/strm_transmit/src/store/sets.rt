@@ -24,7 +24,7 @@ ghost use Rattle.strm_transmit.specs.Hosted.{StillFits};
 use crate::errors::StoreError;
 use crate::store::Store;
 use crate::store::refusals::{refusal_of, side_of};
-use crate::telling::{home_of, join, leave};
+use crate::telling::home_of;
 use strm_channels::sets::{give_set, has_member, is_in_set, join_set, leave_set, remove_set};
 use strm_codes::refusals::Refusal;
 use strm_handles::errors::HandleError;
@@ -146,15 +146,15 @@ impl Store {
         let home = home_of(&self.guests, guest as usize, handle);
         if set == 0 {
             leave_set(&mut self.guests, guest as usize, handle);
-            leave(&mut self.ready, guest as usize, home, handle);
+            self.ready.leave(guest as usize, home, handle);
             return Ok(());
         }
         let is_empty = !has_member(&self.guests, guest as usize, number);
         let is_ready = self.is_ready(guest, handle);
         join_set(&mut self.guests, guest as usize, number, handle)?;
         let (ready, guest) = (&mut self.ready, guest as usize);
-        leave(ready, guest, home, handle);
-        join(ready, guest, number, is_empty, handle, is_ready, self.alloc);
+        ready.leave(guest, home, handle);
+        ready.join(guest, number, is_empty, handle, is_ready, self.alloc);
         Ok(())
     }
 
@@ -196,10 +196,7 @@ impl Store {
         ensures { IfSome result (λ members. (handle : ℕ) → is_in members.now handle ≡ (is_member
             (sets_in self.now.guests guest) number handle && is_ready self.now guest handle)) }
     {
-        if guest as usize >= self.ready.len() {
-            return None;
-        }
-        self.ready[guest as usize].known(number)
+        self.ready.known(guest, number)
     }
 
     // The least member of a set that is ready, where the members are asked one by one. No member behind

@@ -24,7 +24,6 @@ ghost use Rattle.strm_transmit.specs.Turning.{IsAcross, HasWriterTurn, HasReader
 use crate::errors::StoreError;
 use crate::host_ends::HostEnds;
 use crate::store::Store;
-use crate::telling::retell;
 use std::alloc::Global;
 use strm_channels::channels::Channel;
 use strm_channels::guests::Guest;
@@ -72,7 +71,7 @@ impl Store {
     {
         let meeting = &mut self.streams[stream as usize];
         meeting.begin(side, operation.guest, operation.address, operation.left);
-        retell(&mut self.ready, &self.guests, meeting);
+        self.ready.retell(&self.guests, stream, meeting);
     }
 
     // The turn of the host writer that serves a stream, for the open read on it.
@@ -93,7 +92,7 @@ impl Store {
         let producer = &mut self.producers[number as usize];
         let (guests, place) = (&mut self.guests, number as usize);
         let turned = hosts.writer_turn_at(self.alloc, guests, served, producer, place, read);
-        retell(&mut self.ready, &self.guests, served);
+        self.ready.retell(&self.guests, stream, served);
         self.places.settle(stream, was_live, is_live(served));
         turned
     }
@@ -116,7 +115,7 @@ impl Store {
         let consumer = &mut self.consumers[number as usize];
         let (guests, place) = (&mut self.guests, number as usize);
         let taken = hosts.reader_turn_at(self.alloc, guests, served, consumer, place, write);
-        retell(&mut self.ready, &self.guests, served);
+        self.ready.retell(&self.guests, stream, served);
         self.places.settle(stream, was_live, is_live(served));
         taken
     }

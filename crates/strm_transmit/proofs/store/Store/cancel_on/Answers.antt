@@ -6,7 +6,7 @@ use Rattle.strm_machine.specs.declared.streams.Stream.{Stream}
 use Rattle.strm_machine.proofs.EndingLemmas.{cancelled-keeps}
 use Rattle.strm_channels.specs.Guests.{guests_of}
 use Rattle.strm_transmit.specs.Inside.{state_of}
-use Rattle.strm_transmit.specs.Telling.{Retells}
+use Rattle.strm_transmit.specs.ReadyGuests.{Retold}
 use Rattle.strm_transmit.proofs.StoreLemmas.{stream_at-there}
 use Rattle.strm_transmit.proofs.EndingLemmas.{IsStore-set}
 use Rattle.strm_transmit.proofs.store.Store.cancel_on.Goals as goal
@@ -26,6 +26,6 @@ invariant_of-self c =
       live_sets = refl;
       bytes = refl;
       streams = ap (set c.self.inside.streams.items c.args.stream) (c.cancel_operation-code.ensures.stream ∙ ap (λ (s : Stream). cancelled c.args.side s) (sym here));
-      retold = subst (λ (x : Stream). Retells (guests_of c.self.inside.guests.items) x c.self.inside.ready.items c.retell.new.ready.items) (c.cancel_operation-code.ensures.stream ∙ ap (λ (s : Stream). cancelled c.args.side s) (sym here)) c.retell.ensures;
+      retold = subst (λ (x : Stream). Retold (guests_of c.self.inside.guests.items) c.args.stream x c.self.inside.ready c.retell.new.self) (c.cancel_operation-code.ensures.stream ∙ ap (λ (s : Stream). cancelled c.args.side s) (sym here)) c.retell.ensures;
     })
     c.self.invariant

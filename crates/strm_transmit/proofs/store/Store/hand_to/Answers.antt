@@ -6,7 +6,7 @@ use Rattle.strm_machine.specs.declared.streams.Side.TheVariants.{Reading}
 use Rattle.strm_machine.specs.declared.streams.Stream.{Stream}
 use Rattle.strm_channels.specs.Guests.{guests_of}
 use Rattle.strm_transmit.specs.Inside.{state_of}
-use Rattle.strm_transmit.specs.Telling.{Retells}
+use Rattle.strm_transmit.specs.ReadyGuests.{Retold}
 use Rattle.strm_transmit.proofs.PlaceLemmas.{loose_live, live_stays}
 use Rattle.strm_transmit.proofs.StoreLemmas.{set_at}
 use Rattle.strm_transmit.proofs.PipeStoreLemmas.{IsStore-handed}
@@ -38,7 +38,7 @@ invariant_of-self c =
       same_kept = refl;
       consumers = refl;
       loose = rw (← c.self.view_is) at c.requires.loose;
-      retold = subst (λ (x : Stream). Retells (guests_of c.self.inside.guests.items) x c.self.inside.ready.items c.retell.new.ready.items)
+      retold = subst (λ (x : Stream). Retold (guests_of c.self.inside.guests.items) c.args.stream x c.self.inside.ready c.retell.new.self)
           (set_at c.self.inside.streams.items c.set_owner.new.streams.items c.args.stream _ c.index.result.now (rw (← c.self.view_is) at c.requires.there) c.set_owner.ensures.streams c.index.ensures) c.retell.ensures;
     })
     c.self.invariant

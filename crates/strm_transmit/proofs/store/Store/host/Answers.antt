@@ -2,7 +2,9 @@ use Rattle.std.proofs.Common.{◌≡◌, List, length, set, ap, ◌∙◌, refl,
 use Rattle.strm_machine.specs.State.{State, no_producer, is_live}
 use Rattle.strm_machine.specs.declared.streams.Duty.TheVariants.{Serves}
 use Rattle.strm_machine.specs.declared.streams.Stream.{Stream}
+use Rattle.strm_channels.specs.Guests.{guests_of}
 use Rattle.strm_transmit.proofs.StoreLemmas.{IsStore-room}
+use Rattle.strm_transmit.proofs.ReadyGuestLemmas.{same_counts, may_add, added_after}
 use Rattle.strm_transmit.proofs.HostingLemmas.{IsStore-hosted, IsStore-grown, hosted_is}
 use Rattle.strm_transmit.proofs.store.Store.host.Goals as goal
 
@@ -24,10 +26,33 @@ invariant_of-self c =
       bytes = refl;
       guests = refl;
       ready = refl;
+      ready_counts = same_counts c.self.inside.ready;
       streams = c.in_err-make_room.ensures.streams;
       places = c.in_err-make_room.ensures.places;
     })
     c.self.invariant
+
+pub invariant_of-self-in_err-reserve : goal.invariant_of-self-in_err-reserve
+invariant_of-self-in_err-reserve c =
+    IsStore-room c.self.inside _
+    (record {
+      same = record { tag = refl; limits = refl; producers = refl; kept = refl; consumers = refl; contexts = refl; trapped = refl };
+      counter = refl;
+      live_sets = refl;
+      bytes = refl;
+      guests = refl;
+      ready = c.in_err-reserve.ensures.sets;
+      ready_counts = c.in_err-reserve.ensures.counts;
+      streams = c.in_ok-make_room.ensures.streams;
+      places = c.in_ok-make_room.ensures.places;
+    })
+    c.self.invariant
+
+pub add_stream-requires : goal.add_stream-requires
+add_stream-requires c =
+    let old = c.self.inside in
+    may_add (guests_of old.guests.items) old.streams.items old.ready c.reserve.new.self c.self.invariant.ready_counted
+    c.in_ok-reserve.ensures.counts c.in_ok-reserve.ensures.ok (rw (← c.self.view_is) at c.requires.few)
 
 pub invariant_of-self-2 : goal.invariant_of-self-2
 invariant_of-self-2 c =
@@ -54,7 +79,7 @@ invariant_of-self-2 c =
       producers = refl;
       place = c.in_ok-make_place.ensures.ok;
       consumers = refl;
-      ready = refl;
+      added = added_after _ _ _ _ _ c.in_ok-reserve.ensures.sets c.in_ok-reserve.ensures.counts c.add_stream.ensures;
     })
     c.self.invariant
 
@@ -73,7 +98,8 @@ invariant_of-self-in_err-make_place c =
       producers = refl;
       consumers = refl;
       grown = c.in_err-make_place.ensures.err;
-      ready = refl;
+      ready = c.in_ok-reserve.ensures.sets;
+      ready_counts = c.in_ok-reserve.ensures.counts;
     })
     c.self.invariant
 
@@ -86,6 +112,7 @@ returns-clause-ok c =
       producers = set old.producers c.args.number (record no_producer { duty = Serves c.len-stream.result; holding = c.args.holding });
       kept = c.make_place.new.kept;
       places = c.append.new.places;
+      ready = c.add_stream.new.self;
     } in
     hosted_is old after c.args.number c.new-hosted.result _
     (record {
@@ -108,7 +135,7 @@ returns-clause-ok c =
       producers = refl;
       place = c.in_ok-make_place.ensures.ok;
       consumers = refl;
-      ready = refl;
+      added = added_after _ _ _ _ _ c.in_ok-reserve.ensures.sets c.in_ok-reserve.ensures.counts c.add_stream.ensures;
     })
     c.args.self.now c.self.view_is c.self.invariant _ c.new-hosted.ensures _
     (ap (λ s. record no_producer { duty = Serves s; holding = c.args.holding }) (number ∙ ap (λ (x : State). length x.streams) c.self.view_is))

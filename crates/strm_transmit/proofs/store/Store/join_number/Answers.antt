@@ -5,6 +5,7 @@ use Rattle.strm_machine.proofs.SetStepLemmas.{on_set_fits}
 use Rattle.strm_channels.specs.Guests.{guest_of}
 use Rattle.strm_transmit.specs.Inside.{state_of}
 use Rattle.strm_transmit.proofs.SetLemmas.{IsStore-left, IsStore-joined, joined_made}
+use Rattle.strm_transmit.proofs.ReadyGuestLemmas.{same_counts-then}
 use Rattle.strm_transmit.proofs.store.Store.join_number.Goals as goal
 
 pub leave_set-requires : goal.leave_set-requires
@@ -16,9 +17,9 @@ pub invariant_of-self : goal.invariant_of-self
 invariant_of-self c =
     IsStore-left c.self.inside _
     (record { same = record { tag = refl; limits = refl; producers = refl; kept = refl; consumers = refl; contexts = refl; trapped = refl }; streams = refl; places = refl; bytes = refl })
-    (record { counter = refl; live_sets = refl })
+    (record { counter = refl; live_sets = refl; counted = c.leave.ensures.counts })
     c.self.invariant c.args.guest c.args.set c.args.handle (rw (← c.self.view_is) at c.requires.may)
-    c.home_of-home.result c.if-set-eq0.true c.home_of-home.ensures c.leave.ensures c.leave_set.ensures.guests
+    c.home_of-home.result c.if-set-eq0.true c.home_of-home.ensures c.leave.ensures.leaves c.leave_set.ensures.guests
 
 pub join_set-requires-clause-there : goal.join_set-requires-clause-there
 join_set-requires-clause-there c =
@@ -53,15 +54,15 @@ pub invariant_of-self-2 : goal.invariant_of-self-2
 invariant_of-self-2 c =
     IsStore-joined c.self.inside _
     (record { same = record { tag = refl; limits = refl; producers = refl; kept = refl; consumers = refl; contexts = refl; trapped = refl }; streams = refl; places = refl; bytes = refl })
-    (record { counter = refl; live_sets = refl })
+    (record { counter = refl; live_sets = refl; counted = same_counts-then _ _ _ c.leave-2.ensures.counts c.join.ensures.counts })
     c.self.invariant c.args.guest c.args.set c.args.handle (rw (← c.self.view_is) at c.requires.may)
     c.args.number (not c.has_member-is_empty.result) c.is_ready-is_ready.result c.if-set-eq0.false (rw (← c.self.view_is) at c.requires.number)
     c.in_ok-join_set.ensures.ok
     (record {
       home = c.home_of-home.result;
       is = c.home_of-home.ensures;
-      between = c.leave-2.new.ready.items;
-      leaves = c.leave-2.ensures;
+      between = c.leave-2.new.self.sets;
+      leaves = c.leave-2.ensures.leaves;
       joins = record { told = c.join.ensures.told; others = c.join.ensures.others };
       empty = ap not c.has_member-is_empty.ensures;
       ready = rw (← c.self.view_is) at c.is_ready-is_ready.ensures;

@@ -4,7 +4,7 @@ use Rattle.strm_machine.specs.Moves.{with_owner}
 use Rattle.strm_machine.specs.declared.streams.Owner.TheVariants.{Held}
 use Rattle.strm_machine.specs.declared.streams.Side.TheVariants.{Reading}
 use Rattle.strm_machine.specs.declared.streams.Stream.{Stream}
-use Rattle.strm_transmit.specs.Telling.{Retells}
+use Rattle.strm_transmit.specs.ReadyGuests.{Retold}
 use Rattle.strm_transmit.proofs.PlaceLemmas.{loose_live, live_stays}
 use Rattle.strm_transmit.proofs.StoreLemmas.{set_at}
 use Rattle.std.proofs.lemmas.List.{length-map, length-set}
@@ -12,6 +12,7 @@ use Rattle.strm_machine.proofs.RefusalLemmas.{lower_fits}
 use Rattle.strm_channels.specs.Guests.{guest_of, guests_of}
 use Rattle.strm_transmit.specs.Inside.{state_of}
 use Rattle.strm_transmit.proofs.MoveLemmas.{lower_made, IsStore-lowered}
+use Rattle.strm_transmit.proofs.ReadyGuestLemmas.{same_counts}
 use Rattle.strm_transmit.proofs.store.Store.lower_loose.Goals as goal
 
 pub give_end-requires-clause-there : goal.give_end-requires-clause-there
@@ -52,8 +53,9 @@ invariant_of-self-2 c =
       live_sets = refl;
       counted = c.set_owner.ensures.places;
       streams = c.set_owner.ensures.streams;
-      retold = subst (λ (x : Stream). Retells (guests_of c.give_end.new.guests.items) x c.self.inside.ready.items c.retell.new.ready.items)
+      retold = subst (λ (x : Stream). Retold (guests_of c.give_end.new.guests.items) c.args.reader x c.self.inside.ready c.retell.new.self)
           (set_at c.self.inside.streams.items c.set_owner.new.streams.items c.args.reader _ c.index.result.now (lower_made (state_of c.self.inside) c.args.reader c.args.guest c.args.ty (rw (← c.self.view_is) at c.requires.may)) c.set_owner.ensures.streams c.index.ensures) c.retell.ensures;
+      kept_counts = same_counts c.self.inside.ready;
     })
     c.in_ok-handle.ensures.gives.ok
     (rw (← c.self.view_is) at c.requires.untrapped) (rw (← c.self.view_is) at c.requires.may)

@@ -8,8 +8,9 @@ use Rattle.strm_machine.specs.declared.streams.Stream.{Stream}
 use Rattle.strm_channels.specs.Guests.{guest_of, guests_of}
 use Rattle.strm_transmit.proofs.MakingLemmas.{MakesStream, IsStore-made, performs-made, numbers_of, joined_is, pair_is}
 use Rattle.strm_transmit.specs.Inside.{state_of}
-use Rattle.strm_transmit.specs.Telling.{Retells}
+use Rattle.strm_transmit.specs.ReadyGuests.{Added}
 use Rattle.strm_transmit.proofs.StoreLemmas.{IsStore-room}
+use Rattle.strm_transmit.proofs.ReadyGuestLemmas.{same_counts, may_add, added_after}
 use Rattle.strm_transmit.proofs.store.Store.make.Goals as goal
 
 pub insert_ends-requires-clause-writer : goal.insert_ends-requires-clause-writer
@@ -56,10 +57,34 @@ invariant_of-self c =
       bytes = refl;
       guests = refl;
       ready = refl;
+      ready_counts = same_counts c.self.inside.ready;
       streams = c.in_err-make_room.ensures.streams;
       places = c.in_err-make_room.ensures.places;
     })
     c.self.invariant
+
+pub invariant_of-self-in_err-reserve : goal.invariant_of-self-in_err-reserve
+invariant_of-self-in_err-reserve c =
+    IsStore-room c.self.inside _
+    (record {
+      same = record { tag = refl; limits = refl; producers = refl; kept = refl; consumers = refl; contexts = refl; trapped = refl };
+      counter = refl;
+      live_sets = refl;
+      bytes = refl;
+      guests = refl;
+      ready = c.in_err-reserve.ensures.sets;
+      ready_counts = c.in_err-reserve.ensures.counts;
+      streams = c.in_ok-make_room.ensures.streams;
+      places = c.in_ok-make_room.ensures.places;
+    })
+    c.self.invariant
+
+pub add_stream-requires : goal.add_stream-requires
+add_stream-requires c =
+    let old = c.self.inside in
+    let fits = pair_fits (state_of old) c.args.writer c.args.reader c.args.ty (rw (← c.self.view_is) at c.requires) in
+    may_add (guests_of old.guests.items) old.streams.items old.ready c.reserve.new.self c.self.invariant.ready_counted
+    c.in_ok-reserve.ensures.counts c.in_ok-reserve.ensures.ok fits.streams
 
 pub invariant_of-self-in_err-numbers : goal.invariant_of-self-in_err-numbers
 invariant_of-self-in_err-numbers c =
@@ -70,7 +95,8 @@ invariant_of-self-in_err-numbers c =
       live_sets = refl;
       bytes = refl;
       guests = c.in_err-numbers.ensures.gives.err;
-      ready = refl;
+      ready = c.in_ok-reserve.ensures.sets;
+      ready_counts = c.in_ok-reserve.ensures.counts;
       streams = c.in_ok-make_room.ensures.streams;
       places = c.in_ok-make_room.ensures.places;
     })
@@ -83,7 +109,7 @@ invariant_of-self-2 c =
     let joined = joined_is old c.args.writer c.args.reader c.args.ty c.in_ok-numbers.numbers c.stream_of-joined.result
     (c.in_ok-numbers.ensures.gives.numbers ∙ ap (numbers_of old c.args.writer c.args.reader c.args.ty) number)
     (c.stream_of-joined.ensures c.args.ty c.kind-kind.ensures c.payload-payload.ensures ∙ rw c.pair_of-pair.ensures refl) in
-    let made : MakesStream c.self.inside (record c.self.inside { counter = c.insert_ends.new.counter; guests = c.insert_ends.new.guests; streams = c.append.new.streams; places = c.append.new.places; ready = c.retell.new.ready }) c.args.writer c.args.reader c.args.ty = record {
+    let made : MakesStream c.self.inside (record c.self.inside { counter = c.insert_ends.new.counter; guests = c.insert_ends.new.guests; streams = c.append.new.streams; places = c.append.new.places; ready = c.add_stream.new.self }) c.args.writer c.args.reader c.args.ty = record {
       same = record { tag = refl; limits = refl; producers = refl; kept = refl; consumers = refl; contexts = refl; trapped = refl };
       counter = c.in_ok-numbers.ensures.gives.counter;
       live = c.in_ok-numbers.ensures.gives.live;
@@ -92,7 +118,8 @@ invariant_of-self-2 c =
       bytes = refl;
       guests = c.in_ok-numbers.ensures.gives.guests ∙ ap (with_ends (guests_of old.guests.items) c.args.writer c.args.reader c.args.ty) number;
       streams = c.append.ensures.streams ∙ rw c.in_ok-make_room.ensures.streams (ap (λ (s : Stream). old.streams.items ++ s ∷ []) joined);
-      retold = subst (λ (s : Stream). Retells (guests_of c.insert_ends.new.guests.items) s old.ready.items c.retell.new.ready.items) joined c.retell.ensures;
+      added = added_after _ _ _ _ _ c.in_ok-reserve.ensures.sets c.in_ok-reserve.ensures.counts
+          (subst (λ (s : Stream). Added (guests_of c.insert_ends.new.guests.items) s c.reserve.new.self c.add_stream.new.self) joined c.add_stream.ensures);
     } in
     IsStore-made old _ c.args.writer c.args.reader c.args.ty made (rw (← c.self.view_is) at c.requires) c.self.invariant
 
@@ -103,7 +130,7 @@ returns c =
     let joined = joined_is old c.args.writer c.args.reader c.args.ty c.in_ok-numbers.numbers c.stream_of-joined.result
     (c.in_ok-numbers.ensures.gives.numbers ∙ ap (numbers_of old c.args.writer c.args.reader c.args.ty) number)
     (c.stream_of-joined.ensures c.args.ty c.kind-kind.ensures c.payload-payload.ensures ∙ rw c.pair_of-pair.ensures refl) in
-    let made : MakesStream c.self.inside (record c.self.inside { counter = c.insert_ends.new.counter; guests = c.insert_ends.new.guests; streams = c.append.new.streams; places = c.append.new.places; ready = c.retell.new.ready }) c.args.writer c.args.reader c.args.ty = record {
+    let made : MakesStream c.self.inside (record c.self.inside { counter = c.insert_ends.new.counter; guests = c.insert_ends.new.guests; streams = c.append.new.streams; places = c.append.new.places; ready = c.add_stream.new.self }) c.args.writer c.args.reader c.args.ty = record {
       same = record { tag = refl; limits = refl; producers = refl; kept = refl; consumers = refl; contexts = refl; trapped = refl };
       counter = c.in_ok-numbers.ensures.gives.counter;
       live = c.in_ok-numbers.ensures.gives.live;
@@ -112,7 +139,8 @@ returns c =
       bytes = refl;
       guests = c.in_ok-numbers.ensures.gives.guests ∙ ap (with_ends (guests_of old.guests.items) c.args.writer c.args.reader c.args.ty) number;
       streams = c.append.ensures.streams ∙ rw c.in_ok-make_room.ensures.streams (ap (λ (s : Stream). old.streams.items ++ s ∷ []) joined);
-      retold = subst (λ (s : Stream). Retells (guests_of c.insert_ends.new.guests.items) s old.ready.items c.retell.new.ready.items) joined c.retell.ensures;
+      added = added_after _ _ _ _ _ c.in_ok-reserve.ensures.sets c.in_ok-reserve.ensures.counts
+          (subst (λ (s : Stream). Added (guests_of c.insert_ends.new.guests.items) s c.reserve.new.self c.add_stream.new.self) joined c.add_stream.ensures);
     } in
     rw (← c.self.view_is)
     (performs-made old _ c.args.writer c.args.reader c.args.ty _ made

@@ -7,7 +7,7 @@ use Rattle.strm_channels.specs.Guests.{guest_of, guests_of}
 use Rattle.strm_host_turns.proofs.WriterTurnLemmas.{handed_on}
 use Rattle.strm_places.proofs.AgainLemmas.{next-read_end}
 use Rattle.strm_transmit.specs.Inside.{state_of}
-use Rattle.strm_transmit.specs.Telling.{Retells}
+use Rattle.strm_transmit.specs.ReadyGuests.{Retold}
 use Rattle.strm_transmit.proofs.AgainLemmas.{MakesAgain, IsStore-again, performs-again, joined_again, pair_again, free_of, made_behind, made_not}
 use Rattle.strm_transmit.proofs.PlaceLemmas.{next_gone, none_free}
 use Rattle.strm_transmit.proofs.StoreLemmas.{set_at}
@@ -76,7 +76,7 @@ invariant_of-self-2 c =
       places = c.reuse.ensures.places;
       guests = c.in_ok-numbers.ensures.gives.guests;
       streams = c.reuse.ensures.streams ∙ ap (set old.streams.items n) joined;
-      retold = subst (λ (s : Stream). Retells (guests_of c.insert_ends.new.guests.items) s old.ready.items c.retell.new.ready.items) (placed ∙ joined) c.retell.ensures;
+      retold = subst (λ (s : Stream). Retold (guests_of c.insert_ends.new.guests.items) n s old.ready c.retell.new.self) (placed ∙ joined) c.retell.ensures;
     })
     (rw (← c.self.view_is) at c.requires.may) (rw (← c.self.view_is) at c.requires.unserved) c.self.invariant
 
@@ -89,7 +89,7 @@ returns-clause-meets c =
     let joined = joined_again old n c.args.writer c.args.reader c.args.ty c.in_ok-numbers.numbers c.stream_of-joined.result c.in_ok-numbers.ensures.gives.numbers
     (c.stream_of-joined.ensures c.args.ty c.kind-kind.ensures c.payload-payload.ensures ∙ rw c.pair_of-pair.ensures refl) in
     let placed = set_at old.streams.items c.reuse.new.streams.items n c.stream_of-joined.result c.index-placed.result.now gone.made c.reuse.ensures.streams c.index-placed.ensures in
-    let made : MakesAgain old (record old { counter = c.insert_ends.new.counter; guests = c.insert_ends.new.guests; streams = c.reuse.new.streams; places = c.reuse.new.places; ready = c.retell.new.ready }) n c.args.writer c.args.reader c.args.ty = record {
+    let made : MakesAgain old (record old { counter = c.insert_ends.new.counter; guests = c.insert_ends.new.guests; streams = c.reuse.new.streams; places = c.reuse.new.places; ready = c.retell.new.self }) n c.args.writer c.args.reader c.args.ty = record {
       same = record { tag = refl; limits = refl; producers = refl; kept = refl; consumers = refl; contexts = refl; trapped = refl };
       counter = c.in_ok-numbers.ensures.gives.counter;
       live = c.in_ok-numbers.ensures.gives.live;
@@ -99,7 +99,7 @@ returns-clause-meets c =
       places = c.reuse.ensures.places;
       guests = c.in_ok-numbers.ensures.gives.guests;
       streams = c.reuse.ensures.streams ∙ ap (set old.streams.items n) joined;
-      retold = subst (λ (s : Stream). Retells (guests_of c.insert_ends.new.guests.items) s old.ready.items c.retell.new.ready.items) (placed ∙ joined) c.retell.ensures;
+      retold = subst (λ (s : Stream). Retold (guests_of c.insert_ends.new.guests.items) n s old.ready c.retell.new.self) (placed ∙ joined) c.retell.ensures;
     } in
     rw (← c.self.view_is)
     (record {

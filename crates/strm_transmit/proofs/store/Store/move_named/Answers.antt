@@ -1,6 +1,6 @@
 use Rattle.std.proofs.Common.{◌≡◌, ℕ, List, length, refl, ap, ◌∙◌, subst, arith}
 use Rattle.strm_machine.specs.declared.streams.Stream.{Stream}
-use Rattle.strm_transmit.specs.Telling.{Retells}
+use Rattle.strm_transmit.specs.ReadyGuests.{Retold}
 use Rattle.strm_transmit.proofs.PlaceLemmas.{live_stays}
 use Rattle.strm_transmit.proofs.StoreLemmas.{set_at}
 use Rattle.std.proofs.lemmas.List.{length-map, length-set}
@@ -72,18 +72,19 @@ invariant_of-self-2 c =
     let fits = move_fits (state_of c.self.inside) c.args.end.now c.args.to (rw (← c.self.view_is) at c.requires.may) in
     let made = named_made (state_of c.self.inside) (side_named (named (state_of c.self.inside) c.args.end.now)) c.args.end.now c.args.found.0 c.self.invariant.sound fits.leaves
     (ap (λ (q : ℕ × Side). q.0) (rw (← c.self.view_is) at c.requires.found)) in
-    IsStore-moved c.self.inside _ c.args.found.0 c.args.found.1 c.args.end.now c.args.to c.in_ok-handle.handle c.leave.new.ready.items
+    IsStore-moved c.self.inside _ c.args.found.0 c.args.found.1 c.args.end.now c.args.to c.in_ok-handle.handle c.leave.new.self
     (record {
       same = record { tag = refl; limits = refl; producers = refl; kept = refl; consumers = refl; contexts = refl; trapped = refl };
       bytes = refl;
       live_sets = refl;
       counted = c.set_owner.ensures.places;
       streams = c.set_owner.ensures.streams;
-      retold = subst (λ (x : Stream). Retells (guests_of c.move_end.new.guests.items) x c.leave.new.ready.items c.retell.new.ready.items)
+      retold = subst (λ (x : Stream). Retold (guests_of c.move_end.new.guests.items) c.args.found.0 x c.leave.new.self c.retell.new.self)
           (set_at c.self.inside.streams.items c.set_owner.new.streams.items c.args.found.0 _ c.index.result.now made c.set_owner.ensures.streams c.index.ensures) c.retell.ensures;
+      kept_counts = c.leave.ensures.counts;
     })
     c.in_ok-handle.ensures.moves
-    (record { home = c.home_of-home.result; is = c.home_of-home.ensures; leaves = c.leave.ensures })
+    (record { home = c.home_of-home.result; is = c.home_of-home.ensures; leaves = c.leave.ensures.leaves })
     (rw (← c.self.view_is) at c.requires.untrapped) (rw (← c.self.view_is) at c.requires.may)
     (ap (λ (q : ℕ × Side). q.0) (rw (← c.self.view_is) at c.requires.found)) (ap (λ (q : ℕ × Side). q.1) (rw (← c.self.view_is) at c.requires.found))
     c.self.invariant

@@ -8,6 +8,7 @@ use Rattle.strm_transmit.proofs.KeptLemmas.{have_none}
 use Rattle.strm_transmit.proofs.PlaceLemmas.{ArePlaces-none}
 use Rattle.strm_transmit.proofs.ServedLemmas.{not_unused, all_unused, AreServed-none}
 use Rattle.strm_transmit.proofs.store.Store.new.Goals as goal
+use Rattle.strm_transmit.proofs.ReadyGuestLemmas.{counted-none}
 
 says_none : (g number handle : ℕ) (b : Bool) → SaysOf [] g number handle b
 says_none zero zero handle b = tt
@@ -26,7 +27,8 @@ pub invariant_of-result : goal.invariant_of-result
 invariant_of-result c = record {
   sound = rw (c.new-2.ensures.items, c.new-3.ensures.items, c.new-5.ensures) (IsSound-same (empty c.args.tag c.args.limits) _ refl refl refl (IsSound-empty c.args.tag c.args.limits));
   held = rw (c.new-2.ensures.items, c.new-3.ensures.items) (StateIsHeld-empty c.args.tag c.args.limits);
-  told = rw (c.new-2.ensures.items, c.new-3.ensures.items, c.new-7.ensures.items) told_none;
+  told = rw (c.new-2.ensures.items, c.new-3.ensures.items, c.new-7.ensures.sets) told_none;
+  ready_counted = rw (c.new-2.ensures.items, c.new-3.ensures.items) (counted-none [] [] _ c.new-7.ensures.counts);
   limit = rw c.new.ensures refl;
   live = rw (c.new.ensures, c.new-2.ensures.items) refl;
   within = rw c.new.ensures (omega arith);

@@ -7,7 +7,7 @@ use Rattle.strm_machine.specs.declared.streams.Stream.{Stream}
 use Rattle.strm_machine.proofs.SideLemmas.{with_operation-keeps}
 use Rattle.strm_channels.specs.Guests.{guests_of}
 use Rattle.strm_transmit.specs.Inside.{state_of}
-use Rattle.strm_transmit.specs.Telling.{Retells}
+use Rattle.strm_transmit.specs.ReadyGuests.{Retold}
 use Rattle.strm_transmit.proofs.StoreLemmas.{stream_at-there}
 use Rattle.strm_transmit.proofs.EndingLemmas.{IsStore-set}
 use Rattle.strm_transmit.proofs.store.Store.open.Goals as goal
@@ -28,6 +28,6 @@ invariant_of-self c =
       live_sets = refl;
       bytes = refl;
       streams = ap (set c.self.inside.streams.items c.args.stream) (c.begin.ensures ∙ ap (λ (o : Operation). with_operation c.args.side c.index_mut-meeting.result.now o) (sym c.requires.begun) ∙ ap (λ (s : Stream). with_operation c.args.side s c.args.operation) (sym here));
-      retold = subst (λ (x : Stream). Retells (guests_of c.self.inside.guests.items) x c.self.inside.ready.items c.retell.new.ready.items) (c.begin.ensures ∙ ap (λ (o : Operation). with_operation c.args.side c.index_mut-meeting.result.now o) (sym c.requires.begun) ∙ ap (λ (s : Stream). with_operation c.args.side s c.args.operation) (sym here)) c.retell.ensures;
+      retold = subst (λ (x : Stream). Retold (guests_of c.self.inside.guests.items) c.args.stream x c.self.inside.ready c.retell.new.self) (c.begin.ensures ∙ ap (λ (o : Operation). with_operation c.args.side c.index_mut-meeting.result.now o) (sym c.requires.begun) ∙ ap (λ (s : Stream). with_operation c.args.side s c.args.operation) (sym here)) c.retell.ensures;
     })
     c.self.invariant

@@ -26,7 +26,8 @@ invariant_of-self-2 c =
       memory = c.in_ok-memory.ensures;
       handles = c.new-2.ensures.empty;
       sets = c.new-3.ensures;
-      ready = refl;
+      ready = c.in_ok-add_guest.ensures.sets;
+      ready_guests = record { counting = c.in_ok-add_guest.ensures.counting; streams = c.in_ok-add_guest.ensures.streams; guests = c.in_ok-add_guest.ensures.ok };
     })
     (own_fits (state_of c.self.inside) c.args.size (rw (← c.self.view_is) at c.requires))
     (guest_fits (state_of c.self.inside) c.args.size (rw (← c.self.view_is) at c.requires)).bytes c.self.invariant
@@ -34,7 +35,7 @@ invariant_of-self-2 c =
 pub returns : goal.returns
 returns c =
     rw (← c.self.view_is)
-    (performs-guest c.self.inside (record c.self.inside { guests = c.push_reserved.new.self; bytes = c.self.inside.bytes + c.args.size }) (record { memory = c.in_ok-memory.memory; table = c.new-2.result; sets = c.new-3.result }) c.args.size c.len-number.result
+    (performs-guest c.self.inside (record c.self.inside { guests = c.push_reserved.new.self; ready = c.add_guest.new.self; bytes = c.self.inside.bytes + c.args.size }) (record { memory = c.in_ok-memory.memory; table = c.new-2.result; sets = c.new-3.result }) c.args.size c.len-number.result
     (record {
       same = record { tag = refl; limits = refl; producers = refl; kept = refl; consumers = refl; contexts = refl; trapped = refl };
       counter = refl;
@@ -47,6 +48,7 @@ returns c =
       memory = c.in_ok-memory.ensures;
       handles = c.new-2.ensures.empty;
       sets = c.new-3.ensures;
-      ready = refl;
+      ready = c.in_ok-add_guest.ensures.sets;
+      ready_guests = record { counting = c.in_ok-add_guest.ensures.counting; streams = c.in_ok-add_guest.ensures.streams; guests = c.in_ok-add_guest.ensures.ok };
     })
     (omega (arith, c.len-number.ensures, c.self.inside.guests.ok)))

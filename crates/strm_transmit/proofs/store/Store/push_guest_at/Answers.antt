@@ -8,7 +8,7 @@ use Rattle.strm_transmit.proofs.store.Store.push_guest_at.Goals as goal
 
 pub invariant_of-self-2 : goal.invariant_of-self-2
 invariant_of-self-2 c =
-    IsStore-guest c.self.inside (record c.self.inside { guests = c.push_reserved.new.self }) (record { memory = c.lent-memory.result; table = c.new.result; sets = c.new-2.result }) (of_engine c.args.bytes.items (vec_ptr c.args.bytes)) (length c.args.bytes.items)
+    IsStore-guest c.self.inside (record c.self.inside { guests = c.push_reserved.new.self; ready = c.add_guest.new.self }) (record { memory = c.lent-memory.result; table = c.new.result; sets = c.new-2.result }) (of_engine c.args.bytes.items (vec_ptr c.args.bytes)) (length c.args.bytes.items)
     (record {
       same = record { tag = refl; limits = refl; producers = refl; kept = refl; consumers = refl; contexts = refl; trapped = refl };
       counter = refl;
@@ -21,7 +21,8 @@ invariant_of-self-2 c =
       memory = c.lent-memory.ensures;
       handles = c.new.ensures.empty;
       sets = c.new-2.ensures;
-      ready = refl;
+      ready = c.in_ok-add_guest.ensures.sets;
+      ready_guests = record { counting = c.in_ok-add_guest.ensures.counting; streams = c.in_ok-add_guest.ensures.streams; guests = c.in_ok-add_guest.ensures.ok };
     })
     (guest_at_fits (state_of c.self.inside) (length c.args.bytes.items) (rw (← c.self.view_is) at c.requires))
     (omega (arith, own_within (state_of c.self.inside) c.self.invariant.sound)) c.self.invariant
@@ -29,7 +30,7 @@ invariant_of-self-2 c =
 pub returns : goal.returns
 returns c =
     rw (← c.self.view_is)
-    (adds-guest_at c.self.inside (record c.self.inside { guests = c.push_reserved.new.self }) (record { memory = c.lent-memory.result; table = c.new.result; sets = c.new-2.result }) c.args.bytes.items (vec_ptr c.args.bytes) (length c.args.bytes.items) c.len-number.result
+    (adds-guest_at c.self.inside (record c.self.inside { guests = c.push_reserved.new.self; ready = c.add_guest.new.self }) (record { memory = c.lent-memory.result; table = c.new.result; sets = c.new-2.result }) c.args.bytes.items (vec_ptr c.args.bytes) (length c.args.bytes.items) c.len-number.result
     (record {
       same = record { tag = refl; limits = refl; producers = refl; kept = refl; consumers = refl; contexts = refl; trapped = refl };
       counter = refl;
@@ -42,6 +43,7 @@ returns c =
       memory = c.lent-memory.ensures;
       handles = c.new.ensures.empty;
       sets = c.new-2.ensures;
-      ready = refl;
+      ready = c.in_ok-add_guest.ensures.sets;
+      ready_guests = record { counting = c.in_ok-add_guest.ensures.counting; streams = c.in_ok-add_guest.ensures.streams; guests = c.in_ok-add_guest.ensures.ok };
     })
     (omega (arith, c.len-number.ensures, c.self.inside.guests.ok)))

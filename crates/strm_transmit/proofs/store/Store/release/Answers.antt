@@ -7,7 +7,7 @@ use Rattle.strm_machine.specs.Tests.{end_named}
 use Rattle.strm_machine.specs.declared.streams.Stream.{Stream}
 use Rattle.strm_channels.specs.Guests.{guests_of}
 use Rattle.strm_channels.proofs.EndLemmas.{removable_end}
-use Rattle.strm_transmit.specs.Telling.{Retells}
+use Rattle.strm_transmit.specs.ReadyGuests.{Retold}
 use Rattle.strm_transmit.proofs.PlaceLemmas.{live_stays}
 use Rattle.strm_transmit.proofs.StoreLemmas.{set_at}
 use Rattle.strm_transmit.specs.Inside.{state_of}
@@ -45,18 +45,19 @@ invariant_of-self c =
     let fits = rw (← c.self.view_is) at c.requires.fits in
     let stream = rw (← c.self.view_is) at c.requires.stream in
     let made = named_made state c.args.side c.args.end.now c.args.stream c.self.invariant.sound fits stream in
-    IsStore-released i _ c.args.stream c.args.side c.args.owner c.leave.new.ready.items made c.requires.owner
+    IsStore-released i _ c.args.stream c.args.side c.args.owner c.leave.new.self made c.requires.owner
     (record {
       same = record { tag = refl; limits = refl; producers = refl; kept = refl; consumers = refl; contexts = refl; trapped = refl };
       bytes = refl;
       live_sets = refl;
       counted = c.set_owner.ensures.places;
       streams = c.set_owner.ensures.streams;
-      retold = subst (λ (x : Stream). Retells (guests_of c.remove_end.new.guests.items) x c.leave.new.ready.items c.retell.new.ready.items)
+      retold = subst (λ (x : Stream). Retold (guests_of c.remove_end.new.guests.items) c.args.stream x c.leave.new.self c.retell.new.self)
           (set_at i.streams.items c.set_owner.new.streams.items c.args.stream _ c.index.result.now made c.set_owner.ensures.streams c.index.ensures) c.retell.ensures;
+      kept_counts = c.leave.ensures.counts;
     })
     c.self.invariant c.args.end.now.guest c.args.end.now.handle fits.there
     (subst (λ n. is_end n c.args.side (end_named state c.args.end.now.guest c.args.end.now.handle) ≡ true) (sym stream) (named_end_is state c.args.side c.args.end.now c.self.invariant.sound fits))
     c.requires.given
-    (record { home = c.home_of-home.result; is = c.home_of-home.ensures; leaves = c.leave.ensures })
+    (record { home = c.home_of-home.result; is = c.home_of-home.ensures; leaves = c.leave.ensures.leaves })
     c.remove_end.ensures.frees

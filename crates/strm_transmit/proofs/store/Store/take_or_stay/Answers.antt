@@ -7,7 +7,7 @@ use Rattle.strm_machine.proofs.TurnLemmas.{operated-keeps}
 use Rattle.strm_machine.proofs.SoundLemmas.{placed_at}
 use Rattle.strm_channels.specs.Guests.{guests_of}
 use Rattle.strm_transmit.specs.Inside.{state_of}
-use Rattle.strm_transmit.specs.Telling.{Retells}
+use Rattle.strm_transmit.specs.ReadyGuests.{Retold}
 use Rattle.strm_transmit.proofs.BadItemLemmas.{on_err-bad, on_err-stays}
 use Rattle.strm_transmit.proofs.StoreLemmas.{IsStore-turn, stream_at-there}
 use Rattle.strm_transmit.proofs.store.Store.take_or_stay.Goals as goal
@@ -31,7 +31,7 @@ invariant_of-self c =
       bytes = refl;
       guests = sym (ap (λ (t : Operated). t.guests) e);
       streams = sym (ap (λ (t : Operated). set c.self.inside.streams.items c.args.stream t.stream) e);
-      retold = subst (λ (t : Operated). Retells t.guests t.stream c.self.inside.ready.items c.retell.new.ready.items) (sym e) c.retell.ensures;
+      retold = subst (λ (t : Operated). Retold t.guests c.args.stream t.stream c.self.inside.ready c.retell.new.self) (sym e) c.retell.ensures;
     })
     c.self.invariant
 
