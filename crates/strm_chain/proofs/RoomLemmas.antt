@@ -109,7 +109,7 @@ module _ (stages : List Stage) (input : ℕ) (none : fault_of stages input ≡ N
   tests : (nat_lt 8 (length stages) ≡ false) × (nat_lt 2 (count_by is_twice stages) ≡ false) × (nat_lt 65536 input ≡ false)
   tests = tests_of (nat_lt 8 (length stages)) (nat_lt 2 (count_by is_twice stages)) (nat_lt 65536 input) TooManyStages TooManyTwice TooLong none
 
-  few_stages : length stages ≤ 8
+  pub few_stages : length stages ≤ 8
   few_stages = ltb-false 8 (length stages) tests.0
 
   few_twice : count_by is_twice stages ≤ 2

@@ -1,14 +1,17 @@
-use Rattle.std.proofs.Common.{rules, ◌≡◌, ◌≤◌, ◌<◌, ◌+◌, ℕ, List, length, None, nat_lt, true, false}
-use Rattle.strm_chain.specs.Faults.{fault_of}
+use Rattle.std.proofs.Common.{rules, arith, length}
 use Rattle.strm_chain.proofs.ChainLemmas.{begins_ready}
+use Rattle.strm_chain.proofs.RoomLemmas.{few_stages}
 use Rattle.strm_chain.proofs.chains.Chain.new.Goals as goal
 
 pub invariant_of-result : goal.invariant_of-result
-invariant_of-result c = record {
-  chunk = c.requires;
-  some = (search rules, search rules);
-  going = c.in_ok-player.ensures.going;
-}
+invariant_of-result c =
+    let few = few_stages c.args.stages.now (length c.args.input.items) (search rules) in
+    let many = c.in_ok-player.ensures.ready.many in
+    record {
+      chunk = c.requires;
+      some = (omega (arith, many), omega (arith, many, few));
+      going = c.in_ok-player.ensures.going;
+    }
 
 pub returns-clause-begins : goal.returns-clause-begins
 returns-clause-begins c =
