@@ -29,6 +29,7 @@ use Rattle.strm_transmit.proofs.GuestLemmas.{making-unhosted}
 use Rattle.strm_guest_store.specs.Among.{IsAmongGuests}
 use Rattle.strm_guest_store.proofs.CountLemmas.{Grown, grown-not, making-grown, few_grown}
 use Rattle.strm_guest_store.proofs.AmongLemmas.{kept_in}
+use Rattle.strm_guest_store.proofs.MadeLemmas.{AreMade, making-made}
 use Rattle.strm_guest_store.proofs.OwnerLemmas.{of_agreed, agreed, AreKept, owned_by, uncancelled_by, making-owned, making-stays}
 
 -- ## Memories
@@ -89,4 +90,5 @@ module _ (old new : State) (result : Result Reply StoreError) (writer reader : �
         owned = owned_by new.streams kept;
         uncancelled = uncancelled_by new.streams kept;
         untrapped = meets_leaves (λ (s : State). s.trapped ≡ false) old new result r among.untrapped (making-stays old m.number act refl ∙ among.untrapped) m.meets;
+        made = meets_leaves (λ (s : State). AreMade s.guests) old new result r among.made (making-made old among.made m.number act) m.meets;
       }

@@ -1,5 +1,5 @@
 -- A call of the store without host ends is the machine's step, and leaves it so.
-use Rattle.std.proofs.Common.{◌≡◌, ◌≤◌, ◌+◌, arith, ap, ℕ, true, false, List, [], ◌++◌, length, refl, sym, subst, ◌∙◌}
+use Rattle.std.proofs.Common.{◌≡◌, ◌≤◌, ◌+◌, arith, ap, ℕ, zero, suc, true, false, List, [], ◌++◌, length, refl, sym, subst, ◌∙◌}
 use Rattle.std.specs.Prelude.{Result, Ok, Err, Bool, nat_lt, ◌&&◌, Option, Some, None}
 use Rattle.std.proofs.lemmas.Bool.{le-ltb, and_parts, cond_both}
 use Rattle.strm_memory.specs.Region.{bytes_out_of_bounds}
@@ -36,6 +36,7 @@ use Rattle.strm_transmit.specs.declared.errors.StoreError.TheVariants as errors
 use Rattle.strm_transmit.proofs.GuestLemmas.{reaction-unhosted, lowering-unhosted, empty-unhosted}
 use Rattle.strm_guest_store.specs.Among.{HandlesAgree, IsAmongGuests, HasBytes}
 use Rattle.strm_guest_store.proofs.CountLemmas.{makes_none, AsMany, few_kept, reaction-many, lowering-many}
+use Rattle.strm_guest_store.proofs.MadeLemmas.{AreMade, none-made, added-made, same-made, reaction-made, lowering-made}
 use Rattle.strm_guest_store.proofs.OwnerLemmas.{of_agreed, agreed, AreKept, kept_by, owned_by, uncancelled_by, copies_none, reaction-owned, reaction-stays, lowering-owned, lowering-stays, none-owned}
 
 -- what a step leaves where it makes no stream
@@ -45,6 +46,7 @@ pub record LeavesGuests (old new : State) : Type 0 where
   pub held : HandlesAgree new
   pub kept : AreKept new.streams
   pub untrapped : new.trapped ≡ false
+  pub made : AreMade new.guests
 
 pub kept_in : (state : State) → IsAmongGuests state → AreKept state.streams
 kept_in state among = kept_by state.streams among.owned among.uncancelled
@@ -60,6 +62,7 @@ after-done old new r reply among l f e =
       owned = owned_by new.streams now.kept;
       uncancelled = uncancelled_by new.streams now.kept;
       untrapped = now.untrapped;
+      made = now.made;
     }
 
 pub after-call : (old new : State) (result : Result Reply StoreError) (r : Reaction) → IsAmongGuests old → LeavesGuests old r.state → Fits new nobody → Meets old new result r → IsAmongGuests new
@@ -85,6 +88,7 @@ step-leaves old act n among =
       held = agreed (reaction old act).state (reaction-held old act among.unhosted.sound (of_agreed old among.held));
       kept = reaction-owned old among.unhosted.sound (of_agreed old among.held) among.unhosted.none (kept_in old among) act;
       untrapped = reaction-stays old act plain.1 ∙ among.untrapped;
+      made = reaction-made old among.made act;
     }
 
 -- a call that takes no host ends
@@ -111,8 +115,14 @@ lowered_among old new result number g among m f =
       held = agreed (lowers_context old number g).state (lowering-held old number g among.unhosted.sound (of_agreed old among.held));
       kept = lowering-owned old number g (kept_in old among);
       untrapped = lowering-stays old number g ∙ among.untrapped;
+      made = lowering-made old among.made number g;
     })
     (f nobody among.fits) m
+
+-- where there is no guest, none has a handle
+empty-made : AreMade []
+empty-made zero = none-made
+empty-made (suc g) = none-made
 
 pub empty_among : (tag : ℕ) (limits : Limits) → Fits (empty tag limits) nobody → IsAmongGuests (empty tag limits)
 empty_among tag limits f = record {
@@ -123,6 +133,7 @@ empty_among tag limits f = record {
   owned = owned_by [] none-owned;
   uncancelled = uncancelled_by [] none-owned;
   untrapped = refl;
+  made = empty-made;
 }
 
 and-false : (a : Bool) → (a && false) ≡ false
@@ -143,6 +154,7 @@ guests_among state guests keeps among = record {
   owned = among.owned;
   uncancelled = among.uncancelled;
   untrapped = among.untrapped;
+  made = same-made state.guests guests (λ g. handles-same state.guests guests g keeps.handles) among.made;
 }
 
 -- bytes that are written into a memory, as many as they are
@@ -174,6 +186,7 @@ grown_among state guest more among may =
       owned = among.owned;
       uncancelled = among.uncancelled;
       untrapped = among.untrapped;
+      made = same-made state.guests guests (λ g. handles-same state.guests guests g (handles-grown state.guests guest (memory_in state.guests guest ++ more))) among.made;
     }
 
 -- and one that lies elsewhere then
@@ -194,6 +207,7 @@ at-leaves state bytes at among =
       held = agreed (adds_guest_at state bytes at).state (adds_guest_at-by StateIsHeld state bytes at (of_agreed state among.held) (λ fits. handed));
       kept = adds_guest_at-by (λ (s : State). AreKept s.streams) state bytes at (kept_in state among) (λ fits. kept_in state among);
       untrapped = adds_guest_at-by (λ (s : State). s.trapped ≡ false) state bytes at among.untrapped (λ fits. among.untrapped);
+      made = adds_guest_at-by (λ (s : State). AreMade s.guests) state bytes at among.made (λ fits. added-made state.guests (guest_at bytes at) none-made among.made);
     }
 
 pub added_among : (old new : State) (result : Result Reply StoreError) (bytes : List ℕ) (at : Ptr) → IsAmongGuests old → Meets old new result (adds_guest_at old bytes at) → StillFits old new → IsAmongGuests new

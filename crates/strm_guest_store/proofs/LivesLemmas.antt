@@ -1,8 +1,8 @@
 -- A store among guests stays one where a guest ends or begins, and all other memories lie where they lay.
-use Rattle.std.proofs.Common.{◌≡◌, ◌≢◌, ℕ, true, false, List, ◌<◌, arith, ap, length, refl, sym, subst, ◌∙◌, None}
-use Rattle.std.specs.Prelude.{Result, Ok, Err, OnOk, OnErr}
+use Rattle.std.proofs.Common.{◌≡◌, ◌≢◌, ℕ, true, false, List, ◌<◌, arith, ap, length, refl, sym, subst, ◌∙◌, ⊎_elim, inl, inr, None}
+use Rattle.std.specs.Prelude.{◌⊎◌, Result, Ok, Err, OnOk, OnErr, is_some}
 use Rattle.std.specs.Option.{option_map}
-use Rattle.std.proofs.lemmas.Bool.{false_from_ne_true}
+use Rattle.std.proofs.lemmas.Bool.{cases_eq, false_from_ne_true}
 use Rattle.std.proofs.lemmas.List.{get_or-set_other}
 use Rattle.strm_codes.specs.declared.refusals.Refusal.{Refusal}
 use Rattle.strm_events.specs.Reports.{report_of}
@@ -12,6 +12,8 @@ use Rattle.strm_machine.specs.Sides.{opposite, end_of}
 use Rattle.strm_machine.specs.Tests.{end_named}
 use Rattle.strm_machine.specs.State.{State, Guest, no_guest, guest_in, stream_at, is_gone}
 use Rattle.strm_machine.specs.declared.streams.End.{End}
+use Rattle.strm_machine.specs.declared.streams.Owner.{Owner}
+use Rattle.strm_machine.specs.declared.streams.Owner.TheVariants.{Held, Host, Loose, Gone}
 use Rattle.strm_machine.specs.declared.streams.Side.{Side}
 use Rattle.strm_machine.specs.declared.streams.Stream.{Stream}
 use Rattle.strm_machine.specs.Soundness.{IsSound}
@@ -20,7 +22,7 @@ use Rattle.strm_machine.specs.Refusals.{Reason, first_of}
 use Rattle.strm_machine.specs.declared.limits.Limits.{Limits}
 use Rattle.strm_machine.specs.declared.replies.Reply.{Reply}
 use Rattle.strm_machine.proofs.HeldLemmas.{StateIsHeld}
-use Rattle.strm_places.specs.Lives.{with_guest_in, handles_given_up, ended, begins_as, OwesNone, IsGivenUp}
+use Rattle.strm_places.specs.Lives.{with_guest_in, handles_given_up, ended, begins_as, OwesNone, IsGivenUp, is_made_by_steps, HasOnlyMade}
 use Rattle.strm_places.proofs.CalmLemmas.{given_up-calm}
 use Rattle.strm_places.proofs.FoldLemmas.{ended-others}
 use Rattle.strm_places.proofs.LivesLemmas.{Replaces, IsSound-replaced, held-replaced, begins_as-by}
@@ -33,10 +35,14 @@ use Rattle.strm_transmit.specs.Meets.{Meets}
 use Rattle.strm_transmit.specs.declared.errors.StoreError.{StoreError}
 use Rattle.strm_guest_store.specs.Among.{AreUncancelled, IsAmongGuests}
 use Rattle.strm_guest_store.specs.Ends.{IsOfOther, LosesEnds, IsPeer, report_alone}
+use Rattle.strm_guest_store.specs.OwnStreams.{IsMadeReady}
 use Rattle.strm_guest_store.proofs.AmongLemmas.{LeavesGuests, kept_in, after-call}
 use Rattle.strm_transmit.proofs.AgainLemmas.{meets_leaves}
 use Rattle.strm_guest_store.proofs.CountLemmas.{AsMany}
+use Rattle.strm_guest_store.proofs.MadeLemmas.{IsMade, AreMade, none-made, replaced-made}
 use Rattle.strm_guest_store.proofs.OwnerLemmas.{of_agreed, agreed, AreKept}
+use Rattle.strm_guest_store.proofs.OwnReadyLemmas.{unmade}
+use Rattle.strm_guest_store.proofs.TableGains.{table}
 
 -- ## A guest that ends
 
@@ -45,9 +51,21 @@ ended-calm : (state : State) (g : ℕ) → IsAmongGuests state → AreUncancelle
 ended-calm state g among k side =
     (given_up-calm state g (λ n. record { none = among.unhosted.none n; uncancelled = among.uncancelled n }) k).uncancelled side
 
-pub ended_among : (old new : State) (g : ℕ) (result : Result (Unit {0}) Refusal) → IsAmongGuests old → OnOk result (new ≡ ended old g) → OnOk result (StaysAmong old new) → OnErr result (new ≡ old) → StillFits old new → IsAmongGuests new
-ended_among old new g (Err refusal) among ok s err f = subst IsAmongGuests (sym err) among
-ended_among old new g (Ok done) among e s err f = record {
+-- the guest is as one that was never made, where its table had only what steps make
+abbrev EndsMade : State → State → ℕ → Type 0
+EndsMade old new g = HasOnlyMade old g → guest_in new.guests g ≡ no_guest
+
+-- so tables hold only that still: the guest's none, and all others have what they had
+ended-made : (old new : State) (g : ℕ) → new ≡ ended old g → guest_in new.guests g ≡ no_guest → AreMade old.guests → AreMade new.guests
+ended-made old new g e nothing all k = by (cases_eq k g)
+  where
+    by : (k ≡ g) ⊎ (k ≢ g) → IsMade (table new.guests k)
+    by (inl here) = subst (λ (y : Guest). IsMade y.handles) (sym (ap (guest_in new.guests) here ∙ nothing)) none-made
+    by (inr ne) = subst (λ (y : Guest). IsMade y.handles) (sym (ap (λ (s : State). guest_in s.guests k) e ∙ ended-others old g k ne)) (all k)
+
+pub ended_among : (old new : State) (g : ℕ) (result : Result (Unit {0}) Refusal) → IsAmongGuests old → OnOk result (new ≡ ended old g) → OnOk result (EndsMade old new g) → OnOk result (StaysAmong old new) → OnErr result (new ≡ old) → StillFits old new → IsAmongGuests new
+ended_among old new g (Err refusal) among ok nothing s err f = subst IsAmongGuests (sym err) among
+ended_among old new g (Ok done) among e nothing s err f = record {
   unhosted = record { sound = s.sound; none = s.unhosted };
   fits = f nobody among.fits;
   few = omega (arith, among.few, s.many, ap (λ (l : Limits). l.places) s.limits);
@@ -55,7 +73,13 @@ ended_among old new g (Ok done) among e s err f = record {
   owned = s.owned;
   uncancelled = subst (λ (state : State). AreUncancelled state.streams) (sym e) (ended-calm old g among);
   untrapped = s.trapped ∙ among.untrapped;
+  made = ended-made old new g e (nothing (among.made g)) among.made;
 }
+
+-- and it is as one that was never made
+pub ended_nothing : (old new : State) (g : ℕ) (result : Result (Unit {0}) Refusal) → IsAmongGuests old → OnOk result (EndsMade old new g) → OnOk result (guest_in new.guests g ≡ no_guest)
+ended_nothing old new g (Err refusal) among nothing = tt
+ended_nothing old new g (Ok done) among nothing = nothing (among.made g)
 
 -- a guest in the place of another leaves all other memories where they lay
 replaced-bases : (state : State) (g : ℕ) (x : Guest) → BasesStayBut g state.guests (with_guest_in state g x).guests
@@ -80,6 +104,8 @@ begun-leaves state g x reasons among replaces = record {
   held = agreed (begins_as state g x reasons).state (begins_as-by state g x reasons StateIsHeld (of_agreed state among.held) (λ none. held-replaced state g x (replaces none) (of_agreed state among.held)));
   kept = begins_as-by state g x reasons (λ (s : State). AreKept s.streams) (kept_in state among) (λ none. kept_in state among);
   untrapped = begins_as-by state g x reasons (λ (s : State). s.trapped ≡ false) among.untrapped (λ none. among.untrapped);
+  made = begins_as-by state g x reasons (λ (s : State). AreMade s.guests) among.made
+      (λ none. replaced-made state.guests g x (λ n. ap is_made_by_steps ((replaces none).looks.entries n) ∙ among.made g n) among.made);
 }
 
 pub begun_among : (old new : State) (g : ℕ) (x : Guest) (reasons : List Reason) (result : Result Reply StoreError) → IsAmongGuests old → (first_of reasons ≡ None → Replaces old g x) → Meets old new result (begins_as old g x reasons) → StillFits old new → IsAmongGuests new
@@ -105,6 +131,17 @@ ends_played state g among there owes =
     })
 
 -- ## What becomes of streams
+
+-- an owner is the guest under some handle, or none of its handles is meant
+by_guest : {P : Type 0} (g : ℕ) (owner : Owner) → ((handle : ℕ) → owner ≡ Held g handle → P) → (((handle : ℕ) → owner ≢ Held g handle) → P) → P
+by_guest g (Held k handle) mine other =
+    ⊎_elim (λ e. mine handle (ap (λ n. Held n handle) e)) (λ ne. other (λ h same. ne (held_by h same))) (cases_eq k g)
+  where
+    held_by : (h : ℕ) → Held k handle ≡ Held g h → k ≡ g
+    held_by h same = cc
+by_guest g (Host n) mine other = other (λ h same. cc)
+by_guest g Loose mine other = other (λ h same. cc)
+by_guest g Gone mine other = other (λ h same. cc)
 
 module _ (state : State) (g s : ℕ) (among : IsAmongGuests state) (there : g < length state.guests) where
   abbrev was : Stream
@@ -138,3 +175,20 @@ module _ (state : State) (g s : ℕ) (among : IsAmongGuests state) (there : g < 
       ∙ ap (λ (end : End). report_of was.kind (option_map pending_of end.operation) (is_gone (end_of (opposite side) is).owner) end.told is.passed) same
       ∙ ap (λ b. report_of was.kind (option_map pending_of (end_of side was).operation) b (end_of side was).told is.passed) gone
       ∙ ap (λ b. report_of was.kind (option_map pending_of (end_of side was).operation) true (end_of side was).told b) loses_ends.passed
+
+  -- where neither end is the guest's, each is to be told what it was
+  stays_told : (side : Side) → IsOfOther g (end_of side was) → IsOfOther g (end_of (opposite side) was) → report_on side is ≡ report_on side was
+  stays_told side this that =
+      ap (λ kind. report_of kind (option_map pending_of (end_of side is).operation) (is_gone (end_of (opposite side) is).owner) (end_of side is).told is.passed) loses_ends.kind
+      ∙ ap (λ (end : End). report_of was.kind (option_map pending_of end.operation) (is_gone (end_of (opposite side) is).owner) end.told is.passed) (loses_ends.others side this)
+      ∙ ap (λ (end : End). report_of was.kind (option_map pending_of (end_of side was).operation) (is_gone end.owner) (end_of side was).told is.passed) (loses_ends.others (opposite side) that)
+      ∙ ap (λ b. report_of was.kind (option_map pending_of (end_of side was).operation) (is_gone (end_of (opposite side) was).owner) (end_of side was).told b) loses_ends.passed
+
+  -- an end that is not gone, and is made ready, is across from one of the guest's
+  pub newly_told : (side : Side) → is_gone (end_of side is).owner ≡ false → IsMadeReady side was is → IsPeer g side was
+  newly_told side left made =
+      by_guest g (end_of side was).owner
+      (λ handle owned. absurd (unmade false true refl refl (sym (ap is_gone (loses_ends.mine side handle owned).owner) ∙ left)))
+      (λ this. by_guest g (end_of (opposite side) was).owner
+      (λ handle theirs. record { other = this; handle = handle; theirs = theirs })
+      (λ that. absurd (unmade _ _ made.before made.now (ap is_some (stays_told side this that)))))

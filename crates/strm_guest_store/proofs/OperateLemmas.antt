@@ -34,6 +34,7 @@ use Rattle.strm_guest_store.specs.declared.operations.OperateError.{OperateError
 use Rattle.strm_guest_store.specs.declared.operations.OperateError.TheVariants as operate_errors
 use Rattle.strm_guest_store.proofs.AmongLemmas.{LeavesGuests, kept_in, after-done}
 use Rattle.strm_guest_store.proofs.CountLemmas.{reaction-many}
+use Rattle.strm_guest_store.proofs.MadeLemmas.{reaction-made}
 use Rattle.strm_guest_store.proofs.OwnerLemmas.{of_agreed, agreed, reaction-owned}
 
 -- ## The call
@@ -67,6 +68,7 @@ module _ (old new : State) (side : Side) (end : NamedEnd) (address count : ℕ) 
         held = agreed (reaction old act).state (reaction-held old act among.unhosted.sound (of_agreed old among.held));
         kept = reaction-owned old among.unhosted.sound (of_agreed old among.held) among.unhosted.none (kept_in old among) act;
         untrapped = ap (λ (s : State). s.trapped) is ∙ untrapped_by old step (replies.Code code) new among.untrapped refl (sym reacted ∙ e);
+        made = reaction-made old among.made act;
       } in
       after-done old new (reaction old act) (replies.Code code) among leaves (f nobody among.fits) e
 

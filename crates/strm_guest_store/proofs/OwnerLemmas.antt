@@ -10,7 +10,7 @@ use Rattle.strm_machine.specs.State.{State, Guest, no_stream, stream_at, is_gone
 use Rattle.strm_machine.specs.Making.{made_pair, made_stream, with_stream}
 use Rattle.strm_machine.specs.Meetings.{begun, advanced}
 use Rattle.strm_machine.specs.Moves.{with_owner, without_handle, next_in}
-use Rattle.strm_machine.specs.Operating.{Operated, with_received, waits, moves, completes_alone, rendezvous_by, learns, finds, operate}
+use Rattle.strm_machine.specs.Operating.{Operated, with_received, moves, completes_alone, rendezvous_by, learns, finds, operate}
 use Rattle.strm_machine.specs.Endings.{report_on, told_end, delivered, dropped, waits_for_host, code_of_cancel, cancelled_end, cancelled}
 use Rattle.strm_machine.specs.Refusals.{refusal, first_of, lower_context_reasons}
 use Rattle.strm_machine.specs.Reactions.{Reaction, written_back, polls, shares_unless, performs, reaction, lowers_context}

@@ -20,7 +20,7 @@ use Rattle.strm_memory.specs.Items.{items_at, stored_at}
 use Rattle.strm_machine.specs.State.{State, Guest, no_guest, is_gone, guest_in, memory_in, with_memory, with_table}
 use Rattle.strm_machine.specs.Making.{end_entry}
 use Rattle.strm_machine.specs.Operating.{Operated, completes_alone, finds, rendezvous_by, moves, operate}
-use Rattle.strm_machine.specs.Reactions.{Reaction, on_end, on_set, polls, texts, on_memory, written_back}
+use Rattle.strm_machine.specs.Reactions.{Reaction, operates, on_end, on_set, polls, texts, on_memory, written_back}
 use Rattle.strm_machine.specs.Sides.{end_of, opposite, same_side, read_of, write_of}
 use Rattle.strm_machine.specs.Tests.{named, stream_named}
 use Rattle.strm_machine.specs.WaitableSets.{ready_in}
@@ -256,6 +256,12 @@ back_stays : (state : State) (s : ℕ) (t : Operated) (code : Option ReturnCode)
 back_stays state s t None g h = h
 back_stays state s t (Some code) g h = h
 
+-- a read or write changes no table
+pub operated-table : (state : State) (side : Side) (end : NamedEnd) (address count g : ℕ) → table (operates state side end address count).state.guests g ≡ table state.guests g
+operated-table state side end address count g =
+    let t = turn_on state side end address count in
+    back_stays state (stream_named (named state end)) t t.code g (turn_stay side state.guests (stream_on state end) (begun_on end address count) g)
+
 module _ (limits : GuestLimits) (state : State) (g : ℕ) where
   -- a guest has no more after an act
   abbrev pub After : Reaction → Type 0
@@ -274,8 +280,7 @@ module _ (limits : GuestLimits) (state : State) (g : ℕ) where
 
   pub on_end-no_more : (side : Side) (end : NamedEnd) (act : EndAct) → After (on_end state side end act)
   on_end-no_more side end (Operate address count) =
-      let t = turn_on state side end address count in
-      keeps-no_more limits state.guests _ g (back_stays state (stream_named (named state end)) t t.code g (turn_stay side state.guests (stream_on state end) (begun_on end address count) g))
+      keeps-no_more limits state.guests _ g (operated-table state side end address count g)
   on_end-no_more side end Drop = freed end.guest end.handle _
   on_end-no_more side end Cancel = same
   on_end-no_more side end Lift = freed end.guest end.handle _

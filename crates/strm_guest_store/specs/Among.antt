@@ -9,6 +9,7 @@ use Rattle.strm_machine.specs.declared.streams.Owner.TheVariants.{Held}
 use Rattle.strm_machine.specs.declared.streams.Side.{Side}
 use Rattle.strm_machine.specs.declared.streams.Stream.{Stream}
 use Rattle.strm_host_machine.specs.Does.{Fits}
+use Rattle.strm_places.specs.Lives.{HasOnlyMade}
 use Rattle.strm_transmit.specs.Guests.{Unhosted, nobody, AreOfOwners}
 
 -- handles and ends agree: an end that a handle names is its guest's, under that handle, and each end that a guest has
@@ -26,7 +27,8 @@ AreUncancelled streams = (s : ℕ) (side : Side) → is_cancel_under_way side (s
 
 -- sound, no host end has an end of a stream, and none has to be there; and there are no more streams than the
 -- limit on places has room for at once, since the places of those that are gone are given again. Handles and ends
--- agree, each operation is of the guest that has its end, none is being cancelled, and nothing traps such a store
+-- agree, each operation is of the guest that has its end, none is being cancelled, and nothing traps such a store. No
+-- call makes a resource or a subtask, so tables hold only ends, waitable sets and error contexts
 pub record IsAmongGuests (state : State) : Type 0 where
   pub unhosted : Unhosted state
   pub fits : Fits state nobody
@@ -35,6 +37,7 @@ pub record IsAmongGuests (state : State) : Type 0 where
   pub owned : AreOfOwners state.streams
   pub uncancelled : AreUncancelled state.streams
   pub untrapped : state.trapped ≡ false
+  pub made : (g : ℕ) → HasOnlyMade state g
 
 -- a guest's memory has so many bytes from an address on
 pub record HasBytes (state : State) (guest address count : ℕ) : Type 0 where

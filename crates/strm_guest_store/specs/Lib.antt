@@ -4,3 +4,5 @@ pub mod Operations
 pub mod Limits
 pub mod Limited
 pub mod Ends
+pub mod Ready
+pub mod OwnStreams

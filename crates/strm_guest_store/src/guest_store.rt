@@ -16,6 +16,7 @@ mod memories;
 mod moves;
 mod operating;
 mod queries;
+mod ready;
 mod sets;
 mod streams;
 
@@ -48,7 +49,6 @@ impl Model for GuestStore {
     ghost invariant = { λ s. IsAmongGuests s.store };
 }
 
-#[tactic(auto, using(crate::proofs::AmongLemmas::empty_among))]
 impl GuestStore {
     /// A store without guests, of this tag, under these limits. Takes no memory.
     pub fn new(alloc: Global, tag: u64, limits: Limits) -> GuestStore

@@ -2,27 +2,37 @@
 //!
 //! Meaning: `Guests.antt` of `strm_transmit`, `Bases.antt` of `strm_machine`, `Again.antt` of `strm_places`. Ours.
 
-ghost use Rattle.std.specs.Prelude.{◌≡◌, ℕ, ◌<◌, ◌^◌, false, List, length, Result, Err};
-ghost use Rattle.strm_machine.specs.Bases.{BasesStay};
-ghost use Rattle.strm_machine.specs.Reactions.{react, lowers_context};
+ghost use Rattle.std.specs.Prelude.{◌≡◌, ℕ, ◌<◌, ◌≤◌, ◌^◌, true, false, List, length, Some, None, Result, Err};
+ghost use Rattle.strm_codes.specs.declared.codes.ReturnCode.{ReturnCode};
 ghost use Rattle.strm_memory.specs.Bytes.{bytes_at};
+ghost use Rattle.strm_machine.specs.Acts.{act_of};
+ghost use Rattle.strm_machine.specs.Bases.{BasesStay};
 ghost use Rattle.strm_machine.specs.Endings.{report_on};
-ghost use Rattle.strm_machine.specs.State.{State, stream_at, memory_in, with_bytes};
 ghost use Rattle.strm_machine.specs.Growth.{grown, MayGrow};
+ghost use Rattle.strm_machine.specs.Reactions.{react, lowers_context};
+ghost use Rattle.strm_machine.specs.Sides.{opposite, end_of};
+ghost use Rattle.strm_machine.specs.State.{State, is_gone, stream_at, memory_in, with_bytes};
 ghost use Rattle.strm_machine.specs.Tests.{are_streams_full};
+ghost use Rattle.strm_machine.specs.WaitableSets.{is_ready};
 ghost use Rattle.strm_machine.specs.declared.replies.Reply.{Reply};
 ghost use Rattle.strm_machine.specs.declared.steps.Step.{Step};
+ghost use Rattle.strm_machine.specs.declared.streams.Owner.TheVariants.{Held};
 ghost use Rattle.strm_machine.specs.declared.streams.Side.{Side};
 ghost use Rattle.strm_places.specs.Again.{reacts_at};
 ghost use Rattle.strm_places.specs.Lives.{ended, handles_given_up, OwesNone, IsGivenUp};
 ghost use Rattle.strm_transmit.specs.Meets.{Meets};
+ghost use Rattle.strm_transmit.specs.Queries.{handle_told};
+ghost use Rattle.strm_transmit.specs.ReadyGuests.{is_ready_guest, next_ready_guest, IsNextReady};
 ghost use Rattle.strm_transmit.specs.declared.errors.StoreError.{StoreError};
 ghost use Rattle.strm_transmit.specs.declared.errors.StoreError.TheVariants as store_errors;
-ghost use Rattle.strm_codes.specs.declared.codes.ReturnCode.{ReturnCode};
 ghost use Rattle.strm_transmit.specs.declared.store.bad_items.BadItem.{BadItem};
+ghost use Rattle.strm_transmit.specs.declared.store.queries.EndInfo.{EndInfo};
+ghost use Rattle.strm_transmit.specs.declared.store.queries.Handle.TheVariants as handles;
 ghost use Rattle.strm_guest_store.specs.Among.{IsAmongGuests, HasBytes};
 ghost use Rattle.strm_guest_store.specs.Ends.{LosesEnds, IsPeer, report_alone};
 ghost use Rattle.strm_guest_store.specs.Operations.{MeetsOrTells};
+ghost use Rattle.strm_guest_store.specs.OwnStreams.{IsMadeReady, MakesOwnReady};
+ghost use Rattle.strm_guest_store.specs.Ready.{HasReadyHandle};
 ghost use Rattle.strm_guest_store.specs.declared.operations.OperateError.{OperateError};
 ghost use Rattle.strm_guest_store.specs.declared.operations.OperateError.TheVariants as errors;
 
@@ -107,4 +117,57 @@ pub fn ends_leave_others()
     ensures told { (state : State) (guest s : ℕ) (side : Side) → IsAmongGuests state →
         guest < length state.guests → IsPeer guest side (stream_at state s) →
         report_on side (stream_at (ended state guest) s) ≡ report_alone side (stream_at state s) }
+{}
+
+/// An end that a call makes ready is of the stream that the call is upon; a making, and the lowering of an error
+/// context, make none so. Where a guest ends, an end that becomes ready, and is not gone, is across from an end of that
+/// guest's. It does nothing.
+pub fn ready_by_its_own_stream()
+    ensures steps { (old new : State) (result : Result Reply StoreError) (step : Step) →
+        Meets old new result (react old step) → MakesOwnReady (act_of step) old new }
+    ensures makings { (old new : State) (result : Result Reply StoreError) (n : ℕ) (step : Step) →
+        Meets old new result (reacts_at n old step) → MakesOwnReady (act_of step) old new }
+    ensures operations { (old new : State) (result : Result ReturnCode OperateError) (step : Step) →
+        MeetsOrTells old new result step → MakesOwnReady (act_of step) old new }
+    ensures lowerings { (old new : State) (result : Result Reply StoreError) (number guest : ℕ) →
+        Meets old new result (lowers_context old number guest) → (s : ℕ) (side : Side) →
+        IsMadeReady side (stream_at old s) (stream_at new s) → ⊥ }
+    ensures ends { (state : State) (guest s : ℕ) (side : Side) → IsAmongGuests state →
+        guest < length state.guests →
+        is_gone (end_of side (stream_at (ended state guest) s)).owner ≡ false →
+        IsMadeReady side (stream_at state s) (stream_at (ended state guest) s) →
+        IsPeer guest side (stream_at state s) }
+{}
+
+/// The handle that is told of the other end is of the end across, of the same stream, whose other end is the first. So
+/// who made a call asks twice, of its own end and of the one across, and knows each end that the call made ready.
+/// It does nothing.
+pub fn across_is_told()
+    ensures { (state : State) (g handle to other : ℕ) (end : EndInfo) → IsAmongGuests state
+        → handle_told state g handle ≡ Some (handles.End end) → end.other ≡ Held to other
+        → handle_told state to other ≡ Some (handles.End (record {
+          ty = end.ty;
+          side = opposite end.side;
+          stream = end.stream;
+          event = report_on (opposite end.side) (stream_at state end.stream);
+          other = Held g handle;
+        })) }
+{}
+
+/// The next guest that is ready is ready, and none is from the number on and before it; where none is told, none is
+/// from the number on. It does nothing.
+pub fn next_ready_guest_is_the_least()
+    ensures next { (state : State) (from g : ℕ) → next_ready_guest state from ≡ Some g
+        → IsNextReady state from g }
+    ensures none { (state : State) (from g : ℕ) → next_ready_guest state from ≡ None → from ≤ g
+        → g < length state.guests → is_ready_guest state g ≡ false }
+{}
+
+/// A guest that is told to be ready has a handle whose end is to be told something, and one that has such a handle is
+/// told to be ready. It does nothing.
+pub fn ready_guests_have_events()
+    ensures has { (state : State) (g : ℕ) → IsAmongGuests state → is_ready_guest state g ≡ true →
+        HasReadyHandle state g }
+    ensures told { (state : State) (g handle : ℕ) → IsAmongGuests state →
+        is_ready state g handle ≡ true → is_ready_guest state g ≡ true }
 {}

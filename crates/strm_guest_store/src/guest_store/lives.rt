@@ -7,7 +7,7 @@ ghost use Rattle.std.specs.Vec.{vec_ptr};
 ghost use Rattle.strm_machine.specs.Bases.{BasesStayBut};
 ghost use Rattle.strm_machine.specs.State.{no_guest, guest_in};
 ghost use Rattle.strm_machine.specs.declared.replies.Reply.TheVariants as replies;
-ghost use Rattle.strm_places.specs.Lives.{ended, is_in_use, begins, begins_at, HasNoEnd, HasNoOperation, HasOnlyMade};
+ghost use Rattle.strm_places.specs.Lives.{ended, is_in_use, begins, begins_at, HasNoEnd, HasNoOperation};
 ghost use Rattle.strm_transmit.specs.Meets.{Meets, as_reply};
 ghost use Rattle.strm_transmit.specs.Queries.{of_guest};
 
@@ -29,9 +29,8 @@ impl GuestStore {
         ensures err { OnErr result (self.new ≡ self.old) }
         ensures ends { OnOk result (HasNoEnd self.new guest) }
         ensures operations { OnOk result (HasNoOperation self.new guest) }
-        // A table has only what steps make, but for resources and subtasks, of which no call makes one.
-        ensures nothing { OnOk result
-            (HasOnlyMade self.old guest → guest_in self.new.guests guest ≡ no_guest) }
+        // It is as one that was never made.
+        ensures nothing { OnOk result (guest_in self.new.guests guest ≡ no_guest) }
         // No other guest's memory, handles or sets change.
         ensures others { (g : ℕ) → g ≢ guest →
             guest_in self.new.guests g ≡ guest_in self.old.guests g }
