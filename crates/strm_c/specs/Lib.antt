@@ -7,6 +7,7 @@ pub mod Bytes
 pub mod Pairs
 pub mod Members
 pub mod Queries
+pub mod Ready
 pub mod Making
 pub mod Limits
 pub mod Named

@@ -9,6 +9,7 @@ mod memories;
 mod moves;
 mod pairs;
 mod queries;
+mod ready;
 mod sets;
 mod stores;
 mod streams;

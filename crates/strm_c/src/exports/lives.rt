@@ -4,6 +4,7 @@
 
 ghost use Rattle.std.specs.Prelude.{◌≡◌, ◌≢◌, ◌<◌, false, length, None, Some, IfSome};
 ghost use Rattle.std.specs.Vec.{vec_ptr};
+ghost use Rattle.strm_machine.specs.State.{no_guest, guest_in};
 ghost use Rattle.strm_places.specs.Lives.{ended, is_in_use, begins, begins_at};
 ghost use Rattle.strm_c.specs.Limits.{guest_answer};
 ghost use Rattle.strm_c.specs.Lives.{use_status};
@@ -26,6 +27,9 @@ pub extern "C" fn strm_end_guest(store: &mut StoreHandle, guest: u32) -> Status
     ensures status { IfSome store.old.state (λ s. result ≡ found_status (guest_answer s guest)) }
     ensures ended { IfSome store.old.state (λ s. result ≡ 0 →
         store.new.state ≡ Some (ended s guest)) }
+    // It is as one that was never made.
+    ensures nothing { IfSome store.new.state (λ s. result ≡ 0 →
+        guest_in s.guests guest ≡ no_guest) }
     ensures none { store.old.state ≡ None → result ≡ no_store }
     ensures same { result ≢ 0 → store.new.state ≡ store.old.state }
     ensures limits { store.new.limits ≡ store.old.limits }
