@@ -1,0 +1,6 @@
+pub mod Wholes
+pub mod Waiting
+pub mod Records
+pub mod SendQueues
+pub mod ReceiveQueues
+pub mod Runs
