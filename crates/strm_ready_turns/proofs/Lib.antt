@@ -1,0 +1,3 @@
+pub mod WriterLemmas
+pub mod ReaderLemmas
+pub mod PipeLemmas
