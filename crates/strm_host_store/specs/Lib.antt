@@ -1,0 +1,5 @@
+pub mod HostStates
+pub mod Calls
+pub mod Feeding
+pub mod Hosting
+pub mod Lending
