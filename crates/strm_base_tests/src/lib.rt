@@ -21,11 +21,17 @@ mod host_rules;
 #[cfg(test)]
 mod ids;
 #[cfg(test)]
+mod levels;
+#[cfg(test)]
 mod memories;
 #[cfg(test)]
 mod messages;
 #[cfg(test)]
 mod payloads;
+#[cfg(test)]
+mod ready_readers;
+#[cfg(test)]
+mod ready_writers;
 #[cfg(test)]
 mod resources;
 #[cfg(test)]

@@ -127,15 +127,24 @@ impl Reading {
         }
     }
 
-    /// Feeds the writer, and reads what it was fed, so many times.
-    #[inline(never)]
-    pub(crate) fn feed_and_read<H: HostEnds>(
+    /// So many feeds, each read at once, or a list.
+    pub(crate) fn work<H: HostEnds>(
         &mut self,
         hosts: &mut H,
-        rounds: u32,
+        feeds: Option<u32>,
     ) -> Result<(), StoreError>
         requires { Fits self.old.store (H.tells hosts.old) }
-        ensures fits { Fits self.new.store (H.tells hosts.new) }
+    {
+        match feeds {
+            Some(rounds) => self.feed_and_read(hosts, rounds),
+            None => self.read_list(hosts),
+        }
+    }
+
+    // Feeds the writer, and reads what it was fed, so many times.
+    #[inline(never)]
+    fn feed_and_read<H: HostEnds>(&mut self, hosts: &mut H, rounds: u32) -> Result<(), StoreError>
+        requires { Fits self.old.store (H.tells hosts.old) }
     {
         let step = feed();
         for round in 0..rounds {
@@ -147,11 +156,10 @@ impl Reading {
         Ok(())
     }
 
-    /// Reads a list, piece behind piece.
+    // Reads a list, piece behind piece.
     #[inline(never)]
-    pub(crate) fn read_list<H: HostEnds>(&mut self, hosts: &mut H) -> Result<(), StoreError>
+    fn read_list<H: HostEnds>(&mut self, hosts: &mut H) -> Result<(), StoreError>
         requires { Fits self.old.store (H.tells hosts.old) }
-        ensures fits { Fits self.new.store (H.tells hosts.new) }
     {
         for piece in 0..LISTED / PIECE {
             self.store

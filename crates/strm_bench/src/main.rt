@@ -1,5 +1,5 @@
-//! Times what a list of steps cannot time: calls of the store, copies of items, a demux that is fed in pieces, and
-//! the reading and writing of tapes. `words` has what the program's words choose of it.
+//! Times what a list of steps cannot time: calls of the store, copies of items, a demux that is fed in pieces, the
+//! reading and writing of tapes, and the store that threads share. `words` has what the program's words choose of it.
 //!
 //! Sums go to standard output and are the same in every run; times go to standard error.
 #![tactic(auto)]
@@ -14,18 +14,20 @@ mod rounds;
 mod sums;
 mod taken;
 mod tapes;
+mod threads;
 mod words;
 
 ghost use Rattle.strm_host_machine.specs.Does.{Fits};
 
 use crate::copies::{COUNTS, Copies};
 use crate::hosted::{FED, LISTED, Reading};
-use crate::taken::{BESIDE, DRIVES, Writing};
+use crate::taken::{BESIDE, DRIVES, Work, Writing};
+use crate::threads::Part;
 use crate::words::Timed;
 use std::io;
 use std::time::Instant;
 use strm_codes::codes::TransmitKind;
-use strm_codes::counts::ItemCount;
+use strm_codes::counts::{ItemCount, OutOfMemory};
 use strm_codes::payloads::Payload;
 use strm_codes::scalars::Scalar;
 use strm_host::erased::Erased;
@@ -33,6 +35,7 @@ use strm_host::erased_readers::ErasedReader;
 use strm_host_tests::copying::Copying;
 use strm_program_ends::credit_reader::CreditReader;
 use strm_program_ends::queue_writer::QueueWriter;
+use strm_transmit::errors::StoreError;
 use strm_transmit::host_ends::HostEnds;
 
 /// The payload of every stream, and without a second word of the rounds'.
@@ -43,15 +46,17 @@ fn main(rt: HostRuntime) -> io::Result<()> {
         Timed::All => {
             time_store(&rt)?;
             lanes::time_all(&rt, words::bytes(&rt)?)?;
-            tapes::time_all(&rt, words::bytes(&rt)?)
+            tapes::time_all(&rt, words::bytes(&rt)?)?;
+            threads::time(&rt, rt.alloc(), Part::All, words::rounds(&rt)?)
         }
         Timed::Store => time_store(&rt),
         Timed::Frames => lanes::time_all(&rt, words::bytes(&rt)?),
         Timed::Tapes => tapes::time_all(&rt, words::bytes(&rt)?),
+        Timed::Shared => threads::time(&rt, rt.alloc(), words::part(&rt)?, words::rounds(&rt)?),
     }
 }
 
-// All but frames and tapes.
+// All but frames, tapes and threads.
 fn time_store(rt: &HostRuntime) -> io::Result<()> {
     let turns = words::turns(rt)?;
     time_rounds(rt, words::items(rt)?, turns)?;
@@ -62,11 +67,11 @@ fn time_store(rt: &HostRuntime) -> io::Result<()> {
     }
     time_feeds(rt, turns / 8)?;
     time_list(rt)?;
-    time_granting(rt, 0, Some(turns / 8))?;
+    time_granting(rt, 0, Work::Grants(turns / 8))?;
     time_consumer(rt)?;
     pipes::time_list(rt)?;
     pipes::time_rounds(rt)?;
-    time_granting(rt, BESIDE, None)
+    time_granting(rt, BESIDE, Work::Drives(DRIVES))
 }
 
 // How long something took.
@@ -84,9 +89,14 @@ fn tell_reading(rt: &HostRuntime, name: &str, reading: &Reading) -> io::Result<(
     println!(rt; "{name} {received}: {sum}")
 }
 
-fn tell_taken(rt: &HostRuntime, name: &str, writing: &Writing) -> io::Result<()> {
-    let taken = writing.taken();
-    println!(rt; "{name} {taken}")
+/// How many bytes went one way.
+pub(crate) fn tell_count(rt: &HostRuntime, name: &str, bytes: u128) -> io::Result<()> {
+    println!(rt; "{name} {bytes}")
+}
+
+/// Why a store did not do what is timed.
+pub(crate) fn tell_error(rt: &HostRuntime, error: StoreError) -> io::Result<()> {
+    eprintln!(rt; "{error:?}")
 }
 
 // Rounds of three calls on a store.
@@ -100,7 +110,7 @@ fn time_rounds(rt: &HostRuntime, items: Payload, turns: u32) -> io::Result<()> {
             let round = spent / u128::from(turns).max(1);
             tell_time(rt, "a write, a read and an event of 8 items", round, "ns")
         }
-        Err(error) => eprintln!(rt; "{error:?}"),
+        Err(error) => tell_error(rt, error),
     }
 }
 
@@ -124,7 +134,7 @@ fn time_copies(
             let item = spent.saturating_mul(1000) / copied.max(1);
             tell_copies(rt, name, count, sum, item)
         }
-        Err(error) => eprintln!(rt; "{error:?}"),
+        Err(OutOfMemory) => tell_error(rt, StoreError::OutOfMemory),
     }
 }
 
@@ -134,28 +144,8 @@ fn time_feeds(rt: &HostRuntime, rounds: u32) -> io::Result<()> {
     let queue = QueueWriter::new(alloc, TransmitKind::Stream, BYTES);
     let mut hosts = ends::of_writer(alloc, Box::new(alloc, queue)?)?;
     match Reading::new(alloc, &hosts, FED) {
-        Ok(mut reading) => time_fed(rt, &mut reading, &mut hosts, rounds),
-        Err(error) => eprintln!(rt; "{error:?}"),
-    }
-}
-
-fn time_fed<H: HostEnds>(
-    rt: &HostRuntime,
-    reading: &mut Reading,
-    hosts: &mut H,
-    rounds: u32,
-) -> io::Result<()>
-    requires { Fits reading.old.store (H.tells hosts.old) }
-{
-    let start = Instant::now(rt)?;
-    match reading.feed_and_read(hosts, rounds) {
-        Ok(()) => {
-            let spent = start.elapsed(rt)?.as_nanos();
-            tell_reading(rt, "fed", reading)?;
-            let round = spent / u128::from(rounds).max(1);
-            tell_time(rt, "a feed and a read of 64 bytes", round, "ns")
-        }
-        Err(error) => eprintln!(rt; "{error:?}"),
+        Ok(mut reading) => time_reading(rt, &mut reading, &mut hosts, Some(rounds)),
+        Err(error) => tell_error(rt, error),
     }
 }
 
@@ -165,61 +155,46 @@ fn time_list(rt: &HostRuntime) -> io::Result<()> {
     let erased = Erased::stream(alloc, hosted::list(alloc, LISTED)?);
     let mut hosts = ends::of_writer(alloc, Box::new(alloc, erased)?)?;
     match Reading::new(alloc, &hosts, LISTED) {
-        Ok(mut reading) => time_listed(rt, &mut reading, &mut hosts),
-        Err(error) => eprintln!(rt; "{error:?}"),
+        Ok(mut reading) => time_reading(rt, &mut reading, &mut hosts, None),
+        Err(error) => tell_error(rt, error),
     }
 }
 
-fn time_listed<H: HostEnds>(
+// So many feeds, each read at once, or a list.
+fn time_reading<H: HostEnds>(
     rt: &HostRuntime,
     reading: &mut Reading,
     hosts: &mut H,
+    feeds: Option<u32>,
 ) -> io::Result<()>
     requires { Fits reading.old.store (H.tells hosts.old) }
 {
     let start = Instant::now(rt)?;
-    match reading.read_list(hosts) {
-        Ok(()) => {
-            let spent = start.elapsed(rt)?.as_nanos();
+    let done = reading.work(hosts, feeds);
+    let spent = start.elapsed(rt)?.as_nanos();
+    match (done, feeds) {
+        (Err(error), _) => tell_error(rt, error),
+        (Ok(()), Some(rounds)) => {
+            tell_reading(rt, "fed", reading)?;
+            let round = spent / u128::from(rounds).max(1);
+            tell_time(rt, "a feed and a read of 64 bytes", round, "ns")
+        }
+        (Ok(()), None) => {
             tell_reading(rt, "listed", reading)?;
             tell_time(rt, "a list of 64 MiB", spent, "ns")
         }
-        Err(error) => eprintln!(rt; "{error:?}"),
     }
 }
 
-// Of a host reader, beside so many streams: so many grants of 64 bytes, each followed by a write of as many; or drive
+// Of a host reader, beside so many streams: grants of 64 bytes, each followed by a write of as many; or drive
 // rounds while one write waits.
-fn time_granting(rt: &HostRuntime, beside: u32, grants: Option<u32>) -> io::Result<()> {
+fn time_granting(rt: &HostRuntime, beside: u32, work: Work) -> io::Result<()> {
     let alloc = rt.alloc();
     let credit = CreditReader::new(alloc, TransmitKind::Stream, BYTES);
     let mut hosts = ends::of_reader(alloc, Box::new(alloc, credit)?)?;
     match Writing::new(alloc, &mut hosts, FED, beside) {
-        Ok(mut writing) => match grants {
-            Some(rounds) => time_granted(rt, &mut writing, &mut hosts, rounds),
-            None => time_driven(rt, &mut writing, &mut hosts),
-        },
-        Err(error) => eprintln!(rt; "{error:?}"),
-    }
-}
-
-fn time_granted<H: HostEnds>(
-    rt: &HostRuntime,
-    writing: &mut Writing,
-    hosts: &mut H,
-    rounds: u32,
-) -> io::Result<()>
-    requires { Fits writing.old.store (H.tells hosts.old) }
-{
-    let start = Instant::now(rt)?;
-    match writing.grant_and_write(hosts, rounds) {
-        Ok(()) => {
-            let spent = start.elapsed(rt)?.as_nanos();
-            tell_taken(rt, "granted", writing)?;
-            let round = spent / u128::from(rounds).max(1);
-            tell_time(rt, "a grant and a write of 64 bytes", round, "ns")
-        }
-        Err(error) => eprintln!(rt; "{error:?}"),
+        Ok(mut writing) => time_writing(rt, &mut writing, &mut hosts, work),
+        Err(error) => tell_error(rt, error),
     }
 }
 
@@ -230,44 +205,45 @@ fn time_consumer(rt: &HostRuntime) -> io::Result<()> {
     let erased = ErasedReader::stream(alloc, Copying { bytes });
     let mut hosts = ends::of_reader(alloc, Box::new(alloc, erased)?)?;
     match Writing::new(alloc, &mut hosts, LISTED, 0) {
-        Ok(mut writing) => time_taken(rt, &mut writing, &mut hosts),
-        Err(error) => eprintln!(rt; "{error:?}"),
+        Ok(mut writing) => time_writing(rt, &mut writing, &mut hosts, Work::List),
+        Err(error) => tell_error(rt, error),
     }
 }
 
-fn time_taken<H: HostEnds>(rt: &HostRuntime, writing: &mut Writing, hosts: &mut H) -> io::Result<()>
-    requires { Fits writing.old.store (H.tells hosts.old) }
-{
-    let start = Instant::now(rt)?;
-    match writing.write_list(hosts) {
-        Ok(()) => {
-            let spent = start.elapsed(rt)?.as_nanos();
-            tell_taken(rt, "consumed", writing)?;
-            tell_time(rt, "a consumer of 64 MiB", spent, "ns")
-        }
-        Err(error) => eprintln!(rt; "{error:?}"),
-    }
-}
-
-fn time_driven<H: HostEnds>(
+// What a guest writes.
+fn time_writing<H: HostEnds>(
     rt: &HostRuntime,
     writing: &mut Writing,
     hosts: &mut H,
+    work: Work,
 ) -> io::Result<()>
     requires { Fits writing.old.store (H.tells hosts.old) }
 {
     let start = Instant::now(rt)?;
-    match writing.drive(hosts, DRIVES) {
-        Ok(()) => {
-            let spent = start.elapsed(rt)?.as_nanos();
-            tell_taken(rt, "driven", writing)?;
-            tell_time(
-                rt,
-                "a drive with one write waiting",
-                spent / u128::from(DRIVES),
-                "ns",
-            )
+    let done = writing.work(hosts, work);
+    let spent = start.elapsed(rt)?.as_nanos();
+    match done {
+        Ok(()) => tell_writing(rt, work, writing.taken(), spent),
+        Err(error) => tell_error(rt, error),
+    }
+}
+
+// How many bytes were taken, and how long it took.
+fn tell_writing(rt: &HostRuntime, work: Work, taken: u128, spent: u128) -> io::Result<()> {
+    match work {
+        Work::Grants(rounds) => {
+            tell_count(rt, "granted", taken)?;
+            let round = spent / u128::from(rounds).max(1);
+            tell_time(rt, "a grant and a write of 64 bytes", round, "ns")
         }
-        Err(error) => eprintln!(rt; "{error:?}"),
+        Work::List => {
+            tell_count(rt, "consumed", taken)?;
+            tell_time(rt, "a consumer of 64 MiB", spent, "ns")
+        }
+        Work::Drives(rounds) => {
+            tell_count(rt, "driven", taken)?;
+            let round = spent / u128::from(rounds).max(1);
+            tell_time(rt, "a drive with one write waiting", round, "ns")
+        }
     }
 }

@@ -47,24 +47,24 @@ impl Piping {
         }
     }
 
-    /// One round.
-    #[inline(never)]
-    pub(crate) fn drive<H: HostEnds>(&mut self, hosts: &mut H) -> Result<(), StoreError>
-        requires { Fits self.old.store (H.tells hosts.old) }
-        ensures fits { Fits self.new.store (H.tells hosts.new) }
-    {
-        self.store.drive_once(hosts)
-    }
-
-    /// Feeds the writer, grants the reader as many bytes, and drives, so many times.
-    #[inline(never)]
-    pub(crate) fn feed_and_drive<H: HostEnds>(
+    /// So many rounds, each behind a feed and a grant, or one of a list.
+    pub(crate) fn work<H: HostEnds>(
         &mut self,
         hosts: &mut H,
-        rounds: u32,
+        feeds: Option<u32>,
     ) -> Result<(), StoreError>
         requires { Fits self.old.store (H.tells hosts.old) }
-        ensures fits { Fits self.new.store (H.tells hosts.new) }
+    {
+        match feeds {
+            Some(rounds) => self.feed_and_drive(hosts, rounds),
+            None => self.store.drive_once(hosts),
+        }
+    }
+
+    // Feeds the writer, grants the reader as many bytes, and drives, so many times.
+    #[inline(never)]
+    fn feed_and_drive<H: HostEnds>(&mut self, hosts: &mut H, rounds: u32) -> Result<(), StoreError>
+        requires { Fits self.old.store (H.tells hosts.old) }
     {
         let step = feed();
         for _ in 0..rounds {

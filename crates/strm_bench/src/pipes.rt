@@ -5,7 +5,7 @@ ghost use Rattle.strm_host_machine.specs.Does.{Fits};
 use crate::ends::of_both;
 use crate::hosted::{BYTES, LISTED, list};
 use crate::piped::{Piping, ROUNDS};
-use crate::tell_time;
+use crate::{tell_count, tell_error, tell_time};
 use std::io;
 use std::time::Instant;
 use strm_codes::codes::TransmitKind;
@@ -16,11 +16,6 @@ use strm_program_ends::credit_reader::CreditReader;
 use strm_program_ends::queue_writer::QueueWriter;
 use strm_transmit::host_ends::HostEnds;
 
-fn tell_passed(rt: &HostRuntime, name: &str, piping: &Piping) -> io::Result<()> {
-    let passed = piping.passed();
-    println!(rt; "{name} {passed}")
-}
-
 /// A list of 64 MiB that a host writer gives, piped to a consumer.
 pub(crate) fn time_list(rt: &HostRuntime) -> io::Result<()> {
     let alloc = rt.alloc();
@@ -29,22 +24,8 @@ pub(crate) fn time_list(rt: &HostRuntime) -> io::Result<()> {
     let reader = ErasedReader::stream(alloc, Copying { bytes });
     let mut hosts = of_both(alloc, Box::new(alloc, writer)?, Box::new(alloc, reader)?)?;
     match Piping::new(alloc, &mut hosts) {
-        Ok(mut piping) => time_piped(rt, &mut piping, &mut hosts),
-        Err(error) => eprintln!(rt; "{error:?}"),
-    }
-}
-
-fn time_piped<H: HostEnds>(rt: &HostRuntime, piping: &mut Piping, hosts: &mut H) -> io::Result<()>
-    requires { Fits piping.old.store (H.tells hosts.old) }
-{
-    let start = Instant::now(rt)?;
-    match piping.drive(hosts) {
-        Ok(()) => {
-            let spent = start.elapsed(rt)?.as_nanos();
-            tell_passed(rt, "piped", piping)?;
-            tell_time(rt, "a pipe of 64 MiB", spent, "ns")
-        }
-        Err(error) => eprintln!(rt; "{error:?}"),
+        Ok(mut piping) => time_piping(rt, &mut piping, &mut hosts, None),
+        Err(error) => tell_error(rt, error),
     }
 }
 
@@ -55,22 +36,32 @@ pub(crate) fn time_rounds(rt: &HostRuntime) -> io::Result<()> {
     let credit = CreditReader::new(alloc, TransmitKind::Stream, BYTES);
     let mut hosts = of_both(alloc, Box::new(alloc, queue)?, Box::new(alloc, credit)?)?;
     match Piping::new(alloc, &mut hosts) {
-        Ok(mut piping) => time_fed(rt, &mut piping, &mut hosts),
-        Err(error) => eprintln!(rt; "{error:?}"),
+        Ok(mut piping) => time_piping(rt, &mut piping, &mut hosts, Some(ROUNDS)),
+        Err(error) => tell_error(rt, error),
     }
 }
 
-fn time_fed<H: HostEnds>(rt: &HostRuntime, piping: &mut Piping, hosts: &mut H) -> io::Result<()>
+fn time_piping<H: HostEnds>(
+    rt: &HostRuntime,
+    piping: &mut Piping,
+    hosts: &mut H,
+    feeds: Option<u32>,
+) -> io::Result<()>
     requires { Fits piping.old.store (H.tells hosts.old) }
 {
     let start = Instant::now(rt)?;
-    match piping.feed_and_drive(hosts, ROUNDS) {
-        Ok(()) => {
-            let spent = start.elapsed(rt)?.as_nanos();
-            tell_passed(rt, "passed on", piping)?;
-            let round = spent / u128::from(ROUNDS);
+    let done = piping.work(hosts, feeds);
+    let spent = start.elapsed(rt)?.as_nanos();
+    match (done, feeds) {
+        (Err(error), _) => tell_error(rt, error),
+        (Ok(()), Some(rounds)) => {
+            tell_count(rt, "passed on", piping.passed())?;
+            let round = spent / u128::from(rounds).max(1);
             tell_time(rt, "a round of a pipe of 64 bytes", round, "ns")
         }
-        Err(error) => eprintln!(rt; "{error:?}"),
+        (Ok(()), None) => {
+            tell_count(rt, "piped", piping.passed())?;
+            tell_time(rt, "a pipe of 64 MiB", spent, "ns")
+        }
     }
 }

@@ -19,6 +19,14 @@ pub const BESIDE: u32 = 20_000;
 /// Drive rounds.
 pub const DRIVES: u32 = 100_000;
 
+/// What is timed of writes: so many grants, each written at once, a list, or so many drive rounds.
+#[derive(Clone, Copy)]
+pub(crate) enum Work {
+    Grants(u32),
+    List,
+    Drives(u32),
+}
+
 const LIMITS: Limits = Limits {
     handles: 65_536,
     places: 65_536,
@@ -83,15 +91,21 @@ impl Writing {
         }
     }
 
-    /// Grants the reader some bytes, and writes as many, so many times.
-    #[inline(never)]
-    pub(crate) fn grant_and_write<H: HostEnds>(
-        &mut self,
-        hosts: &mut H,
-        rounds: u32,
-    ) -> Result<(), StoreError>
+    /// Writes, by what is timed of it.
+    pub(crate) fn work<H: HostEnds>(&mut self, hosts: &mut H, work: Work) -> Result<(), StoreError>
         requires { Fits self.old.store (H.tells hosts.old) }
-        ensures fits { Fits self.new.store (H.tells hosts.new) }
+    {
+        match work {
+            Work::Grants(rounds) => self.grant_and_write(hosts, rounds),
+            Work::List => self.write_list(hosts),
+            Work::Drives(rounds) => self.drive(hosts, rounds),
+        }
+    }
+
+    // Grants the reader some bytes, and writes as many, so many times.
+    #[inline(never)]
+    fn grant_and_write<H: HostEnds>(&mut self, hosts: &mut H, rounds: u32) -> Result<(), StoreError>
+        requires { Fits self.old.store (H.tells hosts.old) }
     {
         for round in 0..rounds {
             self.store.grant(hosts, 0, FEED)?;
@@ -102,11 +116,10 @@ impl Writing {
         Ok(())
     }
 
-    /// Writes a list, piece behind piece.
+    // Writes a list, piece behind piece.
     #[inline(never)]
-    pub(crate) fn write_list<H: HostEnds>(&mut self, hosts: &mut H) -> Result<(), StoreError>
+    fn write_list<H: HostEnds>(&mut self, hosts: &mut H) -> Result<(), StoreError>
         requires { Fits self.old.store (H.tells hosts.old) }
-        ensures fits { Fits self.new.store (H.tells hosts.new) }
     {
         for piece in 0..LISTED / PIECE {
             self.store
@@ -115,15 +128,10 @@ impl Writing {
         Ok(())
     }
 
-    /// Writes some bytes, for which the reader has no credit, and drives so many times.
+    // Writes some bytes, for which the reader has no credit, and drives so many times.
     #[inline(never)]
-    pub(crate) fn drive<H: HostEnds>(
-        &mut self,
-        hosts: &mut H,
-        rounds: u32,
-    ) -> Result<(), StoreError>
+    fn drive<H: HostEnds>(&mut self, hosts: &mut H, rounds: u32) -> Result<(), StoreError>
         requires { Fits self.old.store (H.tells hosts.old) }
-        ensures fits { Fits self.new.store (H.tells hosts.new) }
     {
         self.store
             .stream_write(hosts, 0, BYTES, self.handle, 0, FEED)?;

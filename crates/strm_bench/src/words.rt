@@ -1,6 +1,8 @@
-//! What is timed, by the program's words: `mux` and `tape`, each with a number of bytes, choose these alone, a
-//! number of turns the rest, with what an item of the rounds is; without a word all is timed.
+//! What is timed, by the program's words: `mux` and `tape`, each with a number of bytes, choose these alone, `shared`
+//! the store that threads share, with the rounds of a thread and a part of it, a number of turns the rest, with what
+//! an item of the rounds is; without a word all is timed.
 
+use crate::threads::Part;
 use std::{env, io};
 use strm_codes::payloads::Payload;
 use strm_codes::scalars::Scalar;
@@ -12,6 +14,7 @@ pub enum Timed {
     Store,
     Frames,
     Tapes,
+    Shared,
 }
 
 /// Turns without a word.
@@ -19,6 +22,9 @@ const TURNS: u32 = 2_000_000;
 
 /// The bytes of a stream of frames, or of a tape, without a word.
 const BYTES: usize = 4_194_304;
+
+/// Rounds of a thread, of three calls each, without a word.
+const ROUNDS: u32 = 10_000;
 
 /// What the first word chooses.
 pub(crate) fn choice(rt: &HostRuntime) -> io::Result<Timed> {
@@ -34,6 +40,8 @@ fn chosen(word: &str) -> Timed {
         Timed::Frames
     } else if word == "tape" {
         Timed::Tapes
+    } else if word == "shared" {
+        Timed::Shared
     } else {
         Timed::Store
     }
@@ -53,6 +61,40 @@ pub(crate) fn bytes(rt: &HostRuntime) -> io::Result<usize> {
         Some(word) => Ok(word.as_str().parse::<usize>().unwrap_or(BYTES)),
         None => Ok(BYTES),
     }
+}
+
+/// The second word, the rounds of a thread.
+pub(crate) fn rounds(rt: &HostRuntime) -> io::Result<u32> {
+    match env::args(rt)?.nth(2) {
+        Some(word) => Ok(word.as_str().parse::<u32>().unwrap_or(ROUNDS)),
+        None => Ok(ROUNDS),
+    }
+}
+
+/// The third word, a part of what is timed of threads.
+pub(crate) fn part(rt: &HostRuntime) -> io::Result<Part> {
+    match env::args(rt)?.nth(3) {
+        Some(word) => Ok(part_named(word.as_str())),
+        None => Ok(Part::All),
+    }
+}
+
+// The part of a word, all of it if it is none.
+fn part_named(word: &str) -> Part {
+    let names = [
+        ("bare", Part::Bare),
+        ("one", Part::One),
+        ("two", Part::Two),
+        ("four", Part::Four),
+        ("pairs", Part::Pairs),
+        ("wait", Part::Wait),
+    ];
+    for (name, part) in names {
+        if word == name {
+            return part;
+        }
+    }
+    Part::All
 }
 
 /// The second word, what an item of the rounds is.

@@ -131,6 +131,8 @@ pub(crate) enum Call {
     /// the next handle of a guest, and how many it has.
     Next(End),
     Handles(u32),
+    /// The least guest, from a number on, that has something to be told.
+    Ready(u32),
     /// A guest may have so many handles, ends and bytes.
     Limit(u32, u32, u32, u64),
     /// What it may have.

@@ -2,7 +2,7 @@
 
 use crate::calls::{BYTES, Call, Type, WORDS, index_of};
 use crate::play::{AMPLE, Row};
-use crate::told::{BLOCKED, Told, count, done, event, number, pair};
+use crate::told::{BLOCKED, Told, count, done, event, guest, number, pair};
 use std::process::Abort;
 use strm_codes::codes::ReturnCode;
 use strm_codes::refusals::Refusal;
@@ -51,6 +51,7 @@ fn answer(store: &mut GuestStore, call: &Call) -> Told {
         }
         Call::ReadValue(end, address) => operated(store.future_read(end.0, WORDS, end.1, address)),
         Call::Event(end) => event(store.take_event(end.0, end.1)),
+        Call::Ready(from) => guest(store.next_ready_guest(from)),
         _ => makes(store, call),
     }
 }
@@ -96,7 +97,7 @@ const A_GUEST_ENDS: [Row; 22] = [
     (Call::EndGuest(2), Told::Refused(Refusal::UnknownGuest)),
 ];
 
-fn does(rt: &impl Abort, store: &mut GuestStore, rows: &[Row]) {
+pub(crate) fn does(rt: &impl Abort, store: &mut GuestStore, rows: &[Row]) {
     for (at, (call, wanted)) in rows.iter().enumerate() {
         let told = answer(store, call);
         assert!(rt; told == *wanted, "row {at}");

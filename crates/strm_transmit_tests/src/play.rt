@@ -8,7 +8,7 @@ ghost use Rattle.strm_host_machine.specs.Does.{Fits};
 use crate::calls::{BYTES, Call, End, Type, WORDS, index_of};
 use crate::scripts::{Takes, add_reader, add_writer};
 use crate::told::{
-    Told, code, count, done, end, event, member, next, number, pair, reply, type_of,
+    Told, code, count, done, end, event, guest, member, next, number, pair, reply, type_of,
 };
 use std::alloc::Global;
 use std::process::Abort;
@@ -216,6 +216,7 @@ fn pokes(store: &mut Store, guest: u32, address: u32, bytes: [u8; 4]) -> Told {
 fn ends(store: &mut Store, call: &Call) -> Told {
     match *call {
         Call::Event(end) => event(store.take_event(end.0, end.1)),
+        Call::Ready(from) => guest(store.next_ready_guest(from)),
         Call::CancelRead(end) => code(store.stream_cancel_read(end.0, BYTES, end.1)),
         Call::CancelWrite(end) => code(store.stream_cancel_write(end.0, BYTES, end.1)),
         Call::CancelReadValue(end) => code(store.future_cancel_read(end.0, WORDS, end.1)),

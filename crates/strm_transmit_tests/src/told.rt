@@ -1,6 +1,7 @@
 //! What a call of a store answers, as one type, so that a row can say it.
 
 use crate::calls::Type;
+use std::alloc::AllocError;
 use strm_codes::codes::{ReturnCode, TransmitIndex};
 use strm_codes::payloads::Payload;
 use strm_codes::refusals::Refusal;
@@ -25,7 +26,7 @@ pub(crate) enum Told {
     Ends(u32, u32, u32),
     /// The word of a code.
     Code(u32),
-    /// No event, no member, no such stream or handle.
+    /// No event, no member, no such stream or handle, no guest.
     Nothing,
     /// A handle, and the word of the code that it was told.
     Member(u32, u32),
@@ -181,5 +182,13 @@ pub(crate) fn next(answer: Result<Option<(u32, Handle)>, Refusal>) -> Told {
         Ok(Some((number, handle))) => Told::Handle(number, letter(&handle)),
         Ok(None) => Told::Nothing,
         Err(refusal) => Told::Refused(refusal),
+    }
+}
+
+pub(crate) fn guest(answer: Result<Option<u32>, AllocError>) -> Told {
+    match answer {
+        Ok(Some(guest)) => Told::Number(guest),
+        Ok(None) => Told::Nothing,
+        Err(_) => Told::OutOfMemory,
     }
 }

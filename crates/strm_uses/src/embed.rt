@@ -1,13 +1,14 @@
 //! A store among guests alone: three bytes go from one guest to another.
 
-ghost use Rattle.std.specs.Prelude.{◌≡◌, ◌≢◌, ℕ, take, length, false, Some, IfOk, IfSome};
+ghost use Rattle.std.specs.Prelude.{◌≡◌, ◌≢◌, ◌<◌, ℕ, take, length, true, false, Some, None, Ok, IfOk, IfSome};
 ghost use Rattle.strm_codes.specs.declared.codes.ReturnCode.TheVariants.{Completed};
 ghost use Rattle.strm_machine.specs.State.{memory_in, stream_at};
 ghost use Rattle.strm_machine.specs.declared.streams.Owner.TheVariants.{Held};
+ghost use Rattle.strm_transmit.specs.ReadyGuests.{is_ready_guest};
 ghost use Rattle.strm_uses.specs.Across.{owner_across};
 ghost use Rattle.strm_uses.specs.declared.embed.Told.TheVariants.{Trap};
 
-use std::alloc::Global;
+use std::alloc::{AllocError, Global};
 use strm_codes::codes::{ReturnCode, TransmitIndex};
 use strm_codes::payloads::Payload;
 use strm_codes::scalars::Scalar;
@@ -142,4 +143,19 @@ pub fn read_in_place(
     }
     let after = store.memory_base(guest);
     Some((before, after))
+}
+
+/// The guest that has the next turn, in a round by number: the least behind the last one that has something to be
+/// told, or else the least of all. None where none has.
+pub fn next_turn(store: &mut GuestStore, last: u32) -> Result<Option<u32>, AllocError>
+    ensures ready { IfOk result (λ guest. IfSome guest (λ guest.
+        is_ready_guest store.old guest ≡ true)) }
+    ensures none { result ≡ Ok None → (guest : ℕ) → guest < length store.old.guests →
+        is_ready_guest store.old guest ≡ false }
+    ensures same { store.new ≡ store.old }
+{
+    match store.next_ready_guest(last.saturating_add(1))? {
+        Some(guest) => Ok(Some(guest)),
+        None => store.next_ready_guest(0),
+    }
 }

@@ -1,6 +1,0 @@
-use Rattle.strm_shared.specs.Causes.{IsOf}
-use Rattle.strm_shared.specs.Tokens.{Same}
-use Rattle.strm_shared_tests.proofs.seats.are_answers.Given as goal
-
-abbrev pub invariant-loop-row : goal.invariant-loop-row
-invariant-loop-row g l = IsOf l.store l.seat × Same l.initial.seat l.seat

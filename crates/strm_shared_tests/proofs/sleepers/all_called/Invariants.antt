@@ -1,6 +1,0 @@
-use Rattle.strm_shared.specs.Causes.{IsOf}
-use Rattle.strm_shared.specs.Tokens.{Same}
-use Rattle.strm_shared_tests.proofs.sleepers.all_called.Given as goal
-
-abbrev pub invariant-loop-step : goal.invariant-loop-step
-invariant-loop-step g l = IsOf l.store l.seat × Same l.initial.seat l.seat

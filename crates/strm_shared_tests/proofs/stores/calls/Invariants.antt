@@ -1,6 +1,0 @@
-use Rattle.strm_shared.specs.Causes.{IsOf}
-use Rattle.strm_shared.specs.Tokens.{Same}
-use Rattle.strm_shared_tests.proofs.stores.calls.Given as goal
-
-abbrev pub invariant-loop : goal.invariant-loop
-invariant-loop g l = IsOf l.store l.seat × Same l.initial.seat l.seat

@@ -1,0 +1,5 @@
+use Rattle.strm_shared.specs.Causes.{IsOf}
+use Rattle.strm_transmit_tests.proofs.shared.many.passes.Given as goal
+
+abbrev pub invariant-loop : goal.invariant-loop
+invariant-loop g l = IsOf l.store l.seat

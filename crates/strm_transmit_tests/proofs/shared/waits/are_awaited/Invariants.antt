@@ -1,0 +1,6 @@
+use Rattle.strm_shared.specs.Causes.{IsOf}
+use Rattle.strm_shared.specs.Tokens.{Same}
+use Rattle.strm_transmit_tests.proofs.shared.waits.are_awaited.Given as goal
+
+abbrev pub invariant-loop-k : goal.invariant-loop-k
+invariant-loop-k g l = IsOf l.store l.seat × Same l.initial.seat l.seat
