@@ -1,8 +1,8 @@
 # The target strm::strm: the archive and its headers, wherever this package lies.
-if(NOT CMAKE_SYSTEM_NAME STREQUAL "Linux" OR NOT CMAKE_SYSTEM_PROCESSOR MATCHES "^(x86_64|amd64|AMD64)$"
+if(NOT CMAKE_SYSTEM_NAME STREQUAL "Linux" OR NOT CMAKE_SYSTEM_PROCESSOR MATCHES "^(@PROCESSORS@)$"
     OR NOT CMAKE_SIZEOF_VOID_P EQUAL 8)
   set(strm_FOUND FALSE)
-  set(strm_NOT_FOUND_MESSAGE "the archive of strm is for Linux on x86-64")
+  set(strm_NOT_FOUND_MESSAGE "this archive of strm is for @PLACE@")
   return()
 endif()
 get_filename_component(strm_PREFIX "${CMAKE_CURRENT_LIST_DIR}/../../.." ABSOLUTE)

@@ -1,8 +1,8 @@
 //! Links the proved archive: that of the folder `STRM_C_DIR`, or else of the `lib` folder of the package in which
 //! this crate lies. In a package it is one, `libstrm.a`; a folder may have `libstrm_c.a` and the kit's `liblibc_c.a`.
 
-use std::env;
 use std::path::{Path, PathBuf};
+use std::{env, fs};
 
 fn main() {
     println!("cargo:rerun-if-env-changed=STRM_C_DIR");
@@ -12,7 +12,11 @@ fn main() {
     };
     println!("cargo:rustc-link-search=native={}", folder.display());
     for name in archives(&folder) {
-        println!("cargo:rerun-if-changed={}/lib{name}.a", folder.display());
+        let archive = folder.join(format!("lib{name}.a"));
+        if is_of_another_machine(&archive) {
+            println!("cargo:warning={} is of another machine", archive.display());
+        }
+        println!("cargo:rerun-if-changed={}", archive.display());
         println!("cargo:rustc-link-lib=static={name}");
     }
 }
@@ -26,6 +30,18 @@ fn folder() -> Option<PathBuf> {
     packages
         .map(|package| package.join("lib"))
         .find(|folder| folder.join("libstrm.a").is_file())
+}
+
+/// Whether the first object of an archive is for another processor than is built for, by its ELF header.
+fn is_of_another_machine(archive: &Path) -> bool {
+    let machine = match env::var("CARGO_CFG_TARGET_ARCH").as_deref() {
+        Ok("x86_64") => [62, 0],
+        Ok("aarch64") => [183, 0],
+        _ => return false,
+    };
+    let bytes = fs::read(archive).unwrap_or_default();
+    let object = bytes.windows(4).position(|at| at == b"\x7fELF");
+    object.is_some_and(|at| bytes.get(at + 18..at + 20) != Some(&machine))
 }
 
 fn archives(folder: &Path) -> &'static [&'static str] {
