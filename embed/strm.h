@@ -5,8 +5,9 @@
    wrote at `out`, and the store afterwards. Only the archive behind it is proved; this header is written from its
    exports by embed/declare.
 
-   WHERE IT RUNS. The archive is ELF for Linux on x86-64, and uses the instructions of the level x86-64-v2 (SSE4.1
-   among them) without a test: an older processor stops the program by an illegal instruction.
+   WHERE IT RUNS. There are three archives, ELF for Linux: for x86-64 of the level x86-64-v2 (SSE4.1 among it), for every
+   x86-64, and for every arm64. The first has no test of its level: an older processor stops the program by an illegal
+   instruction. Calls and layouts are the same.
 
    WHAT THE CALLER OWES. Nothing checks it:
    - A store is {NULL} before strm_store_new, and strm_store_free leaves it so. It is not copied. Of {NULL}
@@ -66,7 +67,17 @@
    - Of its handles none is left, nor a byte of its memory: calls with them are refused.
    - Its number stays that of a guest that has nothing, and another may begin under it (strm_begin_guest,
      strm_begin_guest_at), whose handles begin with 1 again. So a handle that the caller kept of the one before may be
-     of the next one's. The limits of the number stay (strm_set_guest_limits). */
+     of the next one's. The limits of the number stay (strm_set_guest_limits).
+
+   WHO IS READY. A guest is ready that has an end which is to be told something.
+   - A call makes ready ends of its own stream alone: the one that it names, and the one across from it. So a runtime
+     that wakes tasks asks strm_handle_info after each call who has the other end, and whether that is to be told
+     something; before a drop, which leaves no handle to ask of. The end of a guest makes ready those across from its
+     ends.
+   - A scheduler of many guests asks strm_next_ready_guest, which is level-triggered: a guest is told as long as it is
+     ready, so no wakeup is lost. The counts that this takes are made by the first call, and kept from then on: each
+     guest that is added and each stream that is made takes some more bytes, a call on an end lists its stream, and
+     the next question counts again what is listed. A store of which nobody asks this keeps none. */
 #ifndef STRM_H
 #define STRM_H
 #include <stdbool.h>
@@ -188,6 +199,9 @@ enum {
     STRM_OTHER_LOOSE = 2, /* The other end is loose: it was lifted, and not lowered since. */
     STRM_OTHER_GONE = 3 /* The other end is gone: it was dropped or closed. */
 };
+
+/* The number of no guest: none gets it. */
+#define STRM_NO_GUEST 4294967295u
 
 /* A count of 128 bits: low + 2^64 * high. */
 typedef struct {
@@ -541,6 +555,16 @@ STRM_ANSWER strm_next_handle(const strm_store *store, uint32_t guest, uint32_t a
 
 /* Puts at `out` how many handles a guest has, and looks at none of them. Refused: STRM_UNKNOWN_GUEST. */
 STRM_ANSWER strm_handle_count(const strm_store *store, uint32_t guest, uint32_t *out);
+
+/* WHICH GUEST IS READY */
+
+/* Puts at `out` the least guest, of those from a number on, that has an end which is to be told something, or
+   STRM_NO_GUEST where none has. It is told as long as that is so, whoever asked before. From 0 on, and then from
+   behind each guest, it tells all that are ready, and looks at no guest in vain. strm_next_handle tells which ends
+   they are, or strm_set_poll of those in a set. The first call makes counts: it goes over all streams, and takes 8
+   to 17 bytes for each guest and 24 for each stream; later ones go over the streams that changed since, each once.
+   STRM_OUT_OF_MEMORY, of the first call alone, after which nothing is counted. */
+STRM_ANSWER strm_next_ready_guest(strm_store *store, uint32_t from, uint32_t *out);
 
 /* HOW MUCH EACH GUEST MAY HAVE AT ONCE */
 

@@ -399,6 +399,14 @@ class Store {
         return told<uint32_t>([&](uint32_t *out) { return strm_handle_count(&store_, guest.number, out); });
     }
 
+    // The least guest from a number on that has an end which is to be told something; none where there is none.
+    Result<std::optional<Guest>> next_ready_guest(uint32_t from) noexcept {
+        uint32_t number = STRM_NO_GUEST;
+        Status status = strm_next_ready_guest(&store_, from, &number);
+        if (number == STRM_NO_GUEST) return {status, std::nullopt};
+        return {status, Guest{number}};
+    }
+
     Status set_guest_limits(Guest guest, const strm_limits &limits) noexcept {
         return strm_set_guest_limits(&store_, guest.number, limits.handles, limits.ends, limits.bytes);
     }

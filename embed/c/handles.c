@@ -1,5 +1,5 @@
-/* What a runtime asks of a guest's handles: it lists them, as the guest ends, and as another begins under its number.
-   No table of handles is kept here. */
+/* What a runtime asks of a guest's handles: it lists them, as the guest ends, and as another begins under its number;
+   and which guests are ready meanwhile. No table of handles is kept here. */
 #include <stdio.h>
 #include <stdlib.h>
 #include <string.h>
@@ -46,6 +46,19 @@ static void list(strm_store *store, uint32_t guest) {
     }
 }
 
+/* The guests that are ready: each call goes on behind the last guest, and looks at no other. */
+static void list_ready(strm_store *store) {
+    uint32_t guest, from = 0;
+    printf("ready:");
+    for (;;) {
+        must(strm_next_ready_guest(store, from, &guest));
+        if (guest == STRM_NO_GUEST) break;
+        printf(" guest %u", guest);
+        from = guest + 1;
+    }
+    printf(from == 0 ? " no guest\n" : "\n");
+}
+
 int main(void) {
     strm_store store = {NULL};
     strm_pair bytes, words, value, owed;
@@ -67,10 +80,15 @@ int main(void) {
     must(strm_lift(&store, guest, STRM_U32 | STRM_FUTURE, value.read, &reader));
     list(&store, guest);
     list(&store, peer);
+    list_ready(&store);
+    must(strm_take_event(&store, guest, bytes.write, &code));
+    must(strm_take_event(&store, guest, words.read, &code));
+    list_ready(&store);
     must(strm_end_guest(&store, guest));
     printf("guest %u has ended\n", guest);
     list(&store, guest);
     list(&store, peer);
+    list_ready(&store);
     must(strm_lower(&store, reader, peer, STRM_U32 | STRM_FUTURE, &read));
     must(strm_begin_guest(&store, guest, 64));
     must(strm_set_new(&store, guest, &set));

@@ -123,6 +123,7 @@ static void ask_handles_of_none(strm_store store) {
     HAS_NO_STORE(strm_handle_info(&store, 0, 1, &told));
     HAS_NO_STORE(strm_next_handle(&store, 0, 0, &told));
     HAS_NO_STORE(strm_handle_count(&store, 0, &out));
+    HAS_NO_STORE(strm_next_ready_guest(&store, 0, &out));
     expect(told.type == 7 && told.handle == 7 && told.event == 7 && out == 7, "queries of handles write nothing");
 }
 

@@ -139,6 +139,15 @@ void list(const Store &store, Guest guest) {
     }
 }
 
+// Who has something to be told: a scheduler gives these guests their turns.
+void show_ready(Store &store) {
+    std::printf("ready:");
+    auto ready = must(store.next_ready_guest(0));
+    if (!ready) std::printf(" no guest");
+    for (; ready; ready = must(store.next_ready_guest(ready->number + 1))) std::printf(" guest %u", ready->number);
+    std::printf("\n");
+}
+
 // A guest ends with all that it has, the others are told, and another begins under its number.
 void end_a_guest(Store &store, Guest guest, Guest other) {
     auto bytes = must(store.stream_between(guest, other, Scalar::U8));
@@ -147,7 +156,9 @@ void end_a_guest(Store &store, Guest guest, Guest other) {
     must(store.read(value.read, 0));
     list(store, guest);
     std::printf("begin: %s\n", store.begin_guest(guest, 64).name());
+    show_ready(store);
     must(store.end_guest(guest));
+    show_ready(store);
     show("event", must(store.take_event(bytes.read)));
     show("event of the future", must(store.take_event(value.write)));
     std::printf("cancel of a handle that is gone: %s\n", store.cancel(value.read).status.name());

@@ -198,6 +198,7 @@ ABSENT(strm_future_write, strm_store *s, uint32_t g, strm_payload p, uint32_t h,
 ABSENT(strm_future_drop_readable, strm_store *s, uint32_t g, strm_payload p, uint32_t h)
 ABSENT(strm_future_drop_writable, strm_store *s, uint32_t g, strm_payload p, uint32_t h)
 ABSENT(strm_find_bad_item, const strm_store *s, uint32_t w, uint32_t g, strm_type t, uint32_t h, uint32_t a, uint32_t c, strm_bad_item *o)
+ABSENT(strm_next_ready_guest, strm_store *s, uint32_t f, uint32_t *o)
 ABSENT(strm_set_drop, strm_store *s, uint32_t g, uint32_t h)
 ABSENT(strm_error_context_new, strm_store *s, uint32_t g, uint32_t a, uint32_t l, uint32_t *o)
 ABSENT(strm_error_context_drop, strm_store *s, uint32_t g, uint32_t h)

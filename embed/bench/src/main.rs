@@ -4,8 +4,11 @@
 //! of each. What a runtime knows only when it runs, as the payload, the compiler does not see in any; and all memories
 //! are written before, since pages that were never written are all one page, which is read faster.
 //!
+//! Beside them runs the archive once more, of which it was asked which guest is ready: from then on it counts the ends
+//! that are to be told something.
+//!
 //! With the words `round N` or `make N` it makes so many rounds by the archive's calls alone, for what counts
-//! instructions.
+//! instructions; with `counting` before them, by those of an archive that counts so.
 
 use bench::rounds::{done, repeat, wrote, Bare, Plain, Rounds, MEMORY, U8};
 use std::env::args;
@@ -46,6 +49,14 @@ impl Archive {
             pair,
             payload: U8,
         }))
+    }
+
+    // One that counts the ends that are to be told something.
+    fn counting() -> Result<Archive, u32> {
+        let mut archive = Archive::new()?;
+        let ready = wrote(|out| unsafe { sys::strm_next_ready_guest(&mut archive.store, 0, out) })?;
+        assert_eq!(ready, sys::NO_GUEST);
+        Ok(archive)
     }
 }
 
@@ -143,9 +154,10 @@ fn median(mut figures: Vec<f64>) -> f64 {
     figures[figures.len() / 2]
 }
 
-// The four that are compared.
+// Those that are compared.
 struct All {
     archive: Archive,
+    counting: Archive,
     plain: Plain,
     proved: Proved,
     bare: Bare,
@@ -155,28 +167,43 @@ impl All {
     // Tells the medians, of so many rounds at a time: of the archive beside the store that keeps as much, both by their
     // calls, and of the crate beside the bare store.
     fn compare(&mut self, name: &str, rounds: u32, count: Option<u32>) {
-        let mut figures = [const { Vec::new() }; 4];
+        let mut figures = [const { Vec::new() }; 5];
         for _ in 0..RUNS {
             figures[0].push(timed(&mut self.archive, rounds, count));
             figures[1].push(timed(&mut self.plain, rounds, count));
             figures[2].push(timed(&mut self.proved, rounds, count));
             figures[3].push(timed(&mut self.bare, rounds, count));
+            figures[4].push(timed(&mut self.counting, rounds, count));
         }
-        let [archive, plain, proved, bare] = figures.map(median);
+        let [archive, plain, proved, bare, counting] = figures.map(median);
         let (by_calls, by_crate) = (archive / plain, proved / bare);
         println!("{name}: {archive:.1} ns, plain Rust {plain:.1} ns, {by_calls:.2} times");
         println!("    through the crate {proved:.1} ns, bare plain Rust {bare:.1} ns, {by_crate:.2} times");
+        println!("    while it counts which guests are ready {counting:.1} ns");
     }
+}
+
+// Whether the words ask for rounds, which are made then.
+fn are_made(archive: &mut Archive, counting: &mut Archive) -> bool {
+    let words: Vec<_> = args().skip(1).collect();
+    let (archive, words) = match &words[..] {
+        [how, rest @ ..] if how == "counting" => (counting, rest),
+        all => (archive, all),
+    };
+    let [what, rounds] = words else { return false };
+    repeat(archive, what, rounds.parse().expect("no number"));
+    true
 }
 
 fn main() -> Result<(), Error> {
     let mut archive = Archive::new().expect("no refusal");
-    if let [what, rounds] = &args().skip(1).collect::<Vec<_>>()[..] {
-        repeat(&mut archive, what, rounds.parse().expect("no number"));
+    let mut counting = Archive::counting().expect("no refusal");
+    if are_made(&mut archive, &mut counting) {
         return Ok(());
     }
     let mut all = All {
         archive,
+        counting,
         plain: Plain::new().expect("no refusal"),
         proved: Proved::new()?,
         bare: Bare::default(),

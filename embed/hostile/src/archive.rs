@@ -119,6 +119,9 @@ impl Archive {
             Call::HandleInfo { .. } | Call::NextHandle { .. } | Call::HandleCount { .. } => {
                 self.answer_handle(call, before)
             }
+            Call::NextReadyGuest { from } => {
+                self.word(before, |store, out| unsafe { sys::strm_next_ready_guest(store, *from, out) })
+            }
             Call::FindBadItem { .. } => self.answer_bad_item(call, before),
             Call::SetGuestLimits { .. } | Call::GuestLimits { .. } => self.answer_limits(call, before),
             _ => self.answer_context(call, before),

@@ -212,6 +212,7 @@ impl<'a> Draws<'a> {
             Family::Life => Some(self.life()),
             Family::Grow => Some(self.grow()),
             Family::Query => self.query(),
+            Family::Ready => Some(self.next_ready_guest()),
             Family::Limits => Some(self.limits_call()),
         };
         drawn.unwrap_or_else(|| self.new_thing())
@@ -485,5 +486,11 @@ impl Draws<'_> {
             8 | 9 => Call::NextHandle { guest, after: self.handle(guest, |_| true)? },
             _ => Call::HandleInfo { guest, handle: self.handle(guest, |_| true)? },
         })
+    }
+
+    // From the first guest on, from one, or from behind one.
+    fn next_ready_guest(&mut self) -> Call {
+        let guest = self.guest();
+        Call::NextReadyGuest { from: self.random.pick(&[0, guest, guest.wrapping_add(1)]) }
     }
 }

@@ -18,6 +18,7 @@ mod lives;
 mod model;
 mod profiles;
 mod queries;
+mod ready;
 mod references;
 mod shrinking;
 mod tally;
@@ -128,6 +129,7 @@ impl Drawing<'_> {
     fn walk(&mut self) -> Result<(), Difference> {
         let tables = |run: &Run| run.model.store().map_or(0, |store| store.guests.len() as u32);
         for guest in 0..tables(&self.run) {
+            self.step(Call::NextReadyGuest { from: guest })?;
             self.step(Call::HandleCount { guest })?;
             self.step(Call::GuestLimits { guest })?;
             let mut after = 0;

@@ -7,6 +7,7 @@ use crate::lent;
 use crate::limits::Limits as GuestLimits;
 use crate::lives;
 use crate::queries::queried;
+use crate::ready::Readiness;
 use crate::sys;
 use crate::words::{NO_EVENT, event_word, payload_at, status_of, type_at};
 use plain::codes::{Refusal, StoreError};
@@ -20,13 +21,15 @@ pub struct Model {
     // None once it was freed.
     store: Option<Store>,
     limits: GuestLimits,
+    readiness: Readiness,
 }
 
 impl Model {
     pub fn new(tag: u64, handles: usize, places: u32) -> Model {
         let limits = Limits { handles: handles as u64, places: places.into() };
         let store = Some(Store::with_limits(limits));
-        Model { tag, met_bad_item: false, store, limits: GuestLimits::default() }
+        let (limits, readiness) = Default::default();
+        Model { tag, met_bad_item: false, store, limits, readiness }
     }
 
     /// The store, if it was not freed.
@@ -68,7 +71,8 @@ impl Model {
         if lives::is_in_use(store, call) {
             return of(sys::IN_USE, before);
         }
-        if let Some(answer) = self.limits.answer(store, call, before, seen) {
+        let of_limits = self.limits.answer(store, call, before, seen);
+        if let Some(answer) = of_limits.or_else(|| self.readiness.answer(store, call, before, seen)) {
             return answer;
         }
         let Some(step) = Step::of(call) else { return of(sys::UNKNOWN_PAYLOAD, before) };

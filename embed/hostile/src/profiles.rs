@@ -22,12 +22,14 @@ pub enum Family {
     /// A memory that is lent grows.
     Grow,
     Query,
+    /// Which guest is ready. Where a store draws none, nothing is counted before its end.
+    Ready,
     /// The limits of a guest, set or told.
     Limits,
 }
 
 /// How often each family is drawn where the store is not drawn to make more or less of it.
-const SHARES: [(Family, u32); 13] = [
+const SHARES: [(Family, u32); 14] = [
     (Family::Operate, 450),
     (Family::Event, 150),
     (Family::End, 120),
@@ -40,6 +42,7 @@ const SHARES: [(Family, u32); 13] = [
     (Family::Life, 6),
     (Family::Grow, 6),
     (Family::Query, 60),
+    (Family::Ready, 100),
     (Family::Limits, 4),
 ];
 

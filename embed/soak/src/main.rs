@@ -3,13 +3,16 @@
 //! `soak [--flat] streams N` makes, uses and drops N streams and futures in one store.
 //! `soak [--flat] server SECONDS` has a server with 500 open connections, one closed for another, for so long.
 //! `soak [--flat] guests N` has N guests of 256 KiB begin and end in one store, each with a stream to the next.
+//! `soak [--flat] ready N` has N guests in one store, of which one at a time is ready, and finds it.
 //!
 //! With `--flat` the status is 1 where the process grew by more than 512 kB: behind the first thousand streams, the
-//! first tenth of the time, or the first tenth of the guests; or where a guest took more than twice the processor time
-//! in the end.
+//! first tenth of the time, the first tenth of the guests, or the first turns of guests that are ready; or where a guest
+//! took more than twice the processor time in the end, or one that is ready was found in more than four times that which
+//! it takes among a thousand guests.
 
 mod guests;
 mod process;
+mod ready;
 mod server;
 mod streams;
 
@@ -53,8 +56,9 @@ fn main() -> ExitCode {
         (Some("streams"), Some(count)) => streams::run(count),
         (Some("server"), Some(seconds)) => server::run(Duration::from_secs(seconds)),
         (Some("guests"), Some(count)) => guests::run(count),
+        (Some("ready"), Some(count)) => ready::run(count as u32),
         _ => {
-            eprintln!("usage: soak [--flat] streams N | server SECONDS | guests N");
+            eprintln!("usage: soak [--flat] streams N | server SECONDS | guests N | ready N");
             return ExitCode::from(2);
         }
     };

@@ -9,8 +9,13 @@
 
 use core::fmt;
 
-#[cfg(not(all(target_os = "linux", target_arch = "x86_64", target_pointer_width = "64")))]
-compile_error!("the archive is for Linux on x86-64");
+#[cfg(not(all(
+    target_os = "linux",
+    any(target_arch = "x86_64", target_arch = "aarch64"),
+    target_pointer_width = "64",
+    target_endian = "little"
+)))]
+compile_error!("there are archives for Linux on x86-64 and on arm64 alone");
 
 /// A store, or none. Only the library reads what is in it.
 #[repr(C)]
@@ -313,6 +318,9 @@ pub const OTHER_LOOSE: u32 = 2;
 /// The other end is gone: it was dropped or closed.
 pub const OTHER_GONE: u32 = 3;
 
+/// The number of no guest: none gets it.
+pub const NO_GUEST: u32 = 4294967295;
+
 #[rustfmt::skip]
 unsafe extern "C" {
     /// The version of the archive, as STRM_VERSION is that of this header. Where the two differ, a program was
@@ -498,6 +506,13 @@ unsafe extern "C" {
     pub fn strm_next_handle(store: *mut StoreHandle, guest: u32, after: u32, out: &mut Handle) -> u32;
     /// Puts at `out` how many handles a guest has, and looks at none of them. Refused: UnknownGuest.
     pub fn strm_handle_count(store: *mut StoreHandle, guest: u32, out: &mut u32) -> u32;
+    /// Puts at `out` the least guest, of those from a number on, that has an end which is to be told something, or
+    /// STRM_NO_GUEST where none has. It is told as long as that is so, whoever asked before. From 0 on, and then from
+    /// behind each guest, it tells all that are ready, and looks at no guest in vain. strm_next_handle tells which ends
+    /// they are, or strm_set_poll of those in a set. The first call makes counts: it goes over all streams, and takes
+    /// 8 to 17 bytes for each guest and 24 for each stream; later ones go over the streams that changed since, each
+    /// once. OUT_OF_MEMORY, of the first call alone, after which nothing is counted.
+    pub fn strm_next_ready_guest(store: *mut StoreHandle, from: u32, out: &mut u32) -> u32;
     /// Sets how much a guest may have at once: handles of whatever kind, ends of streams and futures among them, and
     /// bytes that the store keeps for it, 4,096 for each handle of an error context. What it has stays, also where
     /// that is more; it only gets no more of it. It takes 16 bytes for each guest up to this one. Refused:

@@ -56,7 +56,8 @@
 //! # What it stands on
 //!
 //! What is proved is the archive that `strm-sys` links; this crate is plain Rust over it, with one `unsafe` block a
-//! call, and no other dependency. The archive is for Linux on x86-64, and needs a processor of the level x86-64-v2.
+//! call, and no other dependency. There are archives for Linux on x86-64 of the level x86-64-v2, on every x86-64, and on
+//! arm64.
 //! The crate needs `alloc`; without its feature `std` threads share a store by a lock of their own.
 #![no_std]
 

@@ -10,6 +10,7 @@ mod memories;
 mod moves;
 mod polling;
 mod queries;
+mod ready;
 mod rooms;
 mod sets;
 mod streams;
