@@ -2,10 +2,11 @@
 use Rattle.std.proofs.Common.{◌≡◌, ℕ, ◌+◌, ◌-◌, ◌*◌, ◌/◌, ◌%◌, ◌≤◌, List, [], ◌∷◌, length, refl, ap, subst, add-zero, ◌∙◌, arith}
 use Rattle.std.specs.Prelude.{◌^◌}
 use Rattle.strm_codes.specs.Scalars.{size_of}
-use Rattle.strm_codes.specs.Layout.{gap_before, end_offset, align_of, item_size}
+use Rattle.strm_codes.specs.Fields.{end_offset, fields_align, fields_size}
+use Rattle.strm_codes.specs.Offsets.{gap_before}
 use Rattle.strm_codes.specs.Forms.{power_of, form_of, fields_of, align_in, size_in}
 use Rattle.strm_codes.specs.declared.scalars.Scalar.{Scalar}
-use Rattle.strm_codes.proofs.LayoutLemmas.{IsWidth, IsWidth-size_of, IsWidth-align_of, by_width, le-end_offset}
+use Rattle.strm_codes.proofs.LayoutLemmas.{IsWidth, IsWidth-size_of, IsWidth-fields_align, by_width, le-end_offset}
 
 -- ## A size is one to eight alignments
 
@@ -29,7 +30,7 @@ field_ends : (a w at n : ℕ) → IsWidth a → IsWidth w → Ends a w at n
 field_ends a w at n aw ww =
     by_width (λ a. Ends a w at n) (in_1 w at n ww) (in_2 w at n ww) (in_4 w at n ww) (in_8 w at n ww) a aw
 
-fields_end : (a at n : ℕ) (ss : List Scalar) → IsWidth a → align_of ss ≤ a → at ≤ a * n → end_offset at ss ≤ a * (n + length ss)
+fields_end : (a at n : ℕ) (ss : List Scalar) → IsWidth a → fields_align ss ≤ a → at ≤ a * n → end_offset at ss ≤ a * (n + length ss)
 fields_end a at n [] aw le h = rw (add-zero n) h
 fields_end a at n (s ∷ ss) aw le h =
     let first = field_ends a (size_of s) at n aw (IsWidth-size_of s) h (omega arith) in
@@ -59,10 +60,10 @@ measured a end w some most =
     (λ m. record { some = omega arith; most = omega arith; whole = omega arith })
     a w most
 
-IsMeasured-item_size : (ss : List Scalar) → 1 ≤ length ss → length ss ≤ 8 → IsMeasured (align_of ss) (item_size ss)
-IsMeasured-item_size ss some most =
-    let a = align_of ss in
-    let w = IsWidth-align_of ss in
+IsMeasured-fields_size : (ss : List Scalar) → 1 ≤ length ss → length ss ≤ 8 → IsMeasured (fields_align ss) (fields_size ss)
+IsMeasured-fields_size ss some most =
+    let a = fields_align ss in
+    let w = IsWidth-fields_align ss in
     let end : end_offset 0 ss ≤ a * (0 + length ss) = fields_end a 0 0 ss w (omega arith) (omega arith) in
     let eight : a * length ss ≤ a * 8 = by_width (λ a. a * length ss ≤ a * 8) (omega arith) (omega arith) (omega arith) (omega arith) a w in
     measured a (end_offset 0 ss) w (some_bytes ss some) (omega (arith, end, eight))
@@ -87,30 +88,30 @@ IsForm-of len power units a b c d e = record { len_is = omega arith; power_is = 
 -- of one to eight fields: what stands in their byte
 pub record IsRead (ss : List Scalar) : Type 0 where
   pub fields : fields_of (form_of ss) ≡ length ss
-  pub align : align_in (form_of ss) ≡ align_of ss
-  pub size : size_in (form_of ss) ≡ item_size ss
+  pub align : align_in (form_of ss) ≡ fields_align ss
+  pub size : size_in (form_of ss) ≡ fields_size ss
 
 pub IsRead-form_of : (ss : List Scalar) → 1 ≤ length ss → length ss ≤ 8 → IsRead ss
 IsRead-form_of ss some most =
-    let a = align_of ss in
-    let w = IsWidth-align_of ss in
-    let m = IsMeasured-item_size ss some most in
-    let f = IsForm-of (length ss) (power_of a) (item_size ss / a) some most (power-most a w) m.some m.most in
+    let a = fields_align ss in
+    let w = IsWidth-fields_align ss in
+    let m = IsMeasured-fields_size ss some most in
+    let f = IsForm-of (length ss) (power_of a) (fields_size ss / a) some most (power-most a w) m.some m.most in
     let align : align_in (form_of ss) ≡ a = ap (λ k. 2 ^ k) f.power_is ∙ power_is a w in
     record {
       fields = f.len_is;
       align = align;
-      size = ap (λ u. u * align_in (form_of ss)) f.units_is ∙ ap (λ b. item_size ss / a * b) align ∙ m.whole;
+      size = ap (λ u. u * align_in (form_of ss)) f.units_is ∙ ap (λ b. fields_size ss / a * b) align ∙ m.whole;
     }
 
 -- the size in alignments, by the code's numbers: from 1 to 8
 pub record AreUnits (ss : List Scalar) (size power : ℕ) : Type 0 where
-  pub are : size / 2 ^ power ≡ item_size ss / align_of ss
+  pub are : size / 2 ^ power ≡ fields_size ss / fields_align ss
   pub some : 1 ≤ size / 2 ^ power
   pub most : size / 2 ^ power ≤ 8
 
-pub AreUnits-item_size : (ss : List Scalar) (align power size : ℕ) → 1 ≤ length ss → length ss ≤ 8 → align ≡ align_of ss → power ≡ power_of align → size ≡ item_size ss → AreUnits ss size power
-AreUnits-item_size ss align power size some most a p s =
-    let m = IsMeasured-item_size ss some most in
-    let is : size / 2 ^ power ≡ item_size ss / align_of ss = rw (s, p, a, power_is (align_of ss) (IsWidth-align_of ss)) refl in
+pub AreUnits-fields_size : (ss : List Scalar) (align power size : ℕ) → 1 ≤ length ss → length ss ≤ 8 → align ≡ fields_align ss → power ≡ power_of align → size ≡ fields_size ss → AreUnits ss size power
+AreUnits-fields_size ss align power size some most a p s =
+    let m = IsMeasured-fields_size ss some most in
+    let is : size / 2 ^ power ≡ fields_size ss / fields_align ss = rw (s, p, a, power_is (fields_align ss) (IsWidth-fields_align ss)) refl in
     record { are = is; some = rw is m.some; most = rw is m.most }

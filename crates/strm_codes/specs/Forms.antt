@@ -1,7 +1,7 @@
 -- How many fields a tuple has, and an item's alignment and size, in one byte (representation only).
 -- Ours: the size is one to eight alignments, and the alignment 1, 2, 4 or 8.
 use Rattle.std.specs.Prelude.{ℕ, ◌+◌, ◌-◌, ◌*◌, ◌/◌, ◌%◌, ◌^◌, ◌==◌, if◌then◌else◌, List, length}
-use Rattle.strm_codes.specs.Layout.{align_of, item_size}
+use Rattle.strm_codes.specs.Fields.{fields_align, fields_size}
 use Rattle.strm_codes.specs.declared.scalars.Scalar.{Scalar}
 
 -- the power of two that an alignment is
@@ -10,7 +10,7 @@ power_of align = if align == 1 then 0 else (if align == 2 then 1 else (if align 
 
 -- the byte of a tuple
 abbrev pub form_of : List Scalar → ℕ
-form_of ss = (length ss - 1) + 8 * power_of (align_of ss) + 32 * (item_size ss / align_of ss - 1)
+form_of ss = (length ss - 1) + 8 * power_of (fields_align ss) + 32 * (fields_size ss / fields_align ss - 1)
 
 -- how many fields a byte tells
 abbrev pub fields_of : ℕ → ℕ

@@ -2,7 +2,7 @@
 -- Canonical ABI, "Alignment", "Element Size" and "Loading".
 use Rattle.std.specs.Prelude.{ℕ, ◌^◌, ℤ, pos, neg_ℤ, ◌≤ℤ◌, ◌<ℤ◌, Bool, true, false, ◌&&◌, ◌||◌, nat_lt, IsTrue}
 use Rattle.strm_codes.specs.declared.scalars.Scalar.{Scalar}
-use Rattle.strm_codes.specs.declared.scalars.Scalar.TheVariants.{Bool as Flag, S8, U8, S16, U16, S32, U32, S64, U64, Char}
+use Rattle.strm_codes.specs.declared.scalars.Scalar.TheVariants.{Bool as Flag, S8, U8, S16, U16, S32, U32, S64, U64, Char, F32, F64}
 
 -- the bytes that one takes, which is its alignment too
 abbrev pub size_of : Scalar → ℕ
@@ -16,12 +16,14 @@ size_of U32 = 4
 size_of S64 = 8
 size_of U64 = 8
 size_of Char = 4
+size_of F32 = 4
+size_of F64 = 8
 
--- one of the eight whole numbers: every pattern of its bytes is an item
-abbrev pub is_whole_number : Scalar → Bool
-is_whole_number Flag = false
-is_whole_number Char = false
-is_whole_number _ = true
+-- a whole number or a float: every pattern of its bytes is an item, and stays as it is
+abbrev pub is_numeric : Scalar → Bool
+is_numeric Flag = false
+is_numeric Char = false
+is_numeric _ = true
 
 -- a Unicode scalar value
 abbrev pub is_scalar_value : ℕ → Bool
@@ -40,7 +42,7 @@ abbrev pub magnitude : ℤ → ℕ
 magnitude (pos n) = n
 magnitude _ = 0
 
--- the numbers that are items of a scalar
+-- the numbers that are items of a scalar; a float's is the one that its bits spell, so no NaN is another's
 abbrev pub FitsScalar : Scalar → ℤ → Type 0
 FitsScalar Flag x = IsBelow 2 x
 FitsScalar S8 x = IsSignedBelow (2 ^ 7) x
@@ -52,3 +54,5 @@ FitsScalar U32 x = IsBelow (2 ^ 32) x
 FitsScalar S64 x = IsSignedBelow (2 ^ 63) x
 FitsScalar U64 x = IsBelow (2 ^ 64) x
 FitsScalar Char x = IsBelow (2 ^ 32) x × IsTrue (is_scalar_value (magnitude x))
+FitsScalar F32 x = IsBelow (2 ^ 32) x
+FitsScalar F64 x = IsBelow (2 ^ 64) x

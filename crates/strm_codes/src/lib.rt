@@ -3,9 +3,14 @@
 #![tactic(auto)]
 
 pub mod codes;
+pub mod compounds;
 pub mod counts;
+pub mod fits;
 pub mod ids;
+pub mod insides;
 pub mod laws;
+pub mod measures;
+pub mod nodes;
 pub mod payloads;
 pub mod refusals;
 pub mod scalars;

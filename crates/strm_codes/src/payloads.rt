@@ -1,13 +1,16 @@
 //! Payloads: what one item of a stream consists of.
 //!
-//! Source: Canonical ABI, "Alignment" and "Element Size"; the narrowing to scalars and tuples of
-//! scalars is ours.
+//! Source: Canonical ABI, "Alignment" and "Element Size"; the narrowing to types of fixed size, without
+//! pointers and handles, is ours.
 
 ghost use Rattle.std.specs.Prelude.{◌≡◌, ◌+◌, ◌%◌, ◌<◌, ◌≤◌, ◌↔◌, length, IsTrue, IsSome, IfSome, slice_get, Some};
 ghost use Rattle.strm_codes.specs.Scalars.{size_of};
-ghost use Rattle.strm_codes.specs.Layout.{align_of, item_size, gap_before};
+ghost use Rattle.strm_codes.specs.ItemTypes.{align_of, item_size};
+ghost use Rattle.strm_codes.specs.Fields.{fields_align, fields_size};
+ghost use Rattle.strm_codes.specs.Offsets.{gap_before};
 ghost use Rattle.strm_codes.specs.Forms.{power_of, form_of, fields_of, align_in, size_in};
 
+use crate::compounds::Compound;
 use crate::scalars::Scalar;
 use std::marker::Model;
 
@@ -87,7 +90,7 @@ impl Shape {
     // The bytes of an item.
     #[inline(always)]
     fn size(&self) -> u32
-        ensures exact { result ≡ item_size self.now }
+        ensures exact { result ≡ fields_size self.now }
         ensures most { result ≤ 64 }
     {
         size_in(self.form)
@@ -96,7 +99,7 @@ impl Shape {
     // The alignment of an item.
     #[inline(always)]
     fn align(&self) -> u32
-        ensures exact { result ≡ align_of self.now }
+        ensures exact { result ≡ fields_align self.now }
         ensures some { 1 ≤ result }
         ensures most { result ≤ 8 }
     {
@@ -126,18 +129,20 @@ impl Eq for Shape {
     ghost laws = { lists_equiv (on_equiv scalar_number nat_eq_equiv) };
 }
 
-/// What one item is: nothing, a scalar, or a tuple of scalars.
+/// What one item is: nothing, a scalar, a tuple of scalars, or any other type of a fixed size that holds
+/// no pointer and no handle.
 #[derive(Clone, Copy, Debug)]
 pub enum Payload {
     Nothing,
     One(Scalar),
     Tuple(Shape),
+    Compound(Compound),
 }
 
 impl Payload {
-    ghost use Rattle.strm_codes.specs.Layout.{scalars_of, is_number_payload};
+    ghost use Rattle.strm_codes.specs.Layout.{scalars_of, item_type, is_number_payload};
 
-    /// The scalars of an item, in order.
+    /// The scalars of an item that is nothing, a scalar or a tuple of scalars, in order; of any other none.
     pub fn scalars(&self) -> &[Scalar]
         ensures exact { result.now ≡ scalars_of self.now }
         ensures most { length result.now ≤ 8 }
@@ -146,26 +151,28 @@ impl Payload {
             Payload::Nothing => &[],
             Payload::One(scalar) => std::slice::from_ref(scalar),
             Payload::Tuple(shape) => shape.as_slice(),
+            Payload::Compound(_) => &[],
         }
     }
 
     /// The bytes of an item, padding included.
     #[inline(always)]
     pub fn size(&self) -> u32
-        ensures exact { result ≡ item_size (scalars_of self.now) }
-        ensures most { result ≤ 64 }
+        ensures exact { result ≡ item_size (item_type self.now) }
+        ensures most { result ≤ 128 }
     {
         match self {
             Payload::Nothing => 0,
             Payload::One(scalar) => scalar.size(),
             Payload::Tuple(shape) => shape.size(),
+            Payload::Compound(compound) => compound.size(),
         }
     }
 
     /// The alignment of an item, in bytes.
     #[inline(always)]
     pub fn align(&self) -> u32
-        ensures exact { result ≡ align_of (scalars_of self.now) }
+        ensures exact { result ≡ align_of (item_type self.now) }
         ensures some { 1 ≤ result }
         ensures most { result ≤ 8 }
     {
@@ -173,23 +180,24 @@ impl Payload {
             Payload::Nothing => 1,
             Payload::One(scalar) => scalar.size(),
             Payload::Tuple(shape) => shape.align(),
+            Payload::Compound(compound) => compound.align(),
         }
     }
 
     /// Whether an address is a multiple of the alignment of an item.
     #[inline(always)]
     pub fn is_aligned(&self, address: u32) -> bool
-        ensures { IsTrue result ↔ (address % align_of (scalars_of self.now) ≡ 0) }
+        ensures { IsTrue result ↔ (address % align_of (item_type self.now) ≡ 0) }
     {
         address & (self.align() - 1) == 0
     }
 
-    /// One of the eight whole numbers, alone.
+    /// A whole number or a float, alone.
     pub fn is_number(&self) -> bool
         ensures { result ≡ is_number_payload self.now }
     {
         match self {
-            Payload::One(scalar) => scalar.is_whole_number(),
+            Payload::One(scalar) => scalar.is_numeric(),
             _ => false,
         }
     }
@@ -199,18 +207,21 @@ impl PartialEq for Payload {
     ghost use Rattle.std.specs.Cmp.{partial_equiv_from_equiv, and_equiv, on_equiv, nat_eq_equiv};
     ghost use Rattle.std.proofs.lemmas.Cmp.{lists_equiv};
     ghost use Rattle.strm_codes.specs.Layout.{scalars_of};
-    ghost use Rattle.strm_codes.specs.Sameness.{scalar_number, form_number, same_payload};
+    ghost use Rattle.strm_codes.specs.Sameness.{scalar_number, node_kind, node_count, nodes_of, form_number, same_payload};
 
     ghost eq = { same_payload };
 
     ghost laws = { partial_equiv_from_equiv (and_equiv (on_equiv form_number nat_eq_equiv)
-        (on_equiv scalars_of (lists_equiv (on_equiv scalar_number nat_eq_equiv)))) };
+        (and_equiv (on_equiv scalars_of (lists_equiv (on_equiv scalar_number nat_eq_equiv)))
+        (on_equiv nodes_of (lists_equiv (and_equiv (on_equiv node_kind nat_eq_equiv)
+        (on_equiv node_count nat_eq_equiv)))))) };
 
     fn eq(&self, other: &Payload) -> bool {
         match (self, other) {
             (Payload::Nothing, Payload::Nothing) => true,
             (Payload::One(scalar), Payload::One(other)) => scalar == other,
             (Payload::Tuple(shape), Payload::Tuple(other)) => shape == other,
+            (Payload::Compound(compound), Payload::Compound(other)) => compound == other,
             _ => false,
         }
     }
@@ -220,10 +231,12 @@ impl Eq for Payload {
     ghost use Rattle.std.specs.Cmp.{and_equiv, on_equiv, nat_eq_equiv};
     ghost use Rattle.std.proofs.lemmas.Cmp.{lists_equiv};
     ghost use Rattle.strm_codes.specs.Layout.{scalars_of};
-    ghost use Rattle.strm_codes.specs.Sameness.{scalar_number, form_number};
+    ghost use Rattle.strm_codes.specs.Sameness.{scalar_number, node_kind, node_count, nodes_of, form_number};
 
     ghost laws = { and_equiv (on_equiv form_number nat_eq_equiv)
-        (on_equiv scalars_of (lists_equiv (on_equiv scalar_number nat_eq_equiv))) };
+        (and_equiv (on_equiv scalars_of (lists_equiv (on_equiv scalar_number nat_eq_equiv)))
+        (on_equiv nodes_of (lists_equiv (and_equiv (on_equiv node_kind nat_eq_equiv)
+        (on_equiv node_count nat_eq_equiv))))) };
 }
 
 // The bytes from an offset to the next multiple of a size.
@@ -245,7 +258,7 @@ fn end_after(at: u32, scalar: Scalar) -> u32
 
 fn size_of_scalars(scalars: &[Scalar]) -> u32
     requires { length scalars.now ≤ 8 }
-    ensures exact { result ≡ item_size scalars.now }
+    ensures exact { result ≡ fields_size scalars.now }
     ensures most { result ≤ 64 }
 {
     let mut at = 0;
@@ -256,7 +269,7 @@ fn size_of_scalars(scalars: &[Scalar]) -> u32
 }
 
 fn align_of_scalars(scalars: &[Scalar]) -> u32
-    ensures exact { result ≡ align_of scalars.now }
+    ensures exact { result ≡ fields_align scalars.now }
     ensures some { 1 ≤ result }
     ensures most { result ≤ 8 }
 {

@@ -67,7 +67,7 @@ pub enum Refusal {
     /// The value passed.
     #[error("the value of the future passed")]
     FutureAlreadyRead = 19,
-    /// Both operations are of one guest, and the payload is neither none nor a whole number.
+    /// Both operations are of one guest, and the payload is neither none nor a number.
     #[error("both operations are of one guest")]
     IntraComponent = 20,
     /// The end that would move was told, or the value passed.

@@ -6,7 +6,7 @@ ghost use Rattle.std.specs.Prelude.{◌≡◌, ◌<◌, ◌≤◌, ◌↔◌, Is
 ghost use Rattle.strm_codes.specs.Scalars.{FitsScalar};
 ghost use Rattle.strm_codes.specs.declared.scalars.Scalar.TheVariants.{Char};
 
-/// A scalar type.
+/// A scalar type. An item of a float is the number that its bits spell.
 #[derive(Clone, Copy, Debug)]
 pub enum Scalar {
     Bool,
@@ -19,10 +19,12 @@ pub enum Scalar {
     S64,
     U64,
     Char,
+    F32,
+    F64,
 }
 
 impl Scalar {
-    ghost use Rattle.strm_codes.specs.Scalars.{size_of, is_whole_number};
+    ghost use Rattle.strm_codes.specs.Scalars.{size_of, is_numeric};
 
     /// The bytes that one takes, which is its alignment too.
     pub fn size(self) -> u32
@@ -33,14 +35,14 @@ impl Scalar {
         match self {
             Scalar::Bool | Scalar::S8 | Scalar::U8 => 1,
             Scalar::S16 | Scalar::U16 => 2,
-            Scalar::S32 | Scalar::U32 | Scalar::Char => 4,
-            Scalar::S64 | Scalar::U64 => 8,
+            Scalar::S32 | Scalar::U32 | Scalar::Char | Scalar::F32 => 4,
+            Scalar::S64 | Scalar::U64 | Scalar::F64 => 8,
         }
     }
 
-    /// One of the eight whole numbers.
-    pub fn is_whole_number(self) -> bool
-        ensures { result ≡ is_whole_number self }
+    /// A whole number or a float: neither a bool nor a char.
+    pub fn is_numeric(self) -> bool
+        ensures { result ≡ is_numeric self }
     {
         !matches!(self, Scalar::Bool | Scalar::Char)
     }
@@ -56,9 +58,9 @@ impl Scalar {
             Scalar::S16 => -0x8000 <= number && number < 0x8000,
             Scalar::U16 => 0 <= number && number < 0x1_0000,
             Scalar::S32 => -0x8000_0000 <= number && number < 0x8000_0000,
-            Scalar::U32 => 0 <= number && number < 0x1_0000_0000,
+            Scalar::U32 | Scalar::F32 => 0 <= number && number < 0x1_0000_0000,
             Scalar::S64 => -0x8000_0000_0000_0000 <= number && number < 0x8000_0000_0000_0000,
-            Scalar::U64 => 0 <= number && number < 0x1_0000_0000_0000_0000,
+            Scalar::U64 | Scalar::F64 => 0 <= number && number < 0x1_0000_0000_0000_0000,
             Scalar::Char => is_scalar_value(number),
         }
     }

@@ -3,18 +3,21 @@
 //! Ours: one type for the items of every payload.
 
 ghost use Rattle.std.specs.Prelude.{◌≡◌, ◌<◌, ◌≤◌, ◌↔◌, [], ◌∷◌, ◌++◌, All, length, IsSome, IfSome, IsTrue, slice_get, Some};
-ghost use Rattle.strm_codes.specs.Items.{FitsItem, IsNumber};
-ghost use Rattle.strm_codes.specs.Layout.{scalars_of};
+ghost use Rattle.strm_codes.specs.Items.{IsNumber};
+ghost use Rattle.strm_codes.specs.Begins.{FitsItem};
+ghost use Rattle.strm_codes.specs.Fields.{FitsFields};
+ghost use Rattle.strm_codes.specs.Layout.{item_type};
 
+use crate::fits::fits_compound;
 use crate::payloads::Payload;
 use crate::scalars::Scalar;
 use std::marker::Model;
 
-/// At most eight whole numbers, each from -2^63 to 2^64 - 1: an item of a payload, a number for
+/// At most sixteen whole numbers, each from -2^63 to 2^64 - 1: an item of a payload, a number for
 /// each of its fields.
 #[derive(Clone, Copy, PartialEq, Eq, Debug)]
 pub struct Value {
-    numbers: [i128; 8],
+    numbers: [i128; 16],
     len: u8,
 }
 
@@ -30,7 +33,7 @@ impl Model for Value {
 
     ghost invariant = { λ v. AreNumbers v.numbers v.len };
 
-    ghost inverse = { λ xs. record { numbers = padded 8 (pos 0) xs; len = length xs } };
+    ghost inverse = { λ xs. record { numbers = padded 16 (pos 0) xs; len = length xs } };
 
     ghost inverse_ok = { λ v h i. record {
       numbers = sym h.padded.behind i;
@@ -39,16 +42,16 @@ impl Model for Value {
 }
 
 impl Value {
-    /// An item of these numbers; none for more than eight, or for a number out of range.
+    /// An item of these numbers; none for more than sixteen, or for a number out of range.
     pub fn new(numbers: &[i128]) -> Option<Value>
-        ensures some { IsSome result ↔ ((length numbers.now ≤ 8) × All IsNumber numbers.now) }
+        ensures some { IsSome result ↔ ((length numbers.now ≤ 16) × All IsNumber numbers.now) }
         ensures value { IfSome result (λ value. value ≡ numbers.now) }
     {
         let len = numbers.len();
-        if len > 8 || !are_numbers(numbers) {
+        if len > 16 || !are_numbers(numbers) {
             return None;
         }
-        let mut array = [0; 8];
+        let mut array = [0; 16];
         array[..len].copy_from_slice(numbers);
         Some(Value {
             numbers: array,
@@ -61,14 +64,14 @@ impl Value {
         ensures { result ≡ [] }
     {
         Value {
-            numbers: [0; 8],
+            numbers: [0; 16],
             len: 0,
         }
     }
 
     /// Adds a number behind the others.
     pub fn push(&mut self, number: i128)
-        requires few { length self.old < 8 }
+        requires few { length self.old < 16 }
         requires range { IsNumber number }
         ensures { self.new ≡ self.old ++ number ∷ [] }
     {
@@ -79,7 +82,7 @@ impl Value {
     /// How many numbers there are.
     pub fn len(&self) -> usize
         ensures exact { result ≡ length self.now }
-        ensures most { result ≤ 8 }
+        ensures most { result ≤ 16 }
     {
         self.len as usize
     }
@@ -96,7 +99,7 @@ impl Value {
     /// All numbers in order.
     pub fn as_slice(&self) -> &[i128]
         ensures exact { result.now ≡ self.now }
-        ensures most { length result.now ≤ 8 }
+        ensures most { length result.now ≤ 16 }
         ensures range { All IsNumber result.now }
     {
         &self.numbers[..self.len as usize]
@@ -104,9 +107,12 @@ impl Value {
 
     /// Whether this is an item of the payload.
     pub fn fits(&self, payload: Payload) -> bool
-        ensures { IsTrue result ↔ FitsItem (scalars_of payload) self.now }
+        ensures { IsTrue result ↔ FitsItem (item_type payload) self.now }
     {
-        fit_scalars(payload.scalars(), self.as_slice())
+        match payload {
+            Payload::Compound(compound) => fits_compound(compound.as_slice(), self.as_slice()),
+            _ => fit_scalars(payload.scalars(), self.as_slice()),
+        }
     }
 }
 
@@ -123,7 +129,7 @@ fn are_numbers(numbers: &[i128]) -> bool
 }
 
 fn fit_scalars(scalars: &[Scalar], numbers: &[i128]) -> bool
-    ensures { IsTrue result ↔ FitsItem scalars.now numbers.now }
+    ensures { IsTrue result ↔ FitsFields scalars.now numbers.now }
 {
     if scalars.len() != numbers.len() {
         return false;

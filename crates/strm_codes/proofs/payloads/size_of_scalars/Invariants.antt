@@ -1,5 +1,5 @@
 use Rattle.std.proofs.Common.{◌≡◌, ◌*◌, ◌≤◌, drop}
-use Rattle.strm_codes.specs.Layout.{end_offset}
+use Rattle.strm_codes.specs.Fields.{end_offset}
 use Rattle.strm_codes.proofs.payloads.size_of_scalars.Given as goal
 
 abbrev pub invariant-loop-scalar : goal.invariant-loop-scalar

@@ -1,5 +1,5 @@
 use Rattle.std.proofs.Common.{take, ap, ◌∙◌, arith, length-take-le}
-use Rattle.strm_codes.specs.Layout.{item_size}
+use Rattle.strm_codes.specs.Fields.{fields_size}
 use Rattle.strm_codes.specs.Forms.{fields_of, size_in}
 use Rattle.strm_codes.proofs.FormLemmas.{IsRead-form_of}
 use Rattle.strm_codes.proofs.payloads.Shape.size.Goals as goal
@@ -10,4 +10,4 @@ returns-clause-exact c =
     let padded = c.self.invariant.0 in
     let len = length-take-le (fields_of inside.form) inside.fields (omega (arith, padded.most, padded.whole)) in
     let read = IsRead-form_of (take (fields_of inside.form) inside.fields) (omega (arith, len)) (omega (arith, len, padded.most)) in
-    c.size_in.ensures ∙ ap size_in c.self.invariant.1 ∙ read.size ∙ ap item_size c.self.view_is
+    c.size_in.ensures ∙ ap size_in c.self.invariant.1 ∙ read.size ∙ ap fields_size c.self.view_is

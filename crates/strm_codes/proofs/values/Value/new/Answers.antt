@@ -1,4 +1,4 @@
-use Rattle.std.proofs.Common.{arith, pos, refl}
+use Rattle.std.proofs.Common.{arith, refl}
 use Rattle.strm_codes.proofs.ValueLemmas.{AreNumbers-new}
 use Rattle.strm_codes.proofs.values.Value.new.Goals as goal
 
