@@ -3,12 +3,18 @@ use Rattle.std.proofs.Common.{◌≡◌, ℕ, zero, suc, ◌+◌, ◌<◌, ◌�
 use Rattle.std.proofs.lemmas.List.{drop-drop, drop_all}
 use Rattle.std.specs.Prelude.{is_some}
 use Rattle.strm_codes.specs.Scalars.{size_of, is_scalar_value}
-use Rattle.strm_codes.specs.Layout.{gap_before, item_size}
+use Rattle.strm_codes.specs.Offsets.{gap_before}
+use Rattle.strm_codes.specs.Fields.{fields_size}
+use Rattle.strm_codes.specs.ItemTypes.{fields_type}
+use Rattle.strm_codes.proofs.FieldTypeLemmas.{item_size-fields}
 use Rattle.strm_codes.specs.declared.scalars.Scalar.{Scalar}
 use Rattle.strm_codes.specs.declared.scalars.Scalar.TheVariants.{Char}
 use Rattle.strm_memory.specs.Bytes.{le, bytes_at}
 use Rattle.strm_memory.specs.Numbers.{lifted}
-use Rattle.strm_memory.specs.Items.{decode_from, decode, items}
+use Rattle.strm_memory.specs.FieldItems.{decode_from}
+use Rattle.strm_memory.specs.Items.{items}
+use Rattle.strm_memory.proofs.ItemLemmas.{items-cons}
+use Rattle.strm_memory.proofs.FlatLemmas.{decode-flat}
 use Rattle.strm_memory.specs.Copies.{is_good_column, are_good_columns}
 use Rattle.strm_memory.proofs.FieldLemmas.{IsField, drop_field, is_some-both}
 use Rattle.strm_memory.proofs.CopyLemmas.{lifted_no_char}
@@ -87,13 +93,16 @@ unfolding are_good_columns is_good_column
 good_columns-zero at [] size source = refl
 good_columns-zero at (s ∷ ss) size source = good_columns-zero (at + gap_before at (size_of s) + size_of s) ss size source
 
-pub good_columns-items : (ss : List Scalar) (source : List ℕ) (n : ℕ) → are_good_columns 0 ss (item_size ss) source n ≡ is_some (items ss source n)
-unfolding items
-good_columns-items ss source zero = good_columns-zero 0 ss (item_size ss) source
+pub good_columns-items : (ss : List Scalar) (source : List ℕ) (n : ℕ) → are_good_columns 0 ss (fields_size ss) source n ≡ is_some (items (fields_type ss) source n)
+good_columns-items ss source zero = unfold items in good_columns-zero 0 ss (fields_size ss) source
 good_columns-items ss source (suc n) =
-    good_columns-suc 0 ss (item_size ss) source n
-    ∙ ap (λ b. is_some (decode ss source) && b) (good_columns-items ss (drop (item_size ss) source) n)
-    ∙ sym (is_some-both (decode ss source) (items ss (drop (item_size ss) source) n) (λ x xs. x ∷ xs) ∙ cond_both (is_some (decode ss source)) (is_some (items ss (drop (item_size ss) source) n)))
+    let w = fields_size ss in
+    let here = decode_from 0 ss source in
+    let others = items (fields_type ss) (drop w source) n in
+    good_columns-suc 0 ss w source n
+    ∙ ap (λ b. is_some here && b) (good_columns-items ss (drop w source) n)
+    ∙ sym (is_some-both here others (λ x xs. x ∷ xs) ∙ cond_both (is_some here) (is_some others))
+    ∙ sym (ap is_some (items-cons (fields_type ss) source n w here (item_size-fields ss) (decode-flat ss source)))
 
 -- a column of any other scalar than a character is good
 pub good_column-no_char : (s : Scalar) (start size : ℕ) (source : List ℕ) (n : ℕ) → (s ≡ Char → ⊥) → is_good_column s start size source n ≡ true

@@ -9,14 +9,15 @@ use Rattle.std.specs.Int.{w128}
 use Rattle.std.proofs.lemmas.Int.{ints}
 use mir.Val.{SFits}
 use Rattle.strm_codes.specs.Scalars.{size_of, FitsScalar, IsBelow, IsSignedBelow}
-use Rattle.strm_codes.specs.Items.{FitsItem, IsNumber}
-use Rattle.strm_codes.specs.Layout.{gap_before, end_offset}
+use Rattle.strm_codes.specs.Items.{IsNumber}
+use Rattle.strm_codes.specs.Fields.{end_offset, FitsFields}
+use Rattle.strm_codes.specs.Offsets.{gap_before}
 use Rattle.strm_codes.proofs.LayoutLemmas.{le-end_offset}
 use Rattle.strm_codes.specs.declared.scalars.Scalar.{Scalar}
-use Rattle.strm_codes.specs.declared.scalars.Scalar.TheVariants.{Bool as Flag, S8, U8, S16, U16, S32, U32, S64, U64, Char}
+use Rattle.strm_codes.specs.declared.scalars.Scalar.TheVariants.{Bool as Flag, S8, U8, S16, U16, S32, U32, S64, U64, Char, F32, F64}
 use Rattle.strm_memory.specs.Bytes.{le, to_le, put_at}
 use Rattle.strm_memory.specs.Numbers.{lifted, lowered}
-use Rattle.strm_memory.specs.Items.{decode_from, encode_from}
+use Rattle.strm_memory.specs.FieldItems.{decode_from, encode_from}
 use Rattle.strm_memory.specs.Copies.{bytes_settled}
 use Rattle.strm_memory.proofs.ByteLemmas.{length-to_le}
 
@@ -65,6 +66,8 @@ length-settled U32 bytes e = e
 length-settled S64 bytes e = e
 length-settled U64 bytes e = e
 length-settled Char bytes e = e
+length-settled F32 bytes e = e
+length-settled F64 bytes e = e
 
 pub is_some-both : {A B C : Type 0} (o : Option A) (p : Option B) (f : A → B → C) → is_some (option_and_then (λ x. option_map (f x) p) o) ≡ cond (is_some o) (is_some p) false
 is_some-both None p f = refl
@@ -165,14 +168,14 @@ unfolding encode_from
 encode_end ss k at n m xs h = rw (drop_all k ss h) (take-append-drop n m)
 
 -- the numbers behind one that fits do too
-pub fits_step : (ss : List Scalar) (k : ℕ) (xs : List ℤ) → k < length ss → k < length xs → FitsItem (drop k ss) (drop k xs) → FitsScalar (get_or ss k Flag) (get_or xs k (pos 0)) × FitsItem (drop (k + 1) ss) (drop (k + 1) xs)
+pub fits_step : (ss : List Scalar) (k : ℕ) (xs : List ℤ) → k < length ss → k < length xs → FitsFields (drop k ss) (drop k xs) → FitsScalar (get_or ss k Flag) (get_or xs k (pos 0)) × FitsFields (drop (k + 1) ss) (drop (k + 1) xs)
 fits_step ss k xs h l f = rw (drop_more ss k Flag h, drop_more xs k (pos 0) l) at f
 
-pub length-FitsItem : (ss : List Scalar) (xs : List ℤ) → FitsItem ss xs → length xs ≡ length ss
-length-FitsItem [] [] f = refl
-length-FitsItem [] (x ∷ xs) f = absurd f
-length-FitsItem (s ∷ ss) [] f = absurd f
-length-FitsItem (s ∷ ss) (x ∷ xs) f = omega (arith, length-FitsItem ss xs f.1)
+pub length-FitsFields : (ss : List Scalar) (xs : List ℤ) → FitsFields ss xs → length xs ≡ length ss
+length-FitsFields [] [] f = refl
+length-FitsFields [] (x ∷ xs) f = absurd f
+length-FitsFields (s ∷ ss) [] f = absurd f
+length-FitsFields (s ∷ ss) (x ∷ xs) f = omega (arith, length-FitsFields ss xs f.1)
 
 -- what fits a scalar fits 128 bits
 below_fits : (limit : ℕ) (x : ℤ) → limit ≤ 2 ^ 64 → IsBelow limit x → SFits w128 x
@@ -194,6 +197,8 @@ SFits-fits S32 x f = within_fits (2 ^ 31) x (lit≤ tt) f
 SFits-fits U64 x f = below_fits (2 ^ 64) x (lit≤ tt) f
 SFits-fits S64 x f = within_fits (2 ^ 63) x (lit≤ tt) f
 SFits-fits Char x f = below_fits (2 ^ 32) x (lit≤ tt) f.0
+SFits-fits F32 x f = below_fits (2 ^ 32) x (lit≤ tt) f
+SFits-fits F64 x f = below_fits (2 ^ 64) x (lit≤ tt) f
 
 below_number : (limit : ℕ) (x : ℤ) → limit ≤ 2 ^ 64 → IsBelow limit x → IsNumber x
 below_number limit (pos n) h (a, b) = (omega (arith, ints), omega (arith, ints))
@@ -214,11 +219,13 @@ IsNumber-fits S32 x f = within_number (2 ^ 31) x (lit≤ tt) f
 IsNumber-fits U64 x f = below_number (2 ^ 64) x (lit≤ tt) f
 IsNumber-fits S64 x f = within_number (2 ^ 63) x (lit≤ tt) f
 IsNumber-fits Char x f = below_number (2 ^ 32) x (lit≤ tt) f.0
+IsNumber-fits F32 x f = below_number (2 ^ 32) x (lit≤ tt) f
+IsNumber-fits F64 x f = below_number (2 ^ 64) x (lit≤ tt) f
 
 -- an item's numbers are numbers
-pub IsNumber-FitsItem : (ss : List Scalar) (xs : List ℤ) → FitsItem ss xs → All IsNumber xs
-IsNumber-FitsItem [] [] f k d h = absurd (omega arith)
-IsNumber-FitsItem [] (x ∷ xs) f k d h = absurd f
-IsNumber-FitsItem (s ∷ ss) [] f k d h = absurd f
-IsNumber-FitsItem (s ∷ ss) (x ∷ xs) f zero d h = IsNumber-fits s x f.0
-IsNumber-FitsItem (s ∷ ss) (x ∷ xs) f (suc k) d h = IsNumber-FitsItem ss xs f.1 k d (omega arith)
+pub IsNumber-FitsFields : (ss : List Scalar) (xs : List ℤ) → FitsFields ss xs → All IsNumber xs
+IsNumber-FitsFields [] [] f k d h = absurd (omega arith)
+IsNumber-FitsFields [] (x ∷ xs) f k d h = absurd f
+IsNumber-FitsFields (s ∷ ss) [] f k d h = absurd f
+IsNumber-FitsFields (s ∷ ss) (x ∷ xs) f zero d h = IsNumber-fits s x f.0
+IsNumber-FitsFields (s ∷ ss) (x ∷ xs) f (suc k) d h = IsNumber-FitsFields ss xs f.1 k d (omega arith)

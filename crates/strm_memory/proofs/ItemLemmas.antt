@@ -5,11 +5,20 @@ use Rattle.std.proofs.Math.Nat.{mul-le-mul_left}
 use Rattle.std.proofs.Math.Seq.{take-append-add, drop-append-add}
 use Rattle.std.specs.Prelude.{is_some, IsSomeAnd, option_and_then}
 use Rattle.std.specs.Option.{option_map}
-use Rattle.strm_codes.specs.Layout.{item_size}
-use Rattle.strm_codes.specs.declared.scalars.Scalar.{Scalar}
-use Rattle.strm_codes.specs.Items.{FitsItem}
-use Rattle.strm_memory.specs.Items.{decode, encode, items, stored, AreItems, stored_at}
+use Rattle.strm_codes.specs.ItemTypes.{item_size, ItemType}
+use Rattle.strm_codes.specs.Begins.{FitsItem}
+use Rattle.strm_memory.specs.Items.{items, stored, AreItems, stored_at}
+use Rattle.strm_memory.specs.Loads.{decode, encode}
 use Rattle.strm_memory.proofs.FieldLemmas.{is_some-both, from_on, with_front, with_front-more}
+
+-- an item at the front, and those behind it
+pub items-cons : (t : ItemType) (bytes : List ℕ) (n w : ℕ) (o : Option (List ℤ)) → item_size t ≡ w → decode t bytes ≡ o → items t bytes (suc n) ≡ option_and_then (λ x. option_map (λ xs. x ∷ xs) (items t (drop w bytes) n)) o
+unfolding items
+items-cons t bytes n w o e d = rw (← e, ← d) refl
+
+pub stored-cons : (t : ItemType) (bytes : List ℕ) (x : List ℤ) (xs : List (List ℤ)) (w : ℕ) (item : List ℕ) → item_size t ≡ w → encode t bytes x ≡ item → stored t bytes (x ∷ xs) ≡ take w item ++ stored t (drop w item) xs
+unfolding stored
+stored-cons t bytes x xs w item e f = rw (← e, ← f) refl
 
 pub item_fits : (k n size : ℕ) → k < n → size * k + size ≤ size * n
 item_fits k n size h = grind arith
@@ -24,15 +33,15 @@ sweep_more m at size e F h =
     rw (t, u) (append_assoc (take at m) (take size e) (F (drop size e)))
 
 -- these items, and then so many that lie from an address on
-abbrev with_items : List (List ℤ) → List Scalar → List ℕ → ℕ → ℕ → Option (List (List ℤ))
-with_items front ss source at n = with_front front (items ss (drop at source) n)
+abbrev with_items : List (List ℤ) → ItemType → List ℕ → ℕ → ℕ → Option (List (List ℤ))
+with_items front t source at n = with_front front (items t (drop at source) n)
 
 -- one item lifted
-pub items_step : (ss : List Scalar) (source : List ℕ) (at k n size : ℕ) (front : List (List ℤ)) (x : List ℤ) → k < n → size ≡ item_size ss → Some x ≡ decode ss (drop at source) → with_items (front ++ x ∷ []) ss source (at + size) (n - (k + 1)) ≡ with_items front ss source at (n - k)
+pub items_step : (t : ItemType) (source : List ℕ) (at k n size : ℕ) (front : List (List ℤ)) (x : List ℤ) → k < n → size ≡ item_size t → Some x ≡ decode t (drop at source) → with_items (front ++ x ∷ []) t source (at + size) (n - (k + 1)) ≡ with_items front t source at (n - k)
 unfolding items
-items_step ss source at k n size front x h e d =
+items_step t source at k n size front x h e d =
     let s : n - k ≡ suc (n - (k + 1)) = omega arith in
-    rw (s, ← d, e, ← drop-drop (item_size ss) at source) (with_front-more front x _)
+    rw (s, ← d, e, ← drop-drop (item_size t) at source) (with_front-more front x _)
 
 cond_same : (b : Bool) → cond b true false ≡ b
 cond_same true = refl
@@ -43,28 +52,28 @@ cond_nested true b c = refl
 cond_nested false b c = refl
 
 -- the last of the items is read behind the ones before it
-items_last : (ss : List Scalar) (source : List ℕ) (k : ℕ) → is_some (items ss source (suc k)) ≡ cond (is_some (items ss source k)) (is_some (decode ss (drop (item_size ss * k) source))) false
+items_last : (t : ItemType) (source : List ℕ) (k : ℕ) → is_some (items t source (suc k)) ≡ cond (is_some (items t source k)) (is_some (decode t (drop (item_size t * k) source))) false
 unfolding items
-items_last ss source zero =
-    let z : item_size ss * zero ≡ 0 = omega arith in
-    rw (is_some-both (decode ss source) (Some []) (λ x xs. x ∷ xs), z) (cond_same (is_some (decode ss source)))
-items_last ss source (suc k) =
-    let e : item_size ss + item_size ss * k ≡ item_size ss * suc k = omega arith in
-    let rest : is_some (items ss (drop (item_size ss) source) (suc k)) ≡ cond (is_some (items ss (drop (item_size ss) source) k)) (is_some (decode ss (drop (item_size ss * suc k) source))) false =
-    items_last ss (drop (item_size ss) source) k ∙ rw (drop-drop, e) refl in
-    is_some-both (decode ss source) (items ss (drop (item_size ss) source) (suc k)) (λ x xs. x ∷ xs)
-    ∙ ap (λ b. cond (is_some (decode ss source)) b false) rest
-    ∙ cond_nested (is_some (decode ss source)) _ _
-    ∙ ap (λ b. cond b (is_some (decode ss (drop (item_size ss * suc k) source))) false) (sym (is_some-both (decode ss source) (items ss (drop (item_size ss) source) k) (λ x xs. x ∷ xs)))
+items_last t source zero =
+    let z : item_size t * zero ≡ 0 = omega arith in
+    rw (is_some-both (decode t source) (Some []) (λ x xs. x ∷ xs), z) (cond_same (is_some (decode t source)))
+items_last t source (suc k) =
+    let e : item_size t + item_size t * k ≡ item_size t * suc k = omega arith in
+    let rest : is_some (items t (drop (item_size t) source) (suc k)) ≡ cond (is_some (items t (drop (item_size t) source) k)) (is_some (decode t (drop (item_size t * suc k) source))) false =
+    items_last t (drop (item_size t) source) k ∙ rw (drop-drop, e) refl in
+    is_some-both (decode t source) (items t (drop (item_size t) source) (suc k)) (λ x xs. x ∷ xs)
+    ∙ ap (λ b. cond (is_some (decode t source)) b false) rest
+    ∙ cond_nested (is_some (decode t source)) _ _
+    ∙ ap (λ b. cond b (is_some (decode t (drop (item_size t * suc k) source))) false) (sym (is_some-both (decode t source) (items t (drop (item_size t) source) k) (λ x xs. x ∷ xs)))
 
 -- one item more that is one
-pub some_more : (ss : List Scalar) (source : List ℕ) (from at k size : ℕ) (x : List ℤ) → size ≡ item_size ss → at ≡ from + size * k → is_some (items ss (drop from source) k) ≡ true → Some x ≡ decode ss (drop at source) → is_some (items ss (drop from source) (k + 1)) ≡ true
-some_more ss source from at k size x e p good d =
-    rw (add-one, items_last ss (drop from source) k, good, drop-drop (item_size ss * k) from source, ← e, ← p, ← d) refl
+pub some_more : (t : ItemType) (source : List ℕ) (from at k size : ℕ) (x : List ℤ) → size ≡ item_size t → at ≡ from + size * k → is_some (items t (drop from source) k) ≡ true → Some x ≡ decode t (drop at source) → is_some (items t (drop from source) (k + 1)) ≡ true
+some_more t source from at k size x e p good d =
+    rw (add-one, items_last t (drop from source) k, good, drop-drop (item_size t * k) from source, ← e, ← p, ← d) refl
 
-pub all_lifted : (ss : List Scalar) (source : List ℕ) (n : ℕ) (old new : List (List ℤ)) (o : Option (List (List ℤ))) → with_front new (items ss source (n - n)) ≡ with_front old o → IsSomeAnd o (λ xs. new ≡ old ++ xs)
+pub all_lifted : (t : ItemType) (source : List ℕ) (n : ℕ) (old new : List (List ℤ)) (o : Option (List (List ℤ))) → with_front new (items t source (n - n)) ≡ with_front old o → IsSomeAnd o (λ xs. new ≡ old ++ xs)
 unfolding items
-all_lifted ss source n old new o h =
+all_lifted t source n old new o h =
     let z : n - n ≡ 0 = omega arith in
     both o (sym (ap Some (append-nil new)) ∙ rw z at h)
   where
@@ -73,37 +82,37 @@ all_lifted ss source n old new o h =
     both (Some xs) e = cc
 
 -- what becomes of bytes where these items are stored from their front on
-abbrev stores : List Scalar → List (List ℤ) → List ℕ → List ℕ
-stores ss xs bytes = stored ss bytes xs
+abbrev stores : ItemType → List (List ℤ) → List ℕ → List ℕ
+stores t xs bytes = stored t bytes xs
 
 -- one item lowered
-pub stored_step : (ss : List Scalar) (m : List ℕ) (at k size : ℕ) (xs : List (List ℤ)) (x : List ℤ) → k < length xs → x ≡ get_or xs k x → size ≡ item_size ss → at ≤ length m → from_on (stores ss (drop (k + 1) xs)) (at + size) (from_on (λ b. encode ss b x) at m) ≡ from_on (stores ss (drop k xs)) at m
+pub stored_step : (t : ItemType) (m : List ℕ) (at k size : ℕ) (xs : List (List ℤ)) (x : List ℤ) → k < length xs → x ≡ get_or xs k x → size ≡ item_size t → at ≤ length m → from_on (stores t (drop (k + 1) xs)) (at + size) (from_on (λ b. encode t b x) at m) ≡ from_on (stores t (drop k xs)) at m
 unfolding stored
-stored_step ss m at k size xs x h e s less =
+stored_step t m at k size xs x h e s less =
     let here : drop k xs ≡ x ∷ drop (k + 1) xs = drop_more xs k x h ∙ ap (λ y. y ∷ drop (k + 1) xs) (sym e) in
-    rw (here, ← s) (sweep_more m at size (encode ss (drop at m) x) (λ b. stored ss b (drop (k + 1) xs)) less)
+    rw (here, ← s) (sweep_more m at size (encode t (drop at m) x) (λ b. stored t b (drop (k + 1) xs)) less)
 
-module _ (ss : List Scalar) (size : ℕ) (xs : List (List ℤ)) where
+module _ (t : ItemType) (size : ℕ) (xs : List (List ℤ)) where
   -- what becomes of bytes where the items from one on are stored in their places
   abbrev pub stores_from : ℕ → List ℕ → List ℕ
-  stores_from k bytes = take (size * k) bytes ++ stored ss (drop (size * k) bytes) (drop k xs)
+  stores_from k bytes = take (size * k) bytes ++ stored t (drop (size * k) bytes) (drop k xs)
 
   -- one of them is stored, and then the others behind it
-  pub stored_next : (m new : List ℕ) (k : ℕ) (x : List ℤ) → k < length xs → x ≡ get_or xs k x → size ≡ item_size ss → size * length xs ≤ length m → new ≡ stored_at ss m (size * k) (x ∷ []) → stores_from (k + 1) new ≡ stores_from k m
+  pub stored_next : (m new : List ℕ) (k : ℕ) (x : List ℤ) → k < length xs → x ≡ get_or xs k x → size ≡ item_size t → size * length xs ≤ length m → new ≡ stored_at t m (size * k) (x ∷ []) → stores_from (k + 1) new ≡ stores_from k m
   unfolding stored
   stored_next m new k x h e s room n =
       let at = size * k in
       let more : size * (k + 1) ≡ at + size = grind arith in
       let less : at ≤ length m = omega (arith, item_fits k (length xs) size h, room) in
-      let is : new ≡ from_on (λ b. encode ss b x) at m = n ∙ ap (λ l. take at m ++ l) (take-append-drop (item_size ss) (encode ss (drop at m) x)) in
-      ap (λ j. from_on (stores ss (drop (k + 1) xs)) j new) more ∙ ap (from_on (stores ss (drop (k + 1) xs)) (at + size)) is ∙ stored_step ss m at k size xs x h e s less
+      let is : new ≡ from_on (λ b. encode t b x) at m = n ∙ ap (λ l. take at m ++ l) (take-append-drop (item_size t) (encode t (drop at m) x)) in
+      ap (λ j. from_on (stores t (drop (k + 1) xs)) j new) more ∙ ap (from_on (stores t (drop (k + 1) xs)) (at + size)) is ∙ stored_step t m at k size xs x h e s less
 
-pub stored_end : (ss : List Scalar) (m : List ℕ) (at k : ℕ) (xs : List (List ℤ)) → length xs ≤ k → take at m ++ stored ss (drop at m) (drop k xs) ≡ m
+pub stored_end : (t : ItemType) (m : List ℕ) (at k : ℕ) (xs : List (List ℤ)) → length xs ≤ k → take at m ++ stored t (drop at m) (drop k xs) ≡ m
 unfolding stored
-stored_end ss m at k xs h = rw (drop_all k xs h) (take-append-drop at m)
+stored_end t m at k xs h = rw (drop_all k xs h) (take-append-drop at m)
 
-pub AreItems_step : (ss : List Scalar) (k : ℕ) (xs : List (List ℤ)) (x : List ℤ) → k < length xs → x ≡ get_or xs k x → AreItems ss (drop k xs) → FitsItem ss x × AreItems ss (drop (k + 1) xs)
-AreItems_step ss k xs x h e f =
+pub AreItems_step : (t : ItemType) (k : ℕ) (xs : List (List ℤ)) (x : List ℤ) → k < length xs → x ≡ get_or xs k x → AreItems t (drop k xs) → FitsItem t x × AreItems t (drop (k + 1) xs)
+AreItems_step t k xs x h e f =
     let here : drop k xs ≡ x ∷ drop (k + 1) xs = drop_more xs k x h ∙ ap (λ y. y ∷ drop (k + 1) xs) (sym e) in
     rw here at f
 
@@ -118,18 +127,18 @@ map_nil None = refl
 map_nil (Some xs) = refl
 
 -- n + m items are n items and then m
-pub items-add : (ss : List Scalar) (bytes : List ℕ) (n m : ℕ) → items ss bytes (n + m) ≡ option_and_then (λ xs. option_map (λ ys. xs ++ ys) (items ss (drop (item_size ss * n) bytes) m)) (items ss bytes n)
+pub items-add : (t : ItemType) (bytes : List ℕ) (n m : ℕ) → items t bytes (n + m) ≡ option_and_then (λ xs. option_map (λ ys. xs ++ ys) (items t (drop (item_size t * n) bytes) m)) (items t bytes n)
 unfolding items
-items-add ss bytes zero m =
+items-add t bytes zero m =
     let e : zero + m ≡ m = omega arith in
-    let z : item_size ss * zero ≡ 0 = omega arith in
-    rw (e, z) (map_nil (items ss bytes m))
-items-add ss bytes (suc n) m =
-    let w = item_size ss in
+    let z : item_size t * zero ≡ 0 = omega arith in
+    rw (e, z) (map_nil (items t bytes m))
+items-add t bytes (suc n) m =
+    let w = item_size t in
     let e : suc n + m ≡ suc (n + m) = omega arith in
     let f : w * suc n ≡ w + w * n = omega arith in
-    rw (e, f, items-add ss (drop w bytes) n m, drop-drop (w * n) w bytes)
-    (regroup (decode ss bytes) (items ss (drop w bytes) n) (items ss (drop (w + w * n) bytes) m))
+    rw (e, f, items-add t (drop w bytes) n m, drop-drop (w * n) w bytes)
+    (regroup (decode t bytes) (items t (drop w bytes) n) (items t (drop (w + w * n) bytes) m))
 
 pub both-is_some : {A : Type 0} (o p : Option (List A)) → is_some (option_and_then (λ xs. option_map (λ ys. xs ++ ys) p) o) ≡ is_some o && is_some p
 both-is_some None p = refl
@@ -137,14 +146,14 @@ both-is_some (Some xs) None = refl
 both-is_some (Some xs) (Some ys) = refl
 
 -- n + m items are items where the n are and the m are
-pub good_add : (ss : List Scalar) (source : List ℕ) (from n m : ℕ) → is_some (items ss (drop from source) (n + m)) ≡ is_some (items ss (drop from source) n) && is_some (items ss (drop (from + item_size ss * n) source) m)
-good_add ss source from n m =
-    rw (items-add ss (drop from source) n m, drop-drop (item_size ss * n) from source)
-    (both-is_some (items ss (drop from source) n) (items ss (drop (from + item_size ss * n) source) m))
+pub good_add : (t : ItemType) (source : List ℕ) (from n m : ℕ) → is_some (items t (drop from source) (n + m)) ≡ is_some (items t (drop from source) n) && is_some (items t (drop (from + item_size t * n) source) m)
+good_add t source from n m =
+    rw (items-add t (drop from source) n m, drop-drop (item_size t * n) from source)
+    (both-is_some (items t (drop from source) n) (items t (drop (from + item_size t * n) source) m))
 
 pub block_fits : (size done block n : ℕ) → done + block ≤ n → size * done + size * block ≤ size * n
 block_fits size done block n h = omega (arith, mul-le-mul_left size h)
 
-pub no_items : (ss : List Scalar) (source : List ℕ) → is_some (items ss source 0) ≡ true
+pub no_items : (t : ItemType) (source : List ℕ) → is_some (items t source 0) ≡ true
 unfolding items
-no_items ss source = refl
+no_items t source = refl

@@ -7,7 +7,17 @@ pub mod CopyLemmas
 pub mod ColumnLemmas
 pub mod RegionLemmas
 pub mod AppendLemmas
+pub mod NoByteLemmas
+pub mod KeptBytes
 pub mod GoodLemmas
 pub mod RangeLemmas
 pub mod JoinLemmas
 pub mod BaseLemmas
+pub mod LoadLemmas
+pub mod FlatLemmas
+pub mod WalkLemmas
+pub mod StepLemmas
+pub mod LowerLemmas
+pub mod MoveLemmas
+pub mod AlikeLemmas
+pub mod CompoundLemmas

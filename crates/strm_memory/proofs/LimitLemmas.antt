@@ -8,12 +8,13 @@ use lib.Lanes.{zip2, sel_l, chunk, put_chunk, top}
 use Rattle.std.proofs.lemmas.Simd.{tops_compared}
 use Rattle.std.specs.Int.{w8}
 use Rattle.strm_codes.specs.Scalars.{size_of}
-use Rattle.strm_codes.specs.Layout.{gap_before, end_offset, item_size}
+use Rattle.strm_codes.specs.Offsets.{gap_before}
+use Rattle.strm_codes.specs.Fields.{end_offset, fields_size}
 use Rattle.strm_codes.proofs.LayoutLemmas.{le-end_offset}
 use Rattle.std.proofs.Math.Nat.{mul-le-mul_left}
 use Rattle.strm_memory.proofs.FieldLemmas.{IsField, drop_field, length-settled}
 use Rattle.strm_codes.specs.declared.scalars.Scalar.{Scalar}
-use Rattle.strm_codes.specs.declared.scalars.Scalar.TheVariants.{Bool as Flag, S8, U8, S16, U16, S32, U32, S64, U64, Char}
+use Rattle.strm_codes.specs.declared.scalars.Scalar.TheVariants.{Bool as Flag, S8, U8, S16, U16, S32, U32, S64, U64, Char, F32, F64}
 use Rattle.strm_memory.specs.Bytes.{put_at, bytes_at, IsBytes}
 use Rattle.strm_memory.specs.Copies.{bytes_settled, copied_from, copied, limited, blended, blended_on, limit_of, limit_bytes, limits_from, item_limits, repeated}
 use Rattle.strm_memory.proofs.ByteLemmas.{IsBytes-drop, put_chunk-put_at, length-put_at}
@@ -218,6 +219,8 @@ length-limit_bytes U32 = refl
 length-limit_bytes S64 = refl
 length-limit_bytes U64 = refl
 length-limit_bytes Char = refl
+length-limit_bytes F32 = refl
+length-limit_bytes F64 = refl
 
 pub limit_put : (m new : List ℕ) (start : ℕ) (s : Scalar) → start + 8 ≤ length m → new ≡ limit_bytes s → put_chunk start m new ≡ put_at m start (limit_bytes s)
 limit_put m new start s h e = rw e (put_chunk-put_at m start (limit_bytes s) (omega (arith, h, length-limit_bytes s)))
@@ -236,6 +239,8 @@ size_of_most U32 = lit≤ tt
 size_of_most S64 = lit≤ tt
 size_of_most U64 = lit≤ tt
 size_of_most Char = lit≤ tt
+size_of_most F32 = lit≤ tt
+size_of_most F64 = lit≤ tt
 
 -- one field's limits written where all behind the fields before it are 0
 module _ (m : List ℕ) (room at gap : ℕ) (s : Scalar) (long : length m ≡ room) (fits : at + gap + 8 ≤ room) (zeros : drop at m ≡ replicate (room - at) 0) where
@@ -363,6 +368,8 @@ field_blended U32 source bytes h l k = all_copied 4 source bytes h l k
 field_blended S64 source bytes h l k = all_copied 8 source bytes h l k
 field_blended U64 source bytes h l k = all_copied 8 source bytes h l k
 field_blended Char source bytes h l k = all_copied 4 source bytes h l k
+field_blended F32 source bytes h l k = all_copied 4 source bytes h l k
+field_blended F64 source bytes h l k = all_copied 8 source bytes h l k
 
 -- a gap and a field, and then the rest
 fields_blended : (at : ℕ) (ss : List Scalar) (source bytes : List ℕ) → IsBytes source → end_offset at ss ≤ at + length source → end_offset at ss ≤ at + length bytes → blended (limits_from at ss) source bytes ≡ copied_from at ss source bytes
@@ -402,25 +409,25 @@ length-limits_from at (s ∷ ss) =
     let rest = limits_from (at + gap + size_of s) ss in
     omega (arith, length-append (padding ++ own) rest, length-append padding own, length-replicate {A = ℕ} gap 0, length-replicate {A = ℕ} (size_of s) (limit_of s), length-limits_from (at + gap + size_of s) ss)
 
-pub length-item_limits : (ss : List Scalar) → length (item_limits ss) ≡ item_size ss
+pub length-item_limits : (ss : List Scalar) → length (item_limits ss) ≡ fields_size ss
 length-item_limits ss =
-    let behind : List ℕ = replicate (item_size ss - end_offset 0 ss) 0 in
-    omega (arith, length-append (limits_from 0 ss) behind, length-limits_from 0 ss, length-replicate {A = ℕ} (item_size ss - end_offset 0 ss) 0)
+    let behind : List ℕ = replicate (fields_size ss - end_offset 0 ss) 0 in
+    omega (arith, length-append (limits_from 0 ss) behind, length-limits_from 0 ss, length-replicate {A = ℕ} (fields_size ss - end_offset 0 ss) 0)
 
-item_blended : (ss : List Scalar) (source bytes : List ℕ) → IsBytes source → item_size ss ≤ length source → item_size ss ≤ length bytes → blended (item_limits ss) source bytes ≡ copied_from 0 ss source bytes
+item_blended : (ss : List Scalar) (source bytes : List ℕ) → IsBytes source → fields_size ss ≤ length source → fields_size ss ≤ length bytes → blended (item_limits ss) source bytes ≡ copied_from 0 ss source bytes
 item_blended ss source bytes h l k =
     let front = limits_from 0 ss in
-    let behind : List ℕ = replicate (item_size ss - end_offset 0 ss) 0 in
+    let behind : List ℕ = replicate (fields_size ss - end_offset 0 ss) 0 in
     let lf : length front ≡ end_offset 0 ss = omega (arith, length-limits_from 0 ss) in
     blended-append front behind source bytes (omega (arith, lf)) (omega (arith, lf))
-    ∙ rw (all_stays (item_size ss - end_offset 0 ss) (drop (length front) source) (drop (length front) bytes), ← drop-blended front source bytes) (take-append-drop (length front) (blended front source bytes))
+    ∙ rw (all_stays (fields_size ss - end_offset 0 ss) (drop (length front) source) (drop (length front) bytes), ← drop-blended front source bytes) (take-append-drop (length front) (blended front source bytes))
     ∙ fields_blended 0 ss source bytes h (omega arith) (omega arith)
 
-pub items_blended : (ss : List Scalar) (n : ℕ) (source bytes : List ℕ) → IsBytes source → item_size ss * n ≤ length source → item_size ss * n ≤ length bytes → blended (repeated n (item_limits ss)) source bytes ≡ copied ss source bytes n
+pub items_blended : (ss : List Scalar) (n : ℕ) (source bytes : List ℕ) → IsBytes source → fields_size ss * n ≤ length source → fields_size ss * n ≤ length bytes → blended (repeated n (item_limits ss)) source bytes ≡ copied ss source bytes n
 unfolding repeated copied blended
 items_blended ss zero source bytes h l k = refl
 items_blended ss (suc n) source bytes h l k =
-    let w = item_size ss in
+    let w = fields_size ss in
     let one = item_limits ss in
     let item = copied_from 0 ss source bytes in
     let a : w + w * n ≤ length source = omega (arith, l) in
@@ -432,10 +439,10 @@ items_blended ss (suc n) source bytes h l k =
     ∙ rw (lw, same, behind, items_blended ss n (drop w source) (drop w bytes) (IsBytes-drop source w h) (omega (arith, a, length-drop w source)) (omega (arith, b, length-drop w bytes))) refl
 
 -- the first of the limits, where those of one item were written
-pub item_written : (ss : List Scalar) (m : List ℕ) (size room : ℕ) → size ≡ item_size ss → size ≤ room → m ≡ limits_from 0 ss ++ replicate (room - end_offset 0 ss) 0 → take size m ≡ item_limits ss
+pub item_written : (ss : List Scalar) (m : List ℕ) (size room : ℕ) → size ≡ fields_size ss → size ≤ room → m ≡ limits_from 0 ss ++ replicate (room - end_offset 0 ss) 0 → take size m ≡ item_limits ss
 item_written ss m size room e h f =
     let front = limits_from 0 ss in
     let behind : List ℕ = replicate (room - end_offset 0 ss) 0 in
     let lf : length front ≡ end_offset 0 ss = omega (arith, length-limits_from 0 ss) in
-    let split : size ≡ length front + (item_size ss - end_offset 0 ss) = omega (arith, lf, e) in
-    rw (f, split) (take-append-add front behind (item_size ss - end_offset 0 ss) ∙ ap (λ t. front ++ t) (take-replicate (item_size ss - end_offset 0 ss) (room - end_offset 0 ss) 0 (omega (arith, e))))
+    let split : size ≡ length front + (fields_size ss - end_offset 0 ss) = omega (arith, lf, e) in
+    rw (f, split) (take-append-add front behind (fields_size ss - end_offset 0 ss) ∙ ap (λ t. front ++ t) (take-replicate (fields_size ss - end_offset 0 ss) (room - end_offset 0 ss) 0 (omega (arith, e))))

@@ -5,7 +5,7 @@ use Rattle.std.proofs.lemmas.Bool.{lt-ltb, le-ltb, cases_lt}
 use Rattle.std.proofs.lemmas.Option.{cond_some}
 use Rattle.strm_codes.specs.Scalars.{size_of, is_scalar_value, FitsScalar, IsBelow, IsSignedBelow}
 use Rattle.strm_codes.specs.declared.scalars.Scalar.{Scalar}
-use Rattle.strm_codes.specs.declared.scalars.Scalar.TheVariants.{Bool as Flag, S8, U8, S16, U16, S32, U32, S64, U64, Char}
+use Rattle.strm_codes.specs.declared.scalars.Scalar.TheVariants.{Bool as Flag, S8, U8, S16, U16, S32, U32, S64, U64, Char, F32, F64}
 use Rattle.strm_memory.specs.Bytes.{le, to_le, IsBytes}
 use Rattle.strm_memory.specs.Numbers.{signed_of, unsigned_of, lifted, lowered}
 use Rattle.strm_memory.specs.Copies.{bytes_settled}
@@ -51,6 +51,8 @@ IsLifted-fits Char x h =
     let n = below (2 ^ 32) x h.0 in
     let t : is_scalar_value n.0 ≡ true = rw n.1 at h.1 in
     rw n.1 (record { small = n.2; again = rw t refl })
+IsLifted-fits F32 x h = unsigned F32 x (λ n l. refl) h
+IsLifted-fits F64 x h = unsigned F64 x (λ n l. refl) h
 
 signed_back : (half n : ℕ) → n < 2 * half → unsigned_of (2 * half) (signed_of half n) ≡ n
 signed_back half n h = ⊎_elim (λ a. rw (lt-ltb n half a) refl) (λ b. rw (le-ltb n half b) (omega arith)) (cases_lt n half)
@@ -86,6 +88,8 @@ lowered-lifted s bytes x h l small e = settle s bytes x h l small e
     settle U64 bytes x h l small e = whole U64 bytes x h l (back U64 (le bytes) x (pos (le bytes)) (cc) refl)
     settle Char bytes x h l small e =
         whole Char bytes x h l (back Char (le bytes) x (pos (le bytes)) (cond_some (is_scalar_value (le bytes)) (pos (le bytes)) x e).1 refl)
+    settle F32 bytes x h l small e = whole F32 bytes x h l (back F32 (le bytes) x (pos (le bytes)) (cc) refl)
+    settle F64 bytes x h l small e = whole F64 bytes x h l (back F64 (le bytes) x (pos (le bytes)) (cc) refl)
 
 -- what lift gives fits
 lifted_signed : (half n : ℕ) (x : ℤ) → n < 2 * half → signed_of half n ≡ x → IsSignedBelow half x
@@ -109,3 +113,5 @@ FitsScalar-lifted U64 n x h e = lifted_below (2 ^ 64) n x h cc
 FitsScalar-lifted Char n x h e =
     let c = cond_some (is_scalar_value n) (pos n) x e in
     subst (FitsScalar Char) c.1 ((omega (arith, ints), omega (arith, ints)), c.0)
+FitsScalar-lifted F32 n x h e = lifted_below (2 ^ 32) n x h cc
+FitsScalar-lifted F64 n x h e = lifted_below (2 ^ 64) n x h cc

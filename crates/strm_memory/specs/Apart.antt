@@ -28,6 +28,10 @@ one_apart f p x y h = p x y (ap first_of h)
 pub more_apart : {A B : Type 0} (f : A → ℤ) (g : B → List ℤ) → TellsApart f → ListsApart g → ListsApart (λ (x : A × B). f x.0 ∷ g x.1)
 more_apart f g p q (a, b) (c, d) h = ap (λ x. (x, b)) (p a c (ap first_of h)) ∙ ap (λ y. (c, y)) (q b d (ap rest_of h))
 
+-- the same values of one number, seen as another type's
+pub held_apart : {A B : Type 0} (f : B → ℤ) (to : A → B) (back : B → A) → ((x : A) → back (to x) ≡ x) → TellsApart f → TellsApart (λ x. f (to x))
+held_apart f to back same p x y h = sym (same x) ∙ ap back (p (to x) (to y) h) ∙ same y
+
 -- the same values, seen as another type's
 pub seen_apart : {A B : Type 0} {f : B → List ℤ} (to : A → B) (back : B → A) → ((x : A) → back (to x) ≡ x) → ListsApart f → ListsApart (λ x. f (to x))
 seen_apart to back same p x y h = sym (same x) ∙ ap back (p (to x) (to y) h) ∙ same y

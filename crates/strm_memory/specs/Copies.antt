@@ -3,7 +3,8 @@
 -- (`LimitLemmas.antt`). That all items are good is seen field by field (`ColumnLemmas.antt`).
 use Rattle.std.specs.Prelude.{ℕ, zero, suc, ◌+◌, ◌-◌, min, nat_eq, if◌then◌else◌, List, [], ◌∷◌, ◌++◌, take, drop, replicate, slice_index, Bool, true, ◌&&◌, is_some}
 use Rattle.strm_codes.specs.Scalars.{size_of}
-use Rattle.strm_codes.specs.Layout.{gap_before, end_offset, item_size}
+use Rattle.strm_codes.specs.Offsets.{gap_before}
+use Rattle.strm_codes.specs.Fields.{end_offset, fields_size}
 use Rattle.strm_codes.specs.declared.scalars.Scalar.{Scalar}
 use Rattle.strm_codes.specs.declared.scalars.Scalar.TheVariants.{Bool as Flag}
 use Rattle.strm_memory.specs.Bytes.{le, bytes_at}
@@ -29,7 +30,7 @@ unfoldable pub copied : List Scalar → List ℕ → List ℕ → ℕ → List �
 copied ss source bytes zero = bytes
 copied ss source bytes (suc n) =
     let item = copied_from 0 ss source bytes in
-    take (item_size ss) item ++ copied ss (drop (item_size ss) source) (drop (item_size ss) item) n
+    take (fields_size ss) item ++ copied ss (drop (fields_size ss) source) (drop (fields_size ss) item) n
 
 -- what a byte becomes that another is copied to under a limit: under 0 it stays, else it becomes the
 -- other, or the limit where that is less
@@ -65,7 +66,7 @@ limits_from at (s ∷ ss) =
 
 -- the limits of an item
 abbrev pub item_limits : List Scalar → List ℕ
-item_limits ss = limits_from 0 ss ++ replicate (item_size ss - end_offset 0 ss) 0
+item_limits ss = limits_from 0 ss ++ replicate (fields_size ss - end_offset 0 ss) 0
 
 -- a list so many times
 unfoldable pub repeated : ℕ → List ℕ → List ℕ

@@ -1,5 +1,6 @@
 pub mod Bytes
 pub mod Numbers
+pub mod FieldItems
 pub mod Items
 pub mod Copies
 pub mod Copying
@@ -7,3 +8,5 @@ pub mod Region
 pub mod Linear
 pub mod Lending
 pub mod Apart
+pub mod Loads
+pub mod Walks

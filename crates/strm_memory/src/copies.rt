@@ -5,11 +5,13 @@
 //! and that a bad item is found before any item moves, are ours.
 
 ghost use Rattle.std.specs.Prelude.{◌≡◌, ◌+◌, ◌*◌, ◌≤◌, ◌↔◌, length, IsTrue, IsNone, IsSomeAnd, IsOk, IsErr, OnOk, OnErr};
-ghost use Rattle.strm_codes.specs.Layout.{scalars_of, item_size};
+ghost use Rattle.strm_codes.specs.ItemTypes.{fields_type, item_size};
+ghost use Rattle.strm_codes.specs.Layout.{item_type};
 ghost use Rattle.strm_memory.specs.Bytes.{put_at, bytes_at};
 ghost use Rattle.strm_memory.specs.Items.{items, stored, items_at, stored_at, is_number_or_none};
 ghost use Rattle.strm_memory.specs.Copying.{CopiesItems};
 
+use crate::compounds::copy_compounds;
 use crate::good_items::are_good_items;
 use crate::limits::copy_good_items;
 use crate::moves::copy_bytes;
@@ -18,9 +20,9 @@ use strm_codes::payloads::Payload;
 use strm_codes::scalars::Scalar;
 use thiserror::Error;
 
-/// An item holds a character that is no Unicode scalar value.
+/// An item holds a character that is no Unicode scalar value, or the number of a case that there is not.
 #[derive(Clone, Copy, Debug, PartialEq, Eq, Error)]
-#[error("an item is no Unicode scalar value")]
+#[error("an item is none of its type")]
 pub struct BadItem;
 
 /// Copies so many items from the front of one slice to the front of another, as by lifting all of
@@ -31,11 +33,11 @@ pub fn copy_items(
     payload: Payload,
     count: ItemCount,
 ) -> Result<(), BadItem>
-    requires source_holds { item_size (scalars_of payload) * count ≤ length source.now }
-    requires destination_holds { item_size (scalars_of payload) * count ≤ length destination.old }
-    ensures ok { OnOk result (IsSomeAnd (items (scalars_of payload) source.now count)
-        (λ xs. destination.new ≡ stored (scalars_of payload) destination.old xs)) }
-    ensures bad { IsErr result ↔ IsNone (items (scalars_of payload) source.now count) }
+    requires source_holds { item_size (item_type payload) * count ≤ length source.now }
+    requires destination_holds { item_size (item_type payload) * count ≤ length destination.old }
+    ensures ok { OnOk result (IsSomeAnd (items (item_type payload) source.now count)
+        (λ xs. destination.new ≡ stored (item_type payload) destination.old xs)) }
+    ensures bad { IsErr result ↔ IsNone (items (item_type payload) source.now count) }
     ensures err { OnErr result (destination.new ≡ destination.old) }
     ensures number_or_none { IsTrue (is_number_or_none payload) → IsOk result }
 {
@@ -52,20 +54,20 @@ pub fn copy_region(
     payload: Payload,
     count: usize,
 ) -> Result<(), BadItem>
-    requires source_holds { from + item_size (scalars_of payload) * count ≤ length source.now }
-    requires room { to + item_size (scalars_of payload) * count ≤ length destination.old }
-    ensures ok { OnOk result (IsSomeAnd (items_at (scalars_of payload) source.now from count)
-        (λ xs. destination.new ≡ stored_at (scalars_of payload) destination.old to xs)) }
-    ensures bad { IsErr result ↔ IsNone (items_at (scalars_of payload) source.now from count) }
+    requires source_holds { from + item_size (item_type payload) * count ≤ length source.now }
+    requires room { to + item_size (item_type payload) * count ≤ length destination.old }
+    ensures ok { OnOk result (IsSomeAnd (items_at (item_type payload) source.now from count)
+        (λ xs. destination.new ≡ stored_at (item_type payload) destination.old to xs)) }
+    ensures bad { IsErr result ↔ IsNone (items_at (item_type payload) source.now from count) }
     ensures err { OnErr result (destination.new ≡ destination.old) }
     ensures number_or_none { IsTrue (is_number_or_none payload) → IsOk result }
     ensures numbers { IsTrue (is_number_or_none payload) → destination.new
         ≡ put_at destination.old to
-        (bytes_at source.now from (item_size (scalars_of payload) * count)) }
+        (bytes_at source.now from (item_size (item_type payload) * count)) }
 {
     match payload {
         Payload::Nothing => Ok(()),
-        Payload::One(scalar) if scalar.is_whole_number() => {
+        Payload::One(scalar) if scalar.is_numeric() => {
             let len = payload.size() as usize * count;
             copy_bytes(source, from, destination, to, len);
             Ok(())
@@ -84,20 +86,34 @@ fn copy_tested(
     payload: Payload,
     count: usize,
 ) -> Result<(), BadItem>
-    requires source_holds { from + item_size (scalars_of payload) * count ≤ length source.now }
-    requires room { to + item_size (scalars_of payload) * count ≤ length destination.old }
-    ensures { CopiesItems (scalars_of payload) source.now from destination.old destination.new to
+    requires source_holds { from + item_size (item_type payload) * count ≤ length source.now }
+    requires room { to + item_size (item_type payload) * count ≤ length destination.old }
+    ensures { CopiesItems (item_type payload) source.now from destination.old destination.new to
         count result }
 {
-    copy_fields(
-        source,
-        from,
-        destination,
-        to,
-        payload.scalars(),
-        payload.size() as usize,
-        count,
-    )
+    let size = payload.size() as usize;
+    match payload {
+        Payload::Compound(compound) => {
+            copy_compounds(
+                compound.as_slice(),
+                source,
+                from,
+                destination,
+                to,
+                size,
+                count,
+            )
+        }
+        _ => copy_fields(
+            source,
+            from,
+            destination,
+            to,
+            payload.scalars(),
+            size,
+            count,
+        ),
+    }
 }
 
 // The same where items have characters, flags or padding: all are tested first, then copied.
@@ -110,11 +126,12 @@ fn copy_fields(
     size: usize,
     count: usize,
 ) -> Result<(), BadItem>
-    requires size { size ≡ item_size fields.now }
-    requires most { size ≤ 64 }
+    requires few { length fields.now ≤ 8 }
+    requires size { size ≡ item_size (fields_type fields.now) }
     requires source_holds { from + size * count ≤ length source.now }
     requires destination_holds { to + size * count ≤ length destination.old }
-    ensures { CopiesItems fields.now source.now from destination.old destination.new to count result }
+    ensures { CopiesItems (fields_type fields.now) source.now from destination.old destination.new to
+        count result }
 {
     if !are_good_items(fields, source, from, size, count) {
         return Err(BadItem);

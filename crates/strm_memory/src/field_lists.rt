@@ -4,7 +4,7 @@
 //! Source: ours.
 
 ghost use Rattle.std.specs.Prelude.{◌≡◌, ◌≤◌, ◌↔◌, length, IsSome, IfSome};
-ghost use Rattle.strm_codes.specs.Items.{FitsItem};
+ghost use Rattle.strm_codes.specs.Fields.{FitsFields};
 ghost use Rattle.strm_codes.specs.declared.payloads.Payload.TheVariants.{Tuple};
 
 use crate::typed_fields::Field;
@@ -30,14 +30,14 @@ pub(crate) trait Fields: Copy {
 
     /// The fields of these numbers; none where one doesn't fit, or their count is another.
     fn read(of: &[i128]) -> Option<Self>
-        ensures some { IsSome result ↔ FitsItem scalars of.now }
+        ensures some { IsSome result ↔ FitsFields scalars of.now }
         ensures value { IfSome result (λ x. numbers x ≡ of.now) };
 
     /// Writes their numbers.
     fn write(self, out: &mut [i128])
         requires { length out.old ≡ length scalars }
         ensures exact { out.new ≡ numbers self }
-        ensures fits { FitsItem scalars out.new };
+        ensures fits { FitsFields scalars out.new };
 
     // No two values have the same numbers.
     ghost apart: { (x y : Self) → numbers x ≡ numbers y → x ≡ y };
@@ -104,7 +104,7 @@ impl<A: Field, R: Fields> Fields for (A, R) {
 pub(crate) fn value_of<F: Fields>(fields: F) -> Value
     requires { length F.scalars ≤ 8 }
     ensures exact { result ≡ F.numbers fields }
-    ensures fits { FitsItem F.scalars result }
+    ensures fits { FitsFields F.scalars result }
 {
     let mut numbers = [0i128; 8];
     let len = F::count();

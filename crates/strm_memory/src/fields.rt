@@ -5,10 +5,11 @@
 ghost use Rattle.std.specs.Prelude.{◌≡◌, ◌+◌, ◌^◌, ◌<◌, ◌≤◌, length, drop, IfSome};
 ghost use Rattle.strm_codes.specs.Scalars.{size_of, FitsScalar};
 ghost use Rattle.strm_codes.specs.Items.{IsNumber};
-ghost use Rattle.strm_codes.specs.Layout.{gap_before, end_offset};
+ghost use Rattle.strm_codes.specs.Offsets.{gap_before};
+ghost use Rattle.strm_codes.specs.Fields.{end_offset};
 ghost use Rattle.strm_memory.specs.Bytes.{le, to_le, put_at, bytes_at};
 ghost use Rattle.strm_memory.specs.Numbers.{lifted, lowered};
-ghost use Rattle.strm_memory.specs.Items.{scalar_at};
+ghost use Rattle.strm_memory.specs.FieldItems.{scalar_at};
 
 use crate::numbers::{is_scalar_value, load_1, load_2, load_4, load_8, signed, store, unsigned};
 use strm_codes::scalars::Scalar;
@@ -46,9 +47,9 @@ pub(crate) fn lift_field(bytes: &[u8], at: usize, scalar: Scalar) -> Option<i128
         Scalar::S16 => Some(signed(0x8000, u64::from(load_2(bytes, at)))),
         Scalar::U16 => Some(i128::from(load_2(bytes, at))),
         Scalar::S32 => Some(signed(0x8000_0000, u64::from(load_4(bytes, at)))),
-        Scalar::U32 => Some(i128::from(load_4(bytes, at))),
+        Scalar::U32 | Scalar::F32 => Some(i128::from(load_4(bytes, at))),
         Scalar::S64 => Some(signed(0x8000_0000_0000_0000, load_8(bytes, at))),
-        Scalar::U64 => Some(i128::from(load_8(bytes, at))),
+        Scalar::U64 | Scalar::F64 => Some(i128::from(load_8(bytes, at))),
         Scalar::Char => {
             let number = load_4(bytes, at);
             is_scalar_value(number).then_some(i128::from(number))
@@ -67,9 +68,9 @@ pub(crate) fn lower_field(bytes: &mut [u8], at: usize, scalar: Scalar, number: i
         Scalar::S8 => store(bytes, at, 1, unsigned(0x80, number)),
         Scalar::U16 => store(bytes, at, 2, number as u64),
         Scalar::S16 => store(bytes, at, 2, unsigned(0x8000, number)),
-        Scalar::U32 | Scalar::Char => store(bytes, at, 4, number as u64),
+        Scalar::U32 | Scalar::Char | Scalar::F32 => store(bytes, at, 4, number as u64),
         Scalar::S32 => store(bytes, at, 4, unsigned(0x8000_0000, number)),
-        Scalar::U64 => store(bytes, at, 8, number as u64),
+        Scalar::U64 | Scalar::F64 => store(bytes, at, 8, number as u64),
         Scalar::S64 => store(bytes, at, 8, unsigned(0x8000_0000_0000_0000, number)),
     }
 }

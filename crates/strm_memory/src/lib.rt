@@ -5,6 +5,7 @@
 #![tactic(auto)]
 
 mod columns;
+mod compounds;
 pub mod copies;
 mod field_lists;
 mod fields;
@@ -12,7 +13,9 @@ pub mod good_items;
 pub mod items;
 mod joins;
 pub mod laws;
+mod lifts;
 mod limits;
+mod lowers;
 pub mod memories;
 pub mod moves;
 mod numbers;

@@ -5,7 +5,7 @@
 //! vector of bytes is copied by one minimum and one choice, whatever fields it holds.
 
 ghost use Rattle.std.specs.Prelude.{◌≡◌, ◌+◌, ◌-◌, ◌*◌, ◌<◌, ◌≤◌, ◌++◌, length, take, drop, replicate};
-ghost use Rattle.strm_codes.specs.Layout.{end_offset, item_size};
+ghost use Rattle.strm_codes.specs.Fields.{end_offset, fields_size};
 ghost use Rattle.strm_memory.specs.Bytes.{bytes_at, put_at};
 ghost use Rattle.strm_memory.specs.Copies.{blended, blended_on, copied, limit_bytes, limits_from, repeated};
 
@@ -28,7 +28,7 @@ pub(crate) fn copy_good_items(
     size: usize,
     count: usize,
 )
-    requires size { size ≡ item_size fields.now }
+    requires size { size ≡ fields_size fields.now }
     requires most { size ≤ 64 }
     requires source_holds { from + size * count ≤ length source.now }
     requires destination_holds { to + size * count ≤ length destination.old }
@@ -277,8 +277,8 @@ fn limits_of(scalar: Scalar) -> [u8; 8]
         Scalar::Bool => 1u64,
         Scalar::S8 | Scalar::U8 => 0xff,
         Scalar::S16 | Scalar::U16 => 0xffff,
-        Scalar::S32 | Scalar::U32 | Scalar::Char => 0xffff_ffff,
-        Scalar::S64 | Scalar::U64 => 0xffff_ffff_ffff_ffff,
+        Scalar::S32 | Scalar::U32 | Scalar::Char | Scalar::F32 => 0xffff_ffff,
+        Scalar::S64 | Scalar::U64 | Scalar::F64 => 0xffff_ffff_ffff_ffff,
     };
     word.to_le_bytes()
 }

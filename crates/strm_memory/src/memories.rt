@@ -3,7 +3,8 @@
 //! Source: wasmtime, `futures_and_streams.rs`, `check_bounds`; Canonical ABI, `BufferGuestImpl`.
 
 ghost use Rattle.std.specs.Prelude.{◌≡◌, ℕ, ◌+◌, ◌*◌, ◌^◌, ◌<◌, ◌≤◌, ◌↔◌, [], ◌++◌, length, replicate, take, drop, true, is_err, IsTrue, IfOk, OnOk, OnErr, IsOk, IsErr, IsErrOf, IsNone, IsSomeAnd, IfSome, Some, None, vec_len, vec_capacity};
-ghost use Rattle.strm_codes.specs.Layout.{scalars_of, item_size};
+ghost use Rattle.strm_codes.specs.Layout.{item_type};
+ghost use Rattle.strm_codes.specs.ItemTypes.{item_size};
 ghost use Rattle.std.specs.List.{slice_range};
 ghost use Rattle.std.specs.Vec.{vec_ptr};
 ghost use Rattle.strm_memory.specs.Linear.{untold, of_engine, is_lent_base, told_at, with_contents};
@@ -12,7 +13,7 @@ ghost use Rattle.strm_memory.specs.Bytes.{put_at, bytes_at};
 ghost use Rattle.strm_memory.specs.Items.{items_at, stored_at, AreItems, IsFirstBadItem, is_number_or_none};
 
 use crate::copies::{BadItem, copy_region};
-use crate::items::{LiftError, lift_fields, lower_fields};
+use crate::items::{LiftError, lift_from, lower_from};
 use crate::joins::join;
 use crate::moves::{append_zeros, copy_within_items};
 use std::alloc::Global;
@@ -277,7 +278,7 @@ impl GuestMemory {
         address: u32,
         count: ItemCount,
     ) -> Result<(), RegionError>
-        ensures { result ≡ region_of (length self.now.bytes) (scalars_of payload) address count }
+        ensures { result ≡ region_of (length self.now.bytes) (item_type payload) address count }
     {
         let len = payload.size() as usize * count.as_usize();
         if len == 0 {
@@ -303,21 +304,21 @@ impl GuestMemory {
         payload: Payload,
         count: ItemCount,
     ) -> Result<(), BadItem>
-        requires source_holds { from + item_size (scalars_of payload) * count
+        requires source_holds { from + item_size (item_type payload) * count
             ≤ length source.now.bytes }
-        requires self_holds { address + item_size (scalars_of payload) * count
+        requires self_holds { address + item_size (item_type payload) * count
             ≤ length self.old.bytes }
         ensures ok { OnOk result (IsSomeAnd
-            (items_at (scalars_of payload) source.now.bytes from count)
+            (items_at (item_type payload) source.now.bytes from count)
             (λ xs. self.new
-            ≡ with_contents self.old (stored_at (scalars_of payload) self.old.bytes address xs))) }
+            ≡ with_contents self.old (stored_at (item_type payload) self.old.bytes address xs))) }
         ensures bad { IsErr result
-            ↔ IsNone (items_at (scalars_of payload) source.now.bytes from count) }
+            ↔ IsNone (items_at (item_type payload) source.now.bytes from count) }
         ensures err { OnErr result (self.new ≡ self.old) }
         ensures number_or_none { IsTrue (is_number_or_none payload) → IsOk result }
         ensures numbers { IsTrue (is_number_or_none payload) → self.new
             ≡ with_contents self.old (put_at self.old.bytes address
-            (bytes_at source.now.bytes from (item_size (scalars_of payload) * count))) }
+            (bytes_at source.now.bytes from (item_size (item_type payload) * count))) }
     {
         let to = address as usize;
         copy_region(
@@ -334,12 +335,12 @@ impl GuestMemory {
     /// and then lowering them, however the two regions overlap. Takes no memory.
     pub fn copy_within(&mut self, from: u32, to: u32, payload: Payload, count: ItemCount)
         requires number_or_none { IsTrue (is_number_or_none payload) }
-        requires from_inside { from + item_size (scalars_of payload) * count
+        requires from_inside { from + item_size (item_type payload) * count
             ≤ length self.old.bytes }
-        requires to_inside { to + item_size (scalars_of payload) * count ≤ length self.old.bytes }
-        ensures { IsSomeAnd (items_at (scalars_of payload) self.old.bytes from count)
+        requires to_inside { to + item_size (item_type payload) * count ≤ length self.old.bytes }
+        ensures { IsSomeAnd (items_at (item_type payload) self.old.bytes from count)
             (λ xs. self.new
-            ≡ with_contents self.old (stored_at (scalars_of payload) self.old.bytes to xs)) }
+            ≡ with_contents self.old (stored_at (item_type payload) self.old.bytes to xs)) }
     {
         copy_within_items(self.bytes_mut(), from, to, payload, count);
     }
@@ -352,21 +353,20 @@ impl GuestMemory {
         count: ItemCount,
         out: &mut Vec<Value>,
     ) -> Result<(), LiftError>
-        requires { address + item_size (scalars_of payload) * count ≤ length self.now.bytes }
+        requires { address + item_size (item_type payload) * count ≤ length self.now.bytes }
         ensures ok { OnOk result (IsSomeAnd
-            (items_at (scalars_of payload) self.now.bytes address count)
+            (items_at (item_type payload) self.now.bytes address count)
             (λ xs. out.new.items ≡ out.old.items ++ xs)) }
         ensures bad_item { (index : ℕ) → IsErrOf result (LiftError.BadItem index) →
-            IsFirstBadItem (scalars_of payload) (drop address self.now.bytes) count index }
+            IsFirstBadItem (item_type payload) (drop address self.now.bytes) count index }
         ensures out_of_memory { IsErrOf result LiftError.OutOfMemory →
             vec_capacity out.old < vec_len out.old + count }
         ensures err { OnErr result (out.new.items ≡ out.old.items) }
     {
-        lift_fields(
+        lift_from(
             self.bytes(),
             address as usize,
-            payload.scalars(),
-            payload.size() as usize,
+            &payload,
             count.as_u32(),
             out,
         )
@@ -374,18 +374,12 @@ impl GuestMemory {
 
     /// Stores items from an address on, one after the other. Padding stays. Takes no memory.
     pub fn lower(&mut self, address: u32, items: &[Value], payload: Payload)
-        requires fit { AreItems (scalars_of payload) items.now }
+        requires fit { AreItems (item_type payload) items.now }
         requires holds { address
-            + item_size (scalars_of payload) * length items.now ≤ length self.old.bytes }
+            + item_size (item_type payload) * length items.now ≤ length self.old.bytes }
         ensures { self.new ≡ with_contents self.old
-            (stored_at (scalars_of payload) self.old.bytes address items.now) }
+            (stored_at (item_type payload) self.old.bytes address items.now) }
     {
-        lower_fields(
-            items,
-            payload.scalars(),
-            payload.size() as usize,
-            self.bytes_mut(),
-            address as usize,
-        );
+        lower_from(items, &payload, self.bytes_mut(), address as usize);
     }
 }

@@ -3,7 +3,8 @@
 //! Source: wasmtime, `futures_and_streams.rs`, the plain copies of `copy`. The calls are ours.
 
 ghost use Rattle.std.specs.Prelude.{◌≡◌, ◌+◌, ◌*◌, ◌≤◌, ◌++◌, length, take, replicate, IsTrue, IsSomeAnd, OnOk, OnErr};
-ghost use Rattle.strm_codes.specs.Layout.{scalars_of, item_size};
+ghost use Rattle.strm_codes.specs.Layout.{item_type};
+ghost use Rattle.strm_codes.specs.ItemTypes.{item_size};
 ghost use Rattle.strm_memory.specs.Bytes.{put_at, bytes_at};
 ghost use Rattle.strm_memory.specs.Items.{items_at, stored_at, is_number_or_none};
 
@@ -41,10 +42,10 @@ fn move_region(memory: &mut [u8], from: usize, to: usize, len: usize)
 /// then lowering them, however the two regions overlap. Takes no memory.
 pub fn copy_within_items(memory: &mut [u8], from: u32, to: u32, payload: Payload, count: ItemCount)
     requires number_or_none { IsTrue (is_number_or_none payload) }
-    requires from_inside { from + item_size (scalars_of payload) * count ≤ length memory.old }
-    requires to_inside { to + item_size (scalars_of payload) * count ≤ length memory.old }
-    ensures { IsSomeAnd (items_at (scalars_of payload) memory.old from count)
-        (λ xs. memory.new ≡ stored_at (scalars_of payload) memory.old to xs) }
+    requires from_inside { from + item_size (item_type payload) * count ≤ length memory.old }
+    requires to_inside { to + item_size (item_type payload) * count ≤ length memory.old }
+    ensures { IsSomeAnd (items_at (item_type payload) memory.old from count)
+        (λ xs. memory.new ≡ stored_at (item_type payload) memory.old to xs) }
 {
     hold_bytes(memory);
     let len = payload.size() as usize * count.as_usize();

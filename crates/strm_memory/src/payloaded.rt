@@ -4,8 +4,9 @@
 //! Source: ours; wasmtime has `Lift` and `Lower`, which read and write a guest's memory.
 
 ghost use Rattle.std.specs.Prelude.{◌≡◌, ◌+◌, ◌*◌, ◌≤◌, ◌↔◌, [], ◌∷◌, length, map, Some, IsSome, IsNone, IfSome};
-ghost use Rattle.strm_codes.specs.Items.{FitsItem};
-ghost use Rattle.strm_codes.specs.Layout.{scalars_of, item_size};
+ghost use Rattle.strm_codes.specs.Begins.{FitsItem};
+ghost use Rattle.strm_codes.specs.Layout.{item_type};
+ghost use Rattle.strm_codes.specs.ItemTypes.{item_size};
 ghost use Rattle.strm_codes.specs.declared.payloads.Payload.TheVariants.{One};
 ghost use Rattle.strm_codes.specs.declared.scalars.Scalar.TheVariants.{U8};
 ghost use Rattle.strm_memory.specs.Items.{stored, stored_at, AreItems, byte_items};
@@ -34,21 +35,21 @@ pub trait Payloaded: Copy {
 
     /// The value of an item; none where it is no item of the payload.
     fn lift(value: &Value) -> Option<Self>
-        ensures some { IsSome result ↔ FitsItem (scalars_of payload) value.now }
+        ensures some { IsSome result ↔ FitsItem (item_type payload) value.now }
         ensures value { IfSome result (λ x. item x ≡ value.now) };
 
     /// The item that the value is.
     fn lower(&self) -> Value
         ensures exact { result ≡ item self.now }
-        ensures fits { FitsItem (scalars_of payload) result };
+        ensures fits { FitsItem (item_type payload) result };
 
     /// Stores the item that the value is in the bytes from a place on. Padding stays as it was. Takes
     /// no memory.
     fn put(&self, bytes: &mut [u8], at: usize)
-        requires { at + item_size (scalars_of payload) ≤ length bytes.old }
+        requires { at + item_size (item_type payload) ≤ length bytes.old }
         ensures stored { bytes.new
-            ≡ stored_at (scalars_of payload) bytes.old at (item self.now ∷ []) }
-        ensures fits { FitsItem (scalars_of payload) (item self.now) }
+            ≡ stored_at (item_type payload) bytes.old at (item self.now ∷ []) }
+        ensures fits { FitsItem (item_type payload) (item self.now) }
     {
         lower_item_at(&self.lower(), Self::payload(), bytes, at);
     }
@@ -76,9 +77,9 @@ pub fn lifted_again<T: Payloaded>(value: &T) -> Option<T>
 /// Stores the items that these values are from the front of the bytes on, one behind the other.
 /// Padding stays as it was. Takes no memory.
 pub fn put_values<T: Payloaded>(values: &[T], bytes: &mut [u8])
-    requires { item_size (scalars_of T.payload) * length values.now ≤ length bytes.old }
-    ensures stored { bytes.new ≡ stored (scalars_of T.payload) bytes.old (map T.item values.now) }
-    ensures fit { AreItems (scalars_of T.payload) (map T.item values.now) }
+    requires { item_size (item_type T.payload) * length values.now ≤ length bytes.old }
+    ensures stored { bytes.new ≡ stored (item_type T.payload) bytes.old (map T.item values.now) }
+    ensures fit { AreItems (item_type T.payload) (map T.item values.now) }
 {
     let size = T::payload().size() as usize;
     for k in 0..values.len() {

@@ -1,4 +1,4 @@
-//! The Rust types that stand for the ten scalars.
+//! The Rust types that stand for the twelve scalars. Floats stand as their bits: no NaN becomes another.
 //!
 //! Source: ours; wasmtime has `Lift` and `Lower`, which read and write a guest's memory.
 
@@ -46,6 +46,14 @@ pub trait Field: Copy {
     // No two values are one number.
     ghost apart: { (x y : Self) → number x ≡ number y → x ≡ y };
 }
+
+/// A float of 32 bits, by these bits.
+#[derive(Clone, Copy, Debug, PartialEq, Eq)]
+pub struct Float32(pub u32);
+
+/// A float of 64 bits, by these bits.
+#[derive(Clone, Copy, Debug, PartialEq, Eq)]
+pub struct Float64(pub u64);
 
 impl Field for bool {
     ghost use Rattle.std.specs.Prelude.{pos, true, false};
@@ -360,6 +368,74 @@ impl Field for char {
     }
 
     fn take_bytes(_values: &mut Vec<char>) -> Option<Vec<u8>> {
+        None
+    }
+}
+
+impl Field for Float32 {
+    ghost use Rattle.std.specs.Prelude.{pos};
+    ghost use Rattle.std.proofs.Common.{refl, rules};
+    ghost use Rattle.strm_codes.specs.declared.scalars.Scalar.TheVariants.{F32};
+    ghost use Rattle.strm_memory.specs.Apart.{held_apart};
+
+    ghost scalar = { F32 };
+
+    ghost number = { λ x. pos x.0 };
+
+    ghost apart = { held_apart (λ n. pos n) (λ x. x.0) (λ n. record { 0 = n }) (λ x. refl)
+        (Prim.search rules) };
+
+    fn scalar() -> Scalar {
+        Scalar::F32
+    }
+
+    fn from_number(of: i128) -> Option<Float32> {
+        if Scalar::F32.fits(of) {
+            Some(Float32(of as u32))
+        } else {
+            None
+        }
+    }
+
+    fn to_number(self) -> i128 {
+        i128::from(self.0)
+    }
+
+    fn take_bytes(_values: &mut Vec<Float32>) -> Option<Vec<u8>> {
+        None
+    }
+}
+
+impl Field for Float64 {
+    ghost use Rattle.std.specs.Prelude.{pos};
+    ghost use Rattle.std.proofs.Common.{refl, rules};
+    ghost use Rattle.strm_codes.specs.declared.scalars.Scalar.TheVariants.{F64};
+    ghost use Rattle.strm_memory.specs.Apart.{held_apart};
+
+    ghost scalar = { F64 };
+
+    ghost number = { λ x. pos x.0 };
+
+    ghost apart = { held_apart (λ n. pos n) (λ x. x.0) (λ n. record { 0 = n }) (λ x. refl)
+        (Prim.search rules) };
+
+    fn scalar() -> Scalar {
+        Scalar::F64
+    }
+
+    fn from_number(of: i128) -> Option<Float64> {
+        if Scalar::F64.fits(of) {
+            Some(Float64(of as u64))
+        } else {
+            None
+        }
+    }
+
+    fn to_number(self) -> i128 {
+        i128::from(self.0)
+    }
+
+    fn take_bytes(_values: &mut Vec<Float64>) -> Option<Vec<u8>> {
         None
     }
 }

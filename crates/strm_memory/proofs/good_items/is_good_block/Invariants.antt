@@ -1,5 +1,5 @@
 use Rattle.std.proofs.Common.{◌≡◌, drop}
-use Rattle.strm_codes.specs.Layout.{end_offset}
+use Rattle.strm_codes.specs.Fields.{end_offset}
 use Rattle.strm_memory.specs.Copies.{are_good_columns}
 use Rattle.strm_memory.proofs.good_items.is_good_block.Given as goal
 

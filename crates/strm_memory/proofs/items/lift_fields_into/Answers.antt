@@ -3,8 +3,9 @@ use Rattle.std.proofs.lemmas.Int.{to_z-of_z, ints}
 use Rattle.std.specs.Int.{w128}
 use mir.Val.{SFits}
 use Rattle.strm_codes.specs.Scalars.{size_of}
-use Rattle.strm_memory.specs.Items.{scalar_at}
+use Rattle.strm_memory.specs.FieldItems.{scalar_at}
 use Rattle.strm_memory.proofs.FieldLemmas.{IsField, end_step, decode_step, decode_stop, decode_end}
+use Rattle.strm_memory.proofs.FlatLemmas.{decode-flat}
 use Rattle.strm_memory.proofs.items.lift_fields_into.Goals as goal
 
 pub returns-in-None : goal.returns-in-None
@@ -13,6 +14,7 @@ returns-in-None c =
     let field : IsField c.args.fields.now c.loop-k.k c.loop-k.at c.field_start-start.result (size_of s) s = record { inside = omega arith; scalar = refl; begins = c.field_start-start.ensures.exact; takes = refl } in
     sym (decode_stop c.args.fields.now c.loop-k.k c.loop-k.at c.field_start-start.result (size_of s) s c.args.bytes.now c.args.from c.loop-k.item field c.in-None.ensures.exact)
     ∙ c.loop-k.invariant.rest
+    ∙ sym (decode-flat c.args.fields.now (drop c.args.from c.args.bytes.now))
 
 pub loop-k-preserved : goal.loop-k-preserved
 loop-k-preserved c =
@@ -32,3 +34,4 @@ pub returns : goal.returns
 returns c =
     sym (decode_end c.args.fields.now c.loop-k.k c.loop-k.at (drop (c.args.from + c.loop-k.at) c.args.bytes.now) c.loop-k.item (omega arith))
     ∙ c.loop-k.invariant.rest
+    ∙ sym (decode-flat c.args.fields.now (drop c.args.from c.args.bytes.now))

@@ -1,10 +1,13 @@
-use Rattle.std.proofs.Common.{◌≡◌, ◌+◌, ◌*◌, ◌++◌, take, drop}
-use Rattle.strm_memory.specs.Items.{stored, stored_at, AreItems}
+use Rattle.std.proofs.Common.{◌≡◌, ◌+◌, ◌++◌, take, drop}
+use Rattle.strm_codes.specs.Fields.{end_offset, FitsFields}
+use Rattle.strm_memory.specs.FieldItems.{encode_from}
 use Rattle.strm_memory.proofs.items.lower_fields.Given as goal
 
 abbrev pub invariant-loop-k : goal.invariant-loop-k
 invariant-loop-k l = record {
-  place : l.at ≡ l.to + l.size * l.k;
-  fit : AreItems l.fields (drop l.k l.items);
-  rest : take l.at l.bytes ++ stored l.fields (drop l.at l.bytes) (drop l.k l.items) ≡ stored_at l.fields l.fn.bytes l.to l.items;
+  ends : end_offset l.at (drop l.k l.fields) ≡ end_offset 0 l.fields;
+  fits : FitsFields (drop l.k l.fields) (drop l.k l.numbers);
+  rest : take (l.to + l.at) l.bytes
+      ++ encode_from l.at (drop l.k l.fields) (drop (l.to + l.at) l.bytes) (drop l.k l.numbers)
+      ≡ take l.to l.fn.bytes ++ encode_from 0 l.fields (drop l.to l.fn.bytes) l.value;
 }

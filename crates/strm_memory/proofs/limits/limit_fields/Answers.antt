@@ -1,5 +1,5 @@
 use Rattle.std.proofs.Common.{◌+◌, ◌≤◌, ◌∙◌, arith, refl}
-use Rattle.strm_memory.specs.Items.{scalar_at}
+use Rattle.strm_memory.specs.FieldItems.{scalar_at}
 use Rattle.strm_memory.proofs.FieldLemmas.{IsField, end_step, field_within}
 use Rattle.strm_memory.proofs.LimitLemmas.{limits_step, limits_step_behind, limits_end, length-limit_put}
 use Rattle.strm_memory.proofs.limits.limit_fields.Goals as goal

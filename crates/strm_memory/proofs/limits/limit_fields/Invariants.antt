@@ -1,5 +1,5 @@
 use Rattle.std.proofs.Common.{◌≡◌, ◌-◌, ◌++◌, length, take, drop, replicate}
-use Rattle.strm_codes.specs.Layout.{end_offset}
+use Rattle.strm_codes.specs.Fields.{end_offset}
 use Rattle.strm_memory.specs.Copies.{limits_from}
 use Rattle.strm_memory.proofs.limits.limit_fields.Given as goal
 

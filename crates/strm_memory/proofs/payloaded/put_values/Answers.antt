@@ -1,7 +1,8 @@
 use Rattle.std.proofs.Common.{◌≡◌, ◌*◌, ◌<◌, ◌≤◌, [], ◌∷◌, ◌++◌, length, take, map, get_or, refl, sym, ap, subst, ◌∙◌, arith}
 use Rattle.std.proofs.lemmas.List.{length-map, take_all, take_more}
 use Rattle.std.proofs.Math.ListN.{get_or-map}
-use Rattle.strm_codes.specs.Layout.{scalars_of, item_size}
+use Rattle.strm_codes.specs.Layout.{item_type}
+use Rattle.strm_codes.specs.ItemTypes.{item_size}
 use Rattle.strm_memory.specs.Items.{AreItems}
 use Rattle.strm_memory.proofs.ItemLemmas.{item_fits, stored_next, stored_end}
 use Rattle.strm_memory.proofs.AppendLemmas.{AreItems-append}
@@ -12,19 +13,19 @@ loop-k-init g c = let none : c.size-size.result * 0 ≡ 0 = omega arith in recor
 
 pub put-requires : goal.put-requires
 put-requires g c =
-    let w = item_size (scalars_of g.T.Payloaded.payload) in
-    let size : c.size-size.result ≡ w = c.size-size.ensures.exact ∙ ap (λ p. item_size (scalars_of p)) c.payload.ensures in
+    let w = item_size (item_type g.T.Payloaded.payload) in
+    let size : c.size-size.result ≡ w = c.size-size.ensures.exact ∙ ap (λ p. item_size (item_type p)) c.payload.ensures in
     let at : c.size-size.result * c.loop-k.k ≡ w * c.loop-k.k = ap (λ n. n * c.loop-k.k) size in
     omega (arith, at, item_fits c.loop-k.k (length c.args.values.now) w c.loop-k-test.true, c.requires, c.loop-k.auto.bytes)
 
 pub loop-k-preserved : goal.loop-k-preserved
 loop-k-preserved g c =
-    let ss = scalars_of g.T.Payloaded.payload in
+    let ss = item_type g.T.Payloaded.payload in
     let values = c.args.values.now in
     let k = c.loop-k.k in
     let xs = map g.T.Payloaded.item values in
     let x = g.T.Payloaded.item c.index-values-k.result in
-    let size : c.size-size.result ≡ item_size ss = c.size-size.ensures.exact ∙ ap (λ p. item_size (scalars_of p)) c.payload.ensures in
+    let size : c.size-size.result ≡ item_size ss = c.size-size.ensures.exact ∙ ap (λ p. item_size (item_type p)) c.payload.ensures in
     let count : length xs ≡ length values = length-map values g.T.Payloaded.item in
     let there : k < length xs = omega (arith, count) in
     let is : x ≡ get_or xs k x = ap g.T.Payloaded.item c.index-values-k.is ∙ sym (get_or-map g.T.Payloaded.item values k c.index-values-k.result) in
@@ -37,10 +38,10 @@ loop-k-preserved g c =
 pub returns-clause-stored : goal.returns-clause-stored
 returns-clause-stored g c =
     let xs = map g.T.Payloaded.item c.args.values.now in
-    sym (stored_end (scalars_of g.T.Payloaded.payload) c.loop-k.bytes (c.size-size.result * c.loop-k.k) c.loop-k.k xs (omega (arith, length-map c.args.values.now g.T.Payloaded.item)))
+    sym (stored_end (item_type g.T.Payloaded.payload) c.loop-k.bytes (c.size-size.result * c.loop-k.k) c.loop-k.k xs (omega (arith, length-map c.args.values.now g.T.Payloaded.item)))
     ∙ c.loop-k.invariant.rest
 
 pub returns-clause-fit : goal.returns-clause-fit
 returns-clause-fit g c =
     let xs = map g.T.Payloaded.item c.args.values.now in
-    subst (AreItems (scalars_of g.T.Payloaded.payload)) (take_all c.loop-k.k xs (omega (arith, length-map c.args.values.now g.T.Payloaded.item))) c.loop-k.invariant.fit
+    subst (AreItems (item_type g.T.Payloaded.payload)) (take_all c.loop-k.k xs (omega (arith, length-map c.args.values.now g.T.Payloaded.item))) c.loop-k.invariant.fit
