@@ -1,8 +1,8 @@
 -- What the calls of a host end owe of a window that they leave as it is.
-use Rattle.std.proofs.Common.{◌≡◌, ℕ, ◌+◌, ◌*◌, List, [], length, Option, Some, None, refl, sym, ap, ◌∙◌, arith}
+use Rattle.std.proofs.Common.{◌≡◌, ℕ, ◌+◌, ◌*◌, [], length, Option, Some, None, refl, sym, ap, ◌∙◌, arith}
 use Rattle.std.proofs.lemmas.List.{take_all, drop_all}
-use Rattle.strm_codes.specs.Layout.{scalars_of, item_size}
-use Rattle.strm_codes.specs.declared.scalars.Scalar.{Scalar}
+use Rattle.strm_codes.specs.Layout.{item_type}
+use Rattle.strm_codes.specs.ItemTypes.{item_size, ItemType}
 use Rattle.strm_memory.proofs.RegionLemmas.{stored_at-nil}
 use Rattle.strm_buffers.specs.Said.{in_room, past_room, answer_of_result, turn_of, IfAnswered, IfNoMemory}
 use Rattle.strm_codes.specs.declared.codes.StreamResult.{StreamResult}
@@ -13,7 +13,7 @@ use Rattle.strm_buffers.specs.declared.answers.Answer.TheVariants.{Pending, Comp
 use Rattle.strm_buffers.specs.Windows.{Lent, Place, Memory, Between, stored_in}
 use Rattle.strm_buffers.specs.Tells.{Fills}
 
-pub stored_in-nil : (ss : List Scalar) (place : Place) (n : ℕ) → stored_in ss place n [] ≡ place
+pub stored_in-nil : (ss : ItemType) (place : Place) (n : ℕ) → stored_in ss place n [] ≡ place
 stored_in-nil ss (Memory memory address room) n = ap (λ m. Memory m address room) (stored_at-nil ss memory (address + item_size ss * n))
 stored_in-nil ss Between n = refl
 
@@ -21,7 +21,7 @@ stored_in-nil ss Between n = refl
 pub Fills-same : (w : Lent) → Fills w w
 Fills-same w = record {
   payload = refl;
-  place = sym (ap (stored_in (scalars_of w.payload) w.place (length w.marked)) (drop_all (length w.marked) w.marked (omega arith)) ∙ stored_in-nil (scalars_of w.payload) w.place (length w.marked));
+  place = sym (ap (stored_in (item_type w.payload) w.place (length w.marked)) (drop_all (length w.marked) w.marked (omega arith)) ∙ stored_in-nil (item_type w.payload) w.place (length w.marked));
   marked = take_all (length w.marked) w.marked (omega arith);
   prepared = refl;
   base = refl;

@@ -3,6 +3,7 @@ use Rattle.std.proofs.Common.{◌≡◌, ℕ, ◌+◌, ◌-◌, ◌*◌, ◌≤�
 use Rattle.std.proofs.lemmas.List.{drop-drop, drop-take, take_all, take_at, drop_at, length-take-le, take-append-drop, append-nil}
 use Rattle.std.proofs.Math.Seq.{take-add}
 use Rattle.std.specs.List.{refill, slice_range, length_refill}
+use Rattle.strm_codes.specs.Layout.{byte_type}
 use Rattle.strm_codes.specs.declared.scalars.Scalar.TheVariants.{U8}
 use Rattle.strm_codes.specs.declared.payloads.Payload.{Payload}
 use Rattle.strm_codes.specs.declared.payloads.Payload.TheVariants.{One}
@@ -83,25 +84,25 @@ module _ (bytes kept there new w : List ℕ) (space more address r marked : ℕ)
       let n' : length there ≡ left = ap length t ∙ n in
       let m1 : 1 * marked ≡ marked = omega arith in
       let l1 : 1 * left ≡ left = omega arith in
-      let size : length (items_in (U8 ∷ []) bytes address marked) ≡ marked = length-items_in (U8 ∷ []) bytes address marked win.lie in
+      let size : length (items_in byte_type bytes address marked) ≡ marked = length-items_in byte_type bytes address marked win.lie in
       let same : take (1 * marked) (drop address new) ≡ take (1 * marked) (drop address bytes) =
       ap (λ j. take j (drop address new)) m1 ∙ sym (drop-take address marked new) ∙ ap (drop address) p.front ∙ drop-take address marked bytes ∙ ap (λ j. take j (drop address bytes)) (sym m1) in
-      let lie = lie_same (U8 ∷ []) bytes new address address marked win.lie same (omega (arith, m1, p.size, inside)) in
+      let lie = lie_same byte_type bytes new address address marked win.lie same (omega (arith, m1, p.size, inside)) in
       let items = lie.is in
       let enough : left ≤ length kept' = kept_then kept there r left k n' in
       let last : length (last_bytes left kept') ≡ left = length-last kept' left enough in
       let unmarked : take (1 * left) (drop (address + 1 * marked) bytes) ≡ take left rest = ap (λ j. take j (drop (address + 1 * marked) bytes)) l1 ∙ ap (λ j. take left (drop (address + j) bytes)) m1 in
       let lent : List ℕ = take (1 * left) (drop (address + 1 * marked) bytes) in
       let n1 : length lent ≡ left = ap length unmarked ∙ n in
-      let ends : address + (1 * length (items_in (U8 ∷ []) bytes address marked) + length lent) ≡ at + left = omega (arith, size, n1) in
+      let ends : address + (1 * length (items_in byte_type bytes address marked) + length lent) ≡ at + left = omega (arith, size, n1) in
       let old : List ℕ = put_at bytes (address + 1 * marked) (last_bytes (1 * left) kept) in
       let old_is : old ≡ put_at bytes at (last_bytes left kept) = ap (λ j. put_at bytes (address + j) (last_bytes (1 * left) kept)) m1 ∙ ap (λ j. put_at bytes at (last_bytes j kept)) l1 in
-      let past_is : drop (address + (1 * length (items_in (U8 ∷ []) bytes address marked) + length lent)) old ≡ drop left rest = ap (λ j. drop j old) ends ∙ ap (drop (at + left)) old_is ∙ behind_kept bytes kept at left k (omega (arith, inside)) ∙ sym (drop-drop left at bytes) in
-      let all : lent ++ drop (address + (1 * length (items_in (U8 ∷ []) bytes address marked) + length lent)) old ≡ rest = ap (λ l. l ++ drop (address + (1 * length (items_in (U8 ∷ []) bytes address marked) + length lent)) old) unmarked ∙ ap (λ l. take left rest ++ l) past_is ∙ take-append-drop left rest in
+      let past_is : drop (address + (1 * length (items_in byte_type bytes address marked) + length lent)) old ≡ drop left rest = ap (λ j. drop j old) ends ∙ ap (drop (at + left)) old_is ∙ behind_kept bytes kept at left k (omega (arith, inside)) ∙ sym (drop-drop left at bytes) in
+      let all : lent ++ drop (address + (1 * length (items_in byte_type bytes address marked) + length lent)) old ≡ rest = ap (λ l. l ++ drop (address + (1 * length (items_in byte_type bytes address marked) + length lent)) old) unmarked ∙ ap (λ l. take left rest ++ l) past_is ∙ take-append-drop left rest in
       let over_is : written_over (window_kept (One U8) bytes kept address (Some r) marked prepared) w ≡ over = ap (λ l. refill (length l) l w) all in
       let behind : take (1 * left) (drop (address + 1 * marked) new) ≡ take (length lent) (written_over (window_kept (One U8) bytes kept address (Some r) marked prepared) w) =
       ap (λ j. take j (drop (address + 1 * marked) new)) l1 ∙ ap (λ j. take left (drop (address + j) new)) m1 ∙ ap (take left) p.behind ∙ ap (λ j. take j over) (sym n1) ∙ ap (take (length lent)) (sym over_is) in
-      let place : put_at new (address + 1 * marked) (last_bytes (1 * left) kept') ≡ take (address + (1 * length (items_in (U8 ∷ []) bytes address marked) + length lent)) old ++ drop (length lent) (written_over (window_kept (One U8) bytes kept address (Some r) marked prepared) w) =
+      let place : put_at new (address + 1 * marked) (last_bytes (1 * left) kept') ≡ take (address + (1 * length (items_in byte_type bytes address marked) + length lent)) old ++ drop (length lent) (written_over (window_kept (One U8) bytes kept address (Some r) marked prepared) w) =
       ap (λ j. put_at new (address + j) (last_bytes (1 * left) kept')) m1 ∙ ap (λ j. put_at new at (last_bytes j kept')) l1
       ∙ put_flat new at (last_bytes left kept') ∙ ap (λ j. take at new ++ (last_bytes left kept' ++ drop (at + j) new)) last
       ∙ ap (λ l. l ++ (last_bytes left kept' ++ drop (at + left) new)) p.front
@@ -130,7 +131,7 @@ module _ (bytes kept there new w : List ℕ) (space more address marked : ℕ) (
       let p = written_parts bytes new w at (omega (arith, m1, win.lie.within)) e in
       let same : take (1 * marked) (drop address new) ≡ take (1 * marked) (drop address bytes) =
       ap (λ j. take j (drop address new)) m1 ∙ sym (drop-take address marked new) ∙ ap (drop address) p.front ∙ drop-take address marked bytes ∙ ap (λ j. take j (drop address bytes)) (sym m1) in
-      let lie = lie_same (U8 ∷ []) bytes new address address marked win.lie same (omega (arith, p.size, win.lie.within)) in
+      let lie = lie_same byte_type bytes new address address marked win.lie same (omega (arith, p.size, win.lie.within)) in
       let items = lie.is in
       let lent : List ℕ = drop (1 * marked) bytes in
       let lent_is : lent ≡ rest = ap (λ j. drop j bytes) here in
@@ -176,14 +177,14 @@ module _ (bytes kept : List ℕ) (len space address marked : ℕ) where
   lent_room : (room : Option ℕ) (prepared : Bool) → IsWindow (One U8) bytes kept space address room marked prepared → len ≡ length bytes → AreLent (window_kept (One U8) bytes kept address room marked prepared) (slice_range bytes (address + marked) (end_kept address room len))
   lent_room None prepared win n =
       let m1 : address + marked ≡ 1 * marked = omega (arith, win.inside.0) in
-      let size = length-items_in (U8 ∷ []) bytes address marked win.lie in
+      let size = length-items_in byte_type bytes address marked win.lie in
       let value : slice_range bytes (address + marked) len ≡ drop (1 * marked) bytes =
       take_all (len - (address + marked)) (drop (address + marked) bytes) (omega (arith, n, length-drop (address + marked) bytes)) ∙ ap (λ j. drop j bytes) m1 in
       record { value = value; all = rw (value, size) (omega (arith, length-drop (1 * marked) bytes, win.inside.1)) }
   lent_room (Some r) prepared win n =
       let m1 : 1 * marked ≡ marked = omega arith in
       let l1 : 1 * (r - marked) ≡ r - marked = omega arith in
-      let size = length-items_in (U8 ∷ []) bytes address marked win.lie in
+      let size = length-items_in byte_type bytes address marked win.lie in
       let there = there_is bytes address r marked win.inside.0 in
       let long : length (bytes_at bytes (address + marked) (r - marked)) ≡ r - marked = length-take-le (r - marked) (drop (address + marked) bytes) (omega (arith, length-drop (address + marked) bytes, win.inside.0, win.inside.1)) in
       record {

@@ -1,7 +1,7 @@
 -- Bytes put into bytes: one put after another, and bytes put where they are.
-use Rattle.std.proofs.Common.{◌≡◌, ℕ, ◌+◌, ◌-◌, ◌<◌, ◌≤◌, ◌⊎◌, inl, inr, List, [], ◌∷◌, ◌++◌, length, take, drop, refl, sym, ap, ◌∙◌, append_assoc, arith, length-append, length-drop, get_or}
+use Rattle.std.proofs.Common.{◌≡◌, ℕ, ◌+◌, ◌-◌, ◌<◌, ◌≤◌, ◌⊎◌, inl, inr, List, [], ◌++◌, length, take, drop, refl, sym, ap, ◌∙◌, append_assoc, arith, length-append, length-drop, get_or}
 use Rattle.std.proofs.lemmas.List.{take_at, drop_at, drop-drop, take-append-drop, length-take-le, drop-append-le, drop_all}
-use Rattle.strm_codes.specs.declared.scalars.Scalar.TheVariants.{U8}
+use Rattle.strm_codes.specs.Layout.{byte_type}
 use Rattle.strm_memory.specs.Bytes.{put_at, bytes_at}
 use Rattle.strm_memory.specs.Items.{stored_at, byte_items}
 use Rattle.strm_memory.proofs.AppendLemmas.{stored-bytes}
@@ -58,7 +58,7 @@ put_at-rest m s t at h k =
     put_at-behind m t (drop (length t) s) at (omega (arith, e, h)) ∙ ap (λ j. take at m ++ (t ++ (drop (length t) s ++ drop j m))) e ∙ sym (put_at-front m s t at h k)
 
 -- bytes stored as items are put
-pub stored_at-bytes : (m t : List ℕ) (at : ℕ) → ((k : ℕ) (d : ℕ) → k < length t → get_or t k d < 256) → at + length t ≤ length m → stored_at (U8 ∷ []) m at (byte_items t) ≡ put_at m at t
+pub stored_at-bytes : (m t : List ℕ) (at : ℕ) → ((k : ℕ) (d : ℕ) → k < length t → get_or t k d < 256) → at + length t ≤ length m → stored_at byte_type m at (byte_items t) ≡ put_at m at t
 stored_at-bytes m t at f h =
     ap (λ l. take at m ++ l) (stored-bytes (drop at m) t f (omega (arith, length-drop at m, h)))
     ∙ ap (λ l. take at m ++ (t ++ l)) (drop-drop (length t) at m) ∙ sym (put_flat m at t)

@@ -1,14 +1,13 @@
 -- Items put into a window.
-use Rattle.std.proofs.Common.{◌≡◌, ℕ, zero, suc, ◌+◌, ◌-◌, ◌*◌, ◌<◌, ◌≤◌, inl, inr, Bool, pos, negsuc, List, [], ◌∷◌, ◌++◌, length, take, drop, Option, Some, None, refl, sym, ap, subst, ◌∙◌, arith, length-append, get_or}
-use Rattle.std.proofs.lemmas.Int.{ints}
+use Rattle.std.proofs.Common.{◌≡◌, ℕ, zero, suc, ◌+◌, ◌-◌, ◌*◌, ◌<◌, ◌≤◌, inl, inr, Bool, pos, List, [], ◌∷◌, ◌++◌, length, take, drop, Option, Some, None, refl, sym, ap, subst, ◌∙◌, arith, length-append, get_or}
 use Rattle.std.proofs.lemmas.List.{drop-drop, drop-take, drop_all, length-take-le, length-replicate}
 use Rattle.std.specs.Prelude.{replicate}
 use Rattle.std.proofs.Math.Nat.{mul-le-mul_left}
-use Rattle.strm_codes.specs.Layout.{scalars_of, item_size}
-use Rattle.strm_codes.specs.Items.{FitsItem}
-use Rattle.strm_codes.specs.declared.scalars.Scalar.{Scalar}
-use Rattle.strm_codes.specs.declared.scalars.Scalar.TheVariants.{U8}
+use Rattle.strm_codes.specs.Layout.{item_type, byte_type}
+use Rattle.strm_codes.specs.ItemTypes.{item_size, ItemType}
+use Rattle.strm_codes.specs.Begins.{FitsItem}
 use Rattle.strm_codes.specs.declared.payloads.Payload.{Payload}
+use Rattle.strm_memory.proofs.AppendLemmas.{byte_item}
 use Rattle.strm_memory.specs.Bytes.{put_at, bytes_at}
 use Rattle.strm_memory.specs.Items.{stored_at, AreItems, byte_items}
 use Rattle.strm_memory.proofs.RegionLemmas.{length-stored_at, drop-stored_at}
@@ -42,11 +41,8 @@ pub record IsByte (x : Item) : Type 0 where
   pub is : x ≡ pos byte ∷ []
   pub below : byte < 256
 
-pub byte_is : (x : Item) → FitsItem (U8 ∷ []) x → IsByte x
-byte_is [] f = absurd f
-byte_is (pos b ∷ []) f = record { byte = b; is = refl; below = (let h = f.0.1 in omega (arith, ints)) }
-byte_is (negsuc b ∷ []) f = let h = f.0.0 in absurd (omega (arith, ints))
-byte_is (y ∷ z ∷ xs) f = absurd f.1
+pub byte_is : (x : Item) → FitsItem byte_type x → IsByte x
+byte_is x f = let b = byte_item x f in record { byte = b.0; is = b.1; below = b.2 }
 
 -- items of payload u8 are bytes
 record AreBytes (xs : List Item) : Type 0 where
@@ -55,7 +51,7 @@ record AreBytes (xs : List Item) : Type 0 where
   below : (k d : ℕ) → k < length bytes → get_or bytes k d < 256
   size : length bytes ≡ length xs
 
-bytes_are : (xs : List Item) → AreItems (U8 ∷ []) xs → AreBytes xs
+bytes_are : (xs : List Item) → AreItems byte_type xs → AreBytes xs
 bytes_are [] f = record { bytes = []; is = refl; below = λ k d h. absurd (omega (arith, h)); size = refl }
 bytes_are (x ∷ xs) f =
     let first = byte_is x f.0 in
@@ -73,15 +69,15 @@ bytes_are (x ∷ xs) f =
 
 -- items of payload u8 stored
 abbrev stored_bytes : List ℕ → ℕ → List Item → List ℕ
-stored_bytes m at xs = stored_at (U8 ∷ []) m at xs
+stored_bytes m at xs = stored_at byte_type m at xs
 
 -- the memory as it will be given back, with more items
-placed_bytes : (m kept : List ℕ) (at left : ℕ) (xs : List Item) → left ≤ length kept → length xs ≤ left → AreItems (U8 ∷ []) xs → at + left ≤ length m
+placed_bytes : (m kept : List ℕ) (at left : ℕ) (xs : List Item) → left ≤ length kept → length xs ≤ left → AreItems byte_type xs → at + left ≤ length m
     → put_at (stored_bytes m at xs) (at + length xs) (last_bytes (left - length xs) kept) ≡ stored_bytes (put_at m at (last_bytes left kept)) at xs
 placed_bytes m kept at left xs k h f i =
     let b = bytes_are xs f in
     let n = b.size in
-    let e : (l : List ℕ) → at + length xs ≤ length l → stored_at (U8 ∷ []) l at xs ≡ put_at l at b.bytes = λ l j. ap (stored_at (U8 ∷ []) l at) b.is ∙ stored_at-bytes l b.bytes at b.below (omega (arith, n, j)) in
+    let e : (l : List ℕ) → at + length xs ≤ length l → stored_at byte_type l at xs ≡ put_at l at b.bytes = λ l j. ap (stored_at byte_type l at) b.is ∙ stored_at-bytes l b.bytes at b.below (omega (arith, n, j)) in
     let size = length-last kept left k in
     let all = length-put_at m (last_bytes left kept) at (omega (arith, size, i)) in
     ap (λ l. put_at l (at + length xs) (last_bytes (left - length xs) kept)) (e m (omega (arith, h, i)))
@@ -92,25 +88,25 @@ placed_bytes m kept at left xs k h f i =
 -- items stored, and then what is kept put back behind them, is all put back and then the items stored
 abbrev IsPlaced : Payload → (m kept : List ℕ) (at left : ℕ) → List Item → Type 0
 IsPlaced payload m kept at left xs =
-    let ss = scalars_of payload in let w = item_size ss in
+    let ss = item_type payload in let w = item_size ss in
     put_at (stored_at ss m at xs) (at + w * length xs) (last_bytes (w * (left - length xs)) kept) ≡ stored_at ss (put_at m at (last_bytes (w * left) kept)) at xs
 
-pub placed : (payload : Payload) (m kept : List ℕ) (at left : ℕ) (xs : List Item) → KeepsRest payload kept left → length xs ≤ left → AreItems (scalars_of payload) xs → at + item_size (scalars_of payload) * left ≤ length m → IsPlaced payload m kept at left xs
+pub placed : (payload : Payload) (m kept : List ℕ) (at left : ℕ) (xs : List Item) → KeepsRest payload kept left → length xs ≤ left → AreItems (item_type payload) xs → at + item_size (item_type payload) * left ≤ length m → IsPlaced payload m kept at left xs
 placed payload m kept at left xs (inl e) h f i =
-    let ss = scalars_of payload in let w = item_size ss in
+    let ss = item_type payload in let w = item_size ss in
     let none : (n : ℕ) → last_bytes n kept ≡ [] = λ n. ap (last_bytes n) e ∙ last_nil n in
     let behind = at + w * length xs in
     ap (put_at (stored_at ss m at xs) behind) (none (w * (left - length xs))) ∙ put_at-nil (stored_at ss m at xs) behind
     ∙ sym (ap (λ l. stored_at ss l at xs) (ap (put_at m at) (none (w * left)) ∙ put_at-nil m at))
 placed payload m kept at left xs (inr (u, k)) h f i =
-    subst (λ (p : Payload). AreItems (scalars_of p) xs → at + item_size (scalars_of p) * left ≤ length m → IsPlaced p m kept at left xs) (sym u)
+    subst (λ (p : Payload). AreItems (item_type p) xs → at + item_size (item_type p) * left ≤ length m → IsPlaced p m kept at left xs) (sym u)
     (λ g j. let a : 1 * (left - length xs) ≡ left - length xs = omega arith in let b : 1 * left ≡ left = omega arith in let c : 1 * length xs ≡ length xs = omega arith in
-    ap (λ n. put_at (stored_at (U8 ∷ []) m at xs) (at + 1 * length xs) (last_bytes n kept)) a
-    ∙ ap (λ n. put_at (stored_at (U8 ∷ []) m at xs) (at + n) (last_bytes (left - length xs) kept)) c
-    ∙ placed_bytes m kept at left xs k h g (omega (arith, b, j)) ∙ ap (λ n. stored_at (U8 ∷ []) (put_at m at (last_bytes n kept)) at xs) (sym b)) f i
+    ap (λ n. put_at (stored_at byte_type m at xs) (at + 1 * length xs) (last_bytes n kept)) a
+    ∙ ap (λ n. put_at (stored_at byte_type m at xs) (at + n) (last_bytes (left - length xs) kept)) c
+    ∙ placed_bytes m kept at left xs k h g (omega (arith, b, j)) ∙ ap (λ n. stored_at byte_type (put_at m at (last_bytes n kept)) at xs) (sym b)) f i
 
 -- the bytes behind more items
-behind_more : (ss : List Scalar) (m : List ℕ) (at rest : ℕ) (xs : List Item) → let k = item_size ss * length xs in
+behind_more : (ss : ItemType) (m : List ℕ) (at rest : ℕ) (xs : List Item) → let k = item_size ss * length xs in
     at + k ≤ length m → take rest (drop (at + k) (stored_at ss m at xs)) ≡ drop k (take (k + rest) (drop at m))
 behind_more ss m at rest xs h =
     let k = item_size ss * length xs in
@@ -122,19 +118,19 @@ rest_less payload kept left less h (inl e) = inl e
 rest_less payload kept left less h (inr (u, k)) = inr (u, omega (arith, h, k))
 
 -- between host ends no room is stated
-pub none_between : (ss : List Scalar) (bytes kept : List ℕ) (address marked : ℕ) (room : Option ℕ) → place_kept ss bytes kept address room marked ≡ Between → room ≡ None
+pub none_between : (ss : ItemType) (bytes kept : List ℕ) (address marked : ℕ) (room : Option ℕ) → place_kept ss bytes kept address room marked ≡ Between → room ≡ None
 none_between ss bytes kept address marked None e = refl
 none_between ss bytes kept address marked (Some r) e = cc
 
 module _ (payload : Payload) (bytes kept : List ℕ) (space address marked : ℕ) (prepared : Bool) where
   -- where the next item goes
   abbrev next_place : ℕ
-  next_place = address + item_size (scalars_of payload) * marked
+  next_place = address + item_size (item_type payload) * marked
 
   -- items behind the marked ones are inside the memory
-  pub put_inside : (r at k : ℕ) → IsWindow payload bytes kept space address (Some r) marked prepared → marked + k ≤ r → at ≡ next_place → at + item_size (scalars_of payload) * k ≤ length bytes
+  pub put_inside : (r at k : ℕ) → IsWindow payload bytes kept space address (Some r) marked prepared → marked + k ≤ r → at ≡ next_place → at + item_size (item_type payload) * k ≤ length bytes
   put_inside r at k w h e =
-      let n = item_size (scalars_of payload) in
+      let n = item_size (item_type payload) in
       let sizes : n * (marked + k) ≡ n * marked + n * k = grind arith in
       omega (arith, e, sizes, mul-le-mul_left n h, w.inside.1)
 
@@ -142,10 +138,10 @@ module _ (payload : Payload) (bytes kept : List ℕ) (space address marked : ℕ
   abbrev MarksMore : Option ℕ → List ℕ → List Item → Type 0
   MarksMore room new xs = Kept payload new kept space address room (marked + length xs) prepared (with_items (window_kept payload bytes kept address room marked prepared) xs)
 
-  pub put_memory : (r at : ℕ) (new : List ℕ) (xs : List Item) → IsWindow payload bytes kept space address (Some r) marked prepared → AreItems (scalars_of payload) xs → marked + length xs ≤ r → at ≡ next_place
-      → new ≡ stored_at (scalars_of payload) bytes at xs → MarksMore (Some r) new xs
+  pub put_memory : (r at : ℕ) (new : List ℕ) (xs : List Item) → IsWindow payload bytes kept space address (Some r) marked prepared → AreItems (item_type payload) xs → marked + length xs ≤ r → at ≡ next_place
+      → new ≡ stored_at (item_type payload) bytes at xs → MarksMore (Some r) new xs
   put_memory r given new xs win f h e s =
-      let ss = scalars_of payload in
+      let ss = item_type payload in
       let w = item_size ss in
       let k = length xs in
       let at = address + w * marked in
@@ -179,13 +175,13 @@ module _ (payload : Payload) (bytes kept : List ℕ) (space address marked : ℕ
 
   -- the bytes cut off at a place, with so many behind it that were 0, and these items there
   abbrev put_past : ℕ → ℕ → List Item → List ℕ
-  put_past at zeros xs = stored_past (scalars_of payload) bytes at zeros xs
+  put_past at zeros xs = stored_past (item_type payload) bytes at zeros xs
 
-  pub put_between : (at zeros : ℕ) (xs : List Item) → IsWindow payload bytes kept space address None marked prepared → AreItems (scalars_of payload) xs → marked + length xs < 4294967295 → at ≡ next_place → zeros ≡ item_size (scalars_of payload) * length xs
+  pub put_between : (at zeros : ℕ) (xs : List Item) → IsWindow payload bytes kept space address None marked prepared → AreItems (item_type payload) xs → marked + length xs < 4294967295 → at ≡ next_place → zeros ≡ item_size (item_type payload) * length xs
       → MarksMore None (put_past at zeros xs) xs
   put_between at zeros xs w f h e z =
       let new = put_past at zeros xs in
-      let ss = scalars_of payload in
+      let ss = item_type payload in
       let k = length xs in
       let p = pushed ss bytes new address marked at zeros xs w.lie f e (omega (arith, e, w.lie.within)) z refl in
       let none : drop (item_size ss * (marked + k)) new ≡ [] = drop_all (item_size ss * (marked + k)) new (omega (arith, p.all, w.inside.0)) in
@@ -197,13 +193,13 @@ module _ (payload : Payload) (bytes kept : List ℕ) (space address marked : ℕ
 
   -- room for more, of the window that is kept so
   room_memory : (r k : ℕ) (v : Lent) → IsWindow payload bytes kept space address (Some r) marked prepared → window_kept payload bytes kept address (Some r) marked prepared ≡ v → HasRoom v.place (length v.marked) k → marked + k ≤ r
-  room_memory r k v w e h = rw (← e, length-items_in (scalars_of payload) bytes address marked w.lie) at h
+  room_memory r k v w e h = rw (← e, length-items_in (item_type payload) bytes address marked w.lie) at h
 
   room_between : (k : ℕ) (v : Lent) → IsWindow payload bytes kept space address None marked prepared → window_kept payload bytes kept address None marked prepared ≡ v → HasRoom v.place (length v.marked) k → marked + k < 4294967295
-  room_between k v w e h = rw (← e, length-items_in (scalars_of payload) bytes address marked w.lie) at h
+  room_between k v w e h = rw (← e, length-items_in (item_type payload) bytes address marked w.lie) at h
 
   -- room for what is marked
-  pub room_kept : (room : Option ℕ) → IsRoom payload bytes kept address room marked prepared → HasRoom (place_kept (scalars_of payload) bytes kept address room marked) marked 0
+  pub room_kept : (room : Option ℕ) → IsRoom payload bytes kept address room marked prepared → HasRoom (place_kept (item_type payload) bytes kept address room marked) marked 0
   room_kept None i = omega (arith, i.1)
   room_kept (Some r) i = omega (arith, i.0)
 
@@ -212,29 +208,29 @@ module _ (payload : Payload) (bytes kept : List ℕ) (space address marked : ℕ
     abbrev AreMarked : List ℕ → Type 0
     AreMarked new = Kept payload new kept space address room (marked + length xs) prepared (with_items v xs)
 
-    put_some : (r : ℕ) (new : List ℕ) → room ≡ Some r → AreItems (scalars_of v.payload) xs
-        → new ≡ stored_at (scalars_of payload) bytes at xs → AreMarked new
+    put_some : (r : ℕ) (new : List ℕ) → room ≡ Some r → AreItems (item_type v.payload) xs
+        → new ≡ stored_at (item_type payload) bytes at xs → AreMarked new
     put_some r new o f s =
         let w' = subst (λ (q : Option ℕ). IsWindow payload bytes kept space address q marked prepared) o w in
         let e' = subst (λ (q : Option ℕ). window_kept payload bytes kept address q marked prepared ≡ v) o e in
-        let f' = subst (λ (u : Lent). AreItems (scalars_of u.payload) xs) (sym e) f in
+        let f' = subst (λ (u : Lent). AreItems (item_type u.payload) xs) (sym e) f in
         let k = put_memory r at new xs w' f' (room_memory r (length xs) v w' e' h) n s in
         subst (λ (q : Option ℕ). Kept payload new kept space address q (marked + length xs) prepared (with_items v xs)) (sym o)
         (record { is_window = k.is_window; is = k.is ∙ ap (λ (u : Lent). with_items u xs) e' })
 
-    put_none : (zeros : ℕ) (new : List ℕ) → room ≡ None → AreItems (scalars_of v.payload) xs → zeros ≡ item_size (scalars_of payload) * length xs
+    put_none : (zeros : ℕ) (new : List ℕ) → room ≡ None → AreItems (item_type v.payload) xs → zeros ≡ item_size (item_type payload) * length xs
         → new ≡ put_past at zeros xs → AreMarked new
     put_none zeros new o f z s =
         let w' = subst (λ (q : Option ℕ). IsWindow payload bytes kept space address q marked prepared) o w in
         let e' = subst (λ (q : Option ℕ). window_kept payload bytes kept address q marked prepared ≡ v) o e in
-        let f' = subst (λ (u : Lent). AreItems (scalars_of u.payload) xs) (sym e) f in
+        let f' = subst (λ (u : Lent). AreItems (item_type u.payload) xs) (sym e) f in
         let k = subst (λ b. MarksMore None b xs) (sym s) (put_between at zeros xs w' f' (room_between (length xs) v w' e' h) n z) in
         subst (λ (q : Option ℕ). Kept payload new kept space address q (marked + length xs) prepared (with_items v xs)) (sym o)
         (record { is_window = k.is_window; is = k.is ∙ ap (λ (u : Lent). with_items u xs) e' })
 
     -- whichever its room, with space for them
-    pub put_any : (q : Option ℕ) (zeros : ℕ) (new : List ℕ) → room ≡ q → AreItems (scalars_of v.payload) xs → zeros ≡ item_size (scalars_of payload) * length xs
-        → new ≡ stored_at (scalars_of payload) (with_space q bytes at zeros) at xs → AreMarked new
+    pub put_any : (q : Option ℕ) (zeros : ℕ) (new : List ℕ) → room ≡ q → AreItems (item_type v.payload) xs → zeros ≡ item_size (item_type payload) * length xs
+        → new ≡ stored_at (item_type payload) (with_space q bytes at zeros) at xs → AreMarked new
     put_any None made new o f z s = put_none made new o f z s
     put_any (Some r) made new o f z s = put_some r new o f s
 
@@ -247,7 +243,7 @@ module _ (payload : Payload) (bytes kept : List ℕ) (space address marked : ℕ
     kept_of q o = subst (λ (q : Option ℕ). window_kept payload bytes kept address q marked prepared ≡ v) o e
 
     -- where they go, and that the marked ones can be counted
-    some_inside : (at : ℕ) → at ≡ next_place → (r : ℕ) → room ≡ Some r → (marked + k < 4294967296) × (at + item_size (scalars_of payload) * k ≤ length bytes)
+    some_inside : (at : ℕ) → at ≡ next_place → (r : ℕ) → room ≡ Some r → (marked + k < 4294967296) × (at + item_size (item_type payload) * k ≤ length bytes)
     some_inside at n r o =
         let r' = room_memory r k v (window_of (Some r) o) (kept_of (Some r) o) h in
         (omega (arith, r', (window_of (Some r) o).inside.2), put_inside r at k (window_of (Some r) o) r' n)
@@ -256,7 +252,7 @@ module _ (payload : Payload) (bytes kept : List ℕ) (space address marked : ℕ
     none_counted o = room_between k v (window_of None o) (kept_of None o) h
 
     -- and the same with space for them
-    pub any_inside : (at zeros : ℕ) (q : Option ℕ) → at ≡ next_place → zeros ≡ item_size (scalars_of payload) * k → room ≡ q → (marked + k < 4294967296) × (at + zeros ≤ length (with_space q bytes at zeros))
+    pub any_inside : (at zeros : ℕ) (q : Option ℕ) → at ≡ next_place → zeros ≡ item_size (item_type payload) * k → room ≡ q → (marked + k < 4294967296) × (at + zeros ≤ length (with_space q bytes at zeros))
     any_inside at made None n z o =
         let before = length-take-le at bytes (omega (arith, n, w.lie.within)) in
         (omega (arith, none_counted o), omega (arith, before, length-append (take at bytes) (replicate made 0), length-replicate {A = ℕ} made 0))
@@ -265,37 +261,37 @@ module _ (payload : Payload) (bytes kept : List ℕ) (space address marked : ℕ
   -- the items with which a source begins, all at once
   module _ (room : Option ℕ) (w : IsWindow payload bytes kept space address room marked prepared) (source : List ℕ) (count at : ℕ) (n : at ≡ next_place) where
     abbrev MarksAll : List ℕ → Lent → Type 0
-    MarksAll new v = Kept payload new kept space address room (marked + count) prepared (with_items v (items_in (scalars_of v.payload) source 0 count))
+    MarksAll new v = Kept payload new kept space address room (marked + count) prepared (with_items v (items_in (item_type v.payload) source 0 count))
 
     -- the items with which the source begins, and that a window is of their payload and has room for them
     abbrev first : List Item
-    first = items_in (scalars_of payload) source 0 count
+    first = items_in (item_type payload) source 0 count
 
     abbrev MayMark : Lent → Type 0
-    MayMark v = LieIn (scalars_of v.payload) source 0 count × HasRoom v.place (length v.marked) count
+    MayMark v = LieIn (item_type v.payload) source 0 count × HasRoom v.place (length v.marked) count
 
-    counted : (v : Lent) → LieIn (scalars_of v.payload) source 0 count → HasRoom v.place (length v.marked) count → HasRoom v.place (length v.marked) (length (items_in (scalars_of v.payload) source 0 count))
-    counted v l h = subst (HasRoom v.place (length v.marked)) (sym (length-items_in (scalars_of v.payload) source 0 count l)) h
+    counted : (v : Lent) → LieIn (item_type v.payload) source 0 count → HasRoom v.place (length v.marked) count → HasRoom v.place (length v.marked) (length (items_in (item_type v.payload) source 0 count))
+    counted v l h = subst (HasRoom v.place (length v.marked)) (sym (length-items_in (item_type v.payload) source 0 count l)) h
 
-    all_some : (v : Lent) → window_kept payload bytes kept address room marked prepared ≡ v → MayMark v → (r : ℕ) (new : List ℕ) → room ≡ Some r → new ≡ stored_at (scalars_of payload) bytes at first → MarksAll new v
+    all_some : (v : Lent) → window_kept payload bytes kept address room marked prepared ≡ v → MayMark v → (r : ℕ) (new : List ℕ) → room ≡ Some r → new ≡ stored_at (item_type payload) bytes at first → MarksAll new v
     all_some v e m r new o s =
         let u = window_kept payload bytes kept address room marked prepared in
         let m' = subst MayMark (sym e) m in
         let l' = m'.0 in
         let h' = m'.1 in
-        let k = put_some room u w refl (items_in (scalars_of payload) source 0 count) (counted u l' h') at n r new o l'.fit s in
-        subst (MarksAll new) e (subst (λ j. Kept payload new kept space address room (marked + j) prepared (with_items u (items_in (scalars_of payload) source 0 count))) (length-items_in (scalars_of payload) source 0 count l') k)
+        let k = put_some room u w refl (items_in (item_type payload) source 0 count) (counted u l' h') at n r new o l'.fit s in
+        subst (MarksAll new) e (subst (λ j. Kept payload new kept space address room (marked + j) prepared (with_items u (items_in (item_type payload) source 0 count))) (length-items_in (item_type payload) source 0 count l') k)
 
-    all_none : (v : Lent) → window_kept payload bytes kept address room marked prepared ≡ v → MayMark v → (new : List ℕ) → room ≡ None → new ≡ put_past at (item_size (scalars_of payload) * count) first → MarksAll new v
+    all_none : (v : Lent) → window_kept payload bytes kept address room marked prepared ≡ v → MayMark v → (new : List ℕ) → room ≡ None → new ≡ put_past at (item_size (item_type payload) * count) first → MarksAll new v
     all_none v e m new o s =
         let u = window_kept payload bytes kept address room marked prepared in
         let m' = subst MayMark (sym e) m in
         let l' = m'.0 in
         let h' = m'.1 in
-        let size = length-items_in (scalars_of payload) source 0 count l' in
-        let k = put_none room u w refl (items_in (scalars_of payload) source 0 count) (counted u l' h') at n (item_size (scalars_of payload) * count) new o l'.fit (ap (λ j. item_size (scalars_of payload) * j) (sym size)) s in
-        subst (MarksAll new) e (subst (λ j. Kept payload new kept space address room (marked + j) prepared (with_items u (items_in (scalars_of payload) source 0 count))) size k)
+        let size = length-items_in (item_type payload) source 0 count l' in
+        let k = put_none room u w refl (items_in (item_type payload) source 0 count) (counted u l' h') at n (item_size (item_type payload) * count) new o l'.fit (ap (λ j. item_size (item_type payload) * j) (sym size)) s in
+        subst (MarksAll new) e (subst (λ j. Kept payload new kept space address room (marked + j) prepared (with_items u (items_in (item_type payload) source 0 count))) size k)
 
-    pub all_any : (v : Lent) → window_kept payload bytes kept address room marked prepared ≡ v → MayMark v → (q : Option ℕ) (new : List ℕ) → room ≡ q → new ≡ stored_at (scalars_of payload) (with_space q bytes at (item_size (scalars_of payload) * count)) at first → MarksAll new v
+    pub all_any : (v : Lent) → window_kept payload bytes kept address room marked prepared ≡ v → MayMark v → (q : Option ℕ) (new : List ℕ) → room ≡ q → new ≡ stored_at (item_type payload) (with_space q bytes at (item_size (item_type payload) * count)) at first → MarksAll new v
     all_any v e m None new o s = all_none v e m new o s
     all_any v e m (Some r) new o s = all_some v e m r new o s

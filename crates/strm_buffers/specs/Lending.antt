@@ -2,7 +2,8 @@
 use Rattle.std.specs.Prelude.{ℕ, ◌+◌, ◌*◌, List, [], ◌++◌, length, take, drop}
 use Rattle.std.specs.List.{refill}
 use Rattle.std.specs.Borrow.{Lends, MutBor, Fml, Array, u8}
-use Rattle.strm_codes.specs.Layout.{scalars_of, item_size}
+use Rattle.strm_codes.specs.Layout.{item_type}
+use Rattle.strm_codes.specs.ItemTypes.{item_size}
 use Rattle.strm_buffers.specs.Windows.{Lent, Place, Memory, Between}
 use Rattle.strm_buffers.specs.contracts.windows.Window.{the_row}
 
@@ -19,7 +20,7 @@ with_past Between from bytes = Between
 
 -- where the unmarked bytes of a window end, from its address on
 abbrev pub room_end : Lent → ℕ
-room_end w = item_size (scalars_of w.payload) * length w.marked + length w.unmarked
+room_end w = item_size (item_type w.payload) * length w.marked + length w.unmarked
 
 -- the unmarked bytes and all behind them, with these written over them from the front on
 abbrev pub written_over : Lent → List ℕ → List ℕ

@@ -5,9 +5,9 @@ use Rattle.strm_codes.specs.declared.codes.TransmitKind.{TransmitKind}
 use Rattle.strm_codes.specs.declared.codes.TransmitKind.TheVariants.{Stream}
 use Rattle.strm_codes.specs.declared.payloads.Payload.{Payload}
 use Rattle.strm_codes.specs.declared.payloads.Payload.TheVariants.{Nothing}
-use Rattle.strm_codes.specs.declared.scalars.Scalar.{Scalar}
 use Rattle.strm_codes.specs.Counters.{Rose}
-use Rattle.strm_codes.specs.Layout.{scalars_of}
+use Rattle.strm_codes.specs.Layout.{item_type}
+use Rattle.strm_codes.specs.ItemTypes.{ItemType}
 use Rattle.strm_memory.specs.Items.{AreItems}
 use Rattle.strm_buffers.specs.declared.answers.Answer.{Answer}
 use Rattle.strm_buffers.specs.declared.answers.Answer.TheVariants.{Failed}
@@ -47,7 +47,7 @@ pub record ReaderTells : Type 0 where
 
 -- what a host writer holds are items of its payload
 abbrev pub HoldsItems : WriterTells → Type 0
-HoldsItems tells = AreItems (scalars_of tells.payload) tells.holds
+HoldsItems tells = AreItems (item_type tells.payload) tells.holds
 
 -- what all host ends tell, by their numbers
 pub record Tells : Type 0 where
@@ -104,7 +104,7 @@ RisesOnFailed answer old new = old ≤ new
 -- a poll that adds this record: what it had room for is marked, the rest is held
 pub record PollsWriter (old new : WriterTells) (said : WriterSaid) (marked : List Item) : Type 0 where
   pub said_more : new.said ≡ old.said ++ said ∷ []
-  pub fits : AreItems (scalars_of old.payload) said.items
+  pub fits : AreItems (item_type old.payload) said.items
   pub marks : marked ≡ in_room said.room said.items
   pub holds : new.holds ≡ past_room said.room said.items
   pub faults : RisesOnFailed said.answer old.faults new.faults
@@ -116,7 +116,7 @@ pub record PollsWriter (old new : WriterTells) (said : WriterSaid) (marked : Lis
 -- what a call may do to a window: it is the one that was lent, with more marked
 pub record Fills (old new : Lent) : Type 0 where
   pub payload : new.payload ≡ old.payload
-  pub place : new.place ≡ stored_in (scalars_of old.payload) old.place (length old.marked) (drop (length old.marked) new.marked)
+  pub place : new.place ≡ stored_in (item_type old.payload) old.place (length old.marked) (drop (length old.marked) new.marked)
   pub marked : take (length old.marked) new.marked ≡ old.marked
   pub prepared : new.prepared ≡ old.prepared
   pub base : new.base ≡ old.base
@@ -162,7 +162,7 @@ pub record SameOffer (old new : Offered) : Type 0 where
   pub since : new.since ≡ old.since
 
 -- the first so many items that were lent
-abbrev pub first_lent : List Scalar → Source → ℕ → List Item
+abbrev pub first_lent : ItemType → Source → ℕ → List Item
 first_lent ss (Region memory address count) taken = items_in ss memory.bytes address taken
 first_lent ss (Listed items) taken = take taken items.items
 

@@ -1,8 +1,8 @@
 -- What a window is to its calls: where marked items go, which those are, and the bytes behind them.
 -- Ours: wasmtime lends a reader's bytes by references into its store.
 use Rattle.std.specs.Prelude.{◌≡◌, ℕ, ◌+◌, ◌-◌, ◌*◌, ◌<◌, ◌≤◌, ◌⊎◌, Bool, true, false, List, [], ◌++◌, length, take, drop, replicate, Option, Some, None}
-use Rattle.strm_codes.specs.Layout.{scalars_of, item_size}
-use Rattle.strm_codes.specs.declared.scalars.Scalar.{Scalar}
+use Rattle.strm_codes.specs.Layout.{item_type}
+use Rattle.strm_codes.specs.ItemTypes.{item_size, ItemType}
 use Rattle.strm_codes.specs.declared.scalars.Scalar.TheVariants.{U8}
 use Rattle.strm_codes.specs.declared.payloads.Payload.{Payload}
 use Rattle.strm_codes.specs.declared.payloads.Payload.TheVariants.{One}
@@ -35,7 +35,7 @@ lent_memory payload memory address room =
       payload = payload;
       place = Memory memory.bytes address room;
       marked = [];
-      unmarked = bytes_at memory.bytes address (item_size (scalars_of payload) * room);
+      unmarked = bytes_at memory.bytes address (item_size (item_type payload) * room);
       prepared = false;
       base = memory.base;
     }
@@ -66,7 +66,7 @@ IsBehind (Memory memory address room) marked count = marked + count ≡ room
 IsBehind Between marked count = marked + count < 4294967295
 
 -- the place with these items behind so many
-abbrev pub stored_in : List Scalar → Place → ℕ → List Item → Place
+abbrev pub stored_in : ItemType → Place → ℕ → List Item → Place
 stored_in ss (Memory memory address room) marked items =
     Memory (stored_at ss memory (address + item_size ss * marked) items) address room
 stored_in ss Between marked items = Between
@@ -83,11 +83,11 @@ given_back w = record { bytes = memory_of w.place; base = w.base }
 -- the room lies in the memory; between host ends nothing is to be prepared
 abbrev pub IsSoundPlace : Payload → Place → Bool → Type 0
 IsSoundPlace payload (Memory memory address room) prepared =
-    (address + item_size (scalars_of payload) * room ≤ length memory) × (room < 4294967296)
+    (address + item_size (item_type payload) * room ≤ length memory) × (room < 4294967296)
 IsSoundPlace payload Between prepared = prepared ≡ true
 
 -- the memory as it stands, behind so many marked items with these bytes
-abbrev pub standing : List Scalar → Place → ℕ → List ℕ → List ℕ
+abbrev pub standing : ItemType → Place → ℕ → List ℕ → List ℕ
 standing ss (Memory memory address room) marked unmarked =
     put_at memory (address + item_size ss * marked) unmarked
 standing ss Between marked unmarked = unmarked
@@ -101,9 +101,9 @@ behind_put Between size unmarked = []
 abbrev pub with_items : Lent → List Item → Lent
 with_items w items =
     record w {
-      place = stored_in (scalars_of w.payload) w.place (length w.marked) items;
+      place = stored_in (item_type w.payload) w.place (length w.marked) items;
       marked = w.marked ++ items;
-      unmarked = behind_put w.place (item_size (scalars_of w.payload) * length items) w.unmarked;
+      unmarked = behind_put w.place (item_size (item_type w.payload) * length items) w.unmarked;
     }
 
 -- the first so many of the unmarked bytes are marked as they stand
@@ -111,7 +111,7 @@ abbrev pub with_marked : Lent → ℕ → Lent
 with_marked w count =
     let bytes = take count w.unmarked in
     record w {
-      place = stored_in (scalars_of w.payload) w.place (length w.marked) (byte_items bytes);
+      place = stored_in (item_type w.payload) w.place (length w.marked) (byte_items bytes);
       marked = w.marked ++ byte_items bytes;
       unmarked = drop count w.unmarked;
     }
@@ -131,13 +131,13 @@ last_bytes n bytes = drop (length bytes - n) bytes
 
 -- how a place is kept: all bytes, the address and the room, and the last bytes of the room as they
 -- were lent, once they may have been written to; between host ends nothing
-abbrev pub place_kept : List Scalar → List ℕ → List ℕ → ℕ → Option ℕ → ℕ → Place
+abbrev pub place_kept : ItemType → List ℕ → List ℕ → ℕ → Option ℕ → ℕ → Place
 place_kept ss bytes kept address None marked = Between
 place_kept ss bytes kept address (Some room) marked =
     Memory (put_at bytes (address + item_size ss * marked) (last_bytes (item_size ss * (room - marked)) kept)) address room
 
 -- the bytes behind the marked items, of the room or of all
-abbrev pub unmarked_kept : List Scalar → List ℕ → ℕ → Option ℕ → ℕ → List ℕ
+abbrev pub unmarked_kept : ItemType → List ℕ → ℕ → Option ℕ → ℕ → List ℕ
 unmarked_kept ss bytes address None marked = drop (item_size ss * marked) bytes
 unmarked_kept ss bytes address (Some room) marked =
     bytes_at bytes (address + item_size ss * marked) (item_size ss * (room - marked))
@@ -147,9 +147,9 @@ abbrev pub window_kept : Payload → List ℕ → List ℕ → ℕ → Option �
 window_kept payload bytes kept address room marked prepared =
     record {
       payload = payload;
-      place = place_kept (scalars_of payload) bytes kept address room marked;
-      marked = items_in (scalars_of payload) bytes address marked;
-      unmarked = unmarked_kept (scalars_of payload) bytes address room marked;
+      place = place_kept (item_type payload) bytes kept address room marked;
+      marked = items_in (item_type payload) bytes address marked;
+      unmarked = unmarked_kept (item_type payload) bytes address room marked;
       prepared = prepared;
       base = None;
     }
@@ -170,9 +170,9 @@ KeepsRest payload kept left = (kept ≡ []) ⊎ ((payload ≡ One U8) × (left �
 -- address, nothing is kept or to be prepared, and all bytes can be counted
 abbrev pub IsRoom : Payload → List ℕ → List ℕ → ℕ → Option ℕ → ℕ → Bool → Type 0
 IsRoom payload bytes kept address (Some room) marked prepared =
-    (marked ≤ room) × (address + item_size (scalars_of payload) * room ≤ length bytes) × (room < 4294967296) × KeepsRest payload kept (room - marked)
+    (marked ≤ room) × (address + item_size (item_type payload) * room ≤ length bytes) × (room < 4294967296) × KeepsRest payload kept (room - marked)
 IsRoom payload bytes kept address None marked prepared =
-    (address ≡ 0) × (marked + (length bytes - item_size (scalars_of payload) * marked) < 4294967295) × (prepared ≡ true) × (kept ≡ [])
+    (address ≡ 0) × (marked + (length bytes - item_size (item_type payload) * marked) < 4294967295) × (prepared ≡ true) × (kept ≡ [])
 
 -- how many bytes may have to be kept
 abbrev pub to_keep : Option ℕ → ℕ
@@ -181,6 +181,6 @@ to_keep (Some room) = room
 
 -- a window that is kept so is one, with so much space for the bytes that it may have to keep
 pub record IsWindow (payload : Payload) (bytes kept : List ℕ) (space address : ℕ) (room : Option ℕ) (marked : ℕ) (prepared : Bool) : Type 0 where
-  pub lie : LieIn (scalars_of payload) bytes address marked
+  pub lie : LieIn (item_type payload) bytes address marked
   pub inside : IsRoom payload bytes kept address room marked prepared
   pub enough : prepared ≡ true → payload ≡ One U8 → to_keep room ≤ space

@@ -3,8 +3,9 @@
 //! Source: ours.
 
 ghost use Rattle.std.specs.Prelude.{◌≡◌, ◌+◌, ◌^◌, ◌<◌, ◌≤◌, [], ◌∷◌, ◌++◌, length, take, drop, replicate, IfOk, IfErr, OnOk, OnErr};
-ghost use Rattle.strm_codes.specs.Layout.{scalars_of, item_size};
-ghost use Rattle.strm_codes.specs.Items.{FitsItem};
+ghost use Rattle.strm_codes.specs.Layout.{item_type};
+ghost use Rattle.strm_codes.specs.ItemTypes.{item_size};
+ghost use Rattle.strm_codes.specs.Begins.{FitsItem};
 ghost use Rattle.strm_memory.specs.Items.{stored_at};
 ghost use Rattle.strm_buffers.specs.Holding.{bytes_held};
 
@@ -118,10 +119,10 @@ impl ItemBytes {
         item: &Value,
         payload: Payload,
     ) -> Result<(), OutOfMemory>
-        requires fits { FitsItem (scalars_of payload) item.now }
+        requires fits { FitsItem (item_type payload) item.now }
         requires inside { at ≤ length self.old }
-        ensures ok { OnOk result (self.new ≡ stored_at (scalars_of payload)
-            (take at self.old ++ replicate (item_size (scalars_of payload)) 0) at (item.now ∷ [])) }
+        ensures ok { OnOk result (self.new ≡ stored_at (item_type payload)
+            (take at self.old ++ replicate (item_size (item_type payload)) 0) at (item.now ∷ [])) }
         ensures err { OnErr result (self.new ≡ self.old) }
     {
         let (held, done) = with_item(self.alloc, self.take_held(), at, item, payload);
@@ -217,10 +218,10 @@ fn with_item(
     item: &Value,
     payload: Payload,
 ) -> (Held, Result<(), OutOfMemory>)
-    requires fits { FitsItem (scalars_of payload) item.now }
+    requires fits { FitsItem (item_type payload) item.now }
     requires inside { at ≤ length (bytes_held held) }
-    ensures ok { OnOk result.1 (bytes_held result.0 ≡ stored_at (scalars_of payload)
-        (take at (bytes_held held) ++ replicate (item_size (scalars_of payload)) 0) at
+    ensures ok { OnOk result.1 (bytes_held result.0 ≡ stored_at (item_type payload)
+        (take at (bytes_held held) ++ replicate (item_size (item_type payload)) 0) at
         (item.now ∷ [])) }
     ensures err { OnErr result.1 (bytes_held result.0 ≡ bytes_held held) }
 {

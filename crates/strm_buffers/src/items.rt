@@ -3,8 +3,9 @@
 //! Source: ours. Layout: Canonical ABI, "Loading" and "Storing".
 
 ghost use Rattle.std.specs.Prelude.{◌≡◌, ◌+◌, ◌*◌, ◌^◌, ◌<◌, ◌≤◌, [], ◌∷◌, ◌++◌, length, take, drop, map, replicate, slice_get, Some, None, IsOk, IfOk, OnOk, OnErr};
-ghost use Rattle.strm_codes.specs.Layout.{scalars_of, item_size};
-ghost use Rattle.strm_codes.specs.Items.{FitsItem};
+ghost use Rattle.strm_codes.specs.Layout.{item_type};
+ghost use Rattle.strm_codes.specs.ItemTypes.{item_size};
+ghost use Rattle.strm_codes.specs.Begins.{FitsItem};
 ghost use Rattle.strm_codes.specs.declared.payloads.Payload.TheVariants.{One};
 ghost use Rattle.strm_codes.specs.declared.scalars.Scalar.TheVariants.{U8};
 ghost use Rattle.strm_memory.specs.Linear.{with_contents};
@@ -117,11 +118,11 @@ impl Items {
 
     // The bytes of the items.
     pub(crate) fn bytes(&self) -> &[u8]
-        ensures lie { LieIn (scalars_of self.now.payload) result.now 0 (length self.now.items) }
-        ensures items { items_in (scalars_of self.now.payload) result.now 0 (length self.now.items)
+        ensures lie { LieIn (item_type self.now.payload) result.now 0 (length self.now.items) }
+        ensures items { items_in (item_type self.now.payload) result.now 0 (length self.now.items)
             ≡ self.now.items }
         ensures all { length result.now
-            ≡ item_size (scalars_of self.now.payload) * length self.now.items }
+            ≡ item_size (item_type self.now.payload) * length self.now.items }
     {
         self.bytes.as_slice().split_at(self.start).1
     }
@@ -129,10 +130,10 @@ impl Items {
     // The bytes of so many items from a place on.
     pub(crate) fn bytes_of(&self, start: usize, count: usize) -> &[u8]
         requires { start + count ≤ length self.now.items }
-        ensures lie { LieIn (scalars_of self.now.payload) result.now 0 count }
-        ensures items { items_in (scalars_of self.now.payload) result.now 0 count
+        ensures lie { LieIn (item_type self.now.payload) result.now 0 count }
+        ensures items { items_in (item_type self.now.payload) result.now 0 count
             ≡ take count (drop start self.now.items) }
-        ensures all { length result.now ≡ item_size (scalars_of self.now.payload) * count }
+        ensures all { length result.now ≡ item_size (item_type self.now.payload) * count }
     {
         let size = self.payload.size() as usize;
         let (_, behind) = self.bytes().split_at(size * start);
@@ -148,7 +149,7 @@ impl Items {
 
     /// Each fits the payload: what a caller may have to know of them. It does nothing.
     pub fn sound(&self)
-        ensures { AreItems (scalars_of self.now.payload) self.now.items }
+        ensures { AreItems (item_type self.now.payload) self.now.items }
     {
         let _ = &self.bytes;
     }
@@ -165,7 +166,7 @@ impl Items {
     pub fn get(&self, index: usize) -> Value
         requires { index < length self.now.items }
         ensures exact { slice_get self.now.items index ≡ Some result }
-        ensures fits { FitsItem (scalars_of self.now.payload) result }
+        ensures fits { FitsItem (item_type self.now.payload) result }
     {
         let mut item = Value::empty();
         self.get_into(index, &mut item);
@@ -177,7 +178,7 @@ impl Items {
         requires inside { index < length self.now.items }
         requires empty { item.old ≡ [] }
         ensures exact { slice_get self.now.items index ≡ Some item.new }
-        ensures fits { FitsItem (scalars_of self.now.payload) item.new }
+        ensures fits { FitsItem (item_type self.now.payload) item.new }
     {
         let size = self.payload.size() as usize;
         if !lift_item_into(
@@ -192,7 +193,7 @@ impl Items {
 
     /// Adds an item behind the others. After `OutOfMemory` nothing has changed.
     pub fn push(&mut self, item: &Value) -> Result<(), OutOfMemory>
-        requires fits { FitsItem (scalars_of self.old.payload) item.now }
+        requires fits { FitsItem (item_type self.old.payload) item.now }
         requires few { length self.old.items + 1 < 4294967295 }
         ensures payload { self.new.payload ≡ self.old.payload }
         ensures ok { OnOk result (self.new.items ≡ self.old.items ++ item.now ∷ []) }
@@ -233,9 +234,9 @@ impl Items {
     /// Writes the items over bytes from their front on, one behind the other, all at once. Padding stays as
     /// it was. Takes no memory.
     pub fn write_over(&self, bytes: &mut [u8])
-        requires { item_size (scalars_of self.now.payload) * length self.now.items
+        requires { item_size (item_type self.now.payload) * length self.now.items
             ≤ length bytes.old }
-        ensures { bytes.new ≡ stored (scalars_of self.now.payload) bytes.old self.now.items }
+        ensures { bytes.new ≡ stored (item_type self.now.payload) bytes.old self.now.items }
     {
         write_from(self.bytes(), bytes, self.payload(), self.len());
     }
@@ -255,8 +256,8 @@ impl Items {
 
 // Where the item of this number lies, from 0, behind those before it.
 pub(crate) fn item_place(address: usize, payload: Payload, index: u32) -> usize
-    requires { address + item_size (scalars_of payload) * index < 2 ^ 64 }
-    ensures { result ≡ address + item_size (scalars_of payload) * index }
+    requires { address + item_size (item_type payload) * index < 2 ^ 64 }
+    ensures { result ≡ address + item_size (item_type payload) * index }
 {
     address + payload.size() as usize * index as usize
 }
@@ -268,10 +269,10 @@ pub(crate) fn append_item(
     item: &Value,
     payload: Payload,
 ) -> Result<(), OutOfMemory>
-    requires fits { FitsItem (scalars_of payload) item.now }
+    requires fits { FitsItem (item_type payload) item.now }
     requires inside { at ≤ length bytes.old.items }
-    ensures ok { OnOk result (bytes.new.items ≡ stored_at (scalars_of payload)
-        (take at bytes.old.items ++ replicate (item_size (scalars_of payload)) 0) at
+    ensures ok { OnOk result (bytes.new.items ≡ stored_at (item_type payload)
+        (take at bytes.old.items ++ replicate (item_size (item_type payload)) 0) at
         (item.now ∷ [])) }
     ensures err { OnErr result (bytes.new.items ≡ bytes.old.items) }
 {
@@ -294,7 +295,7 @@ pub(crate) fn make_space(
     requires inside { at ≤ length memory.old.bytes }
     requires untold { IsUntold room memory.old.base }
     ensures ok { OnOk result (memory.new ≡ with_contents memory.old
-        (with_space room memory.old.bytes at (item_size (scalars_of payload) * count))) }
+        (with_space room memory.old.bytes at (item_size (item_type payload) * count))) }
     ensures err { OnErr result (memory.new ≡ memory.old) }
     ensures out_of_memory { OnErr result (room ≡ None) }
 {
@@ -306,20 +307,20 @@ pub(crate) fn make_space(
 
 // Writes an item at a place.
 pub(crate) fn write_item(memory: &mut GuestMemory, at: usize, item: &Value, payload: Payload)
-    requires fits { FitsItem (scalars_of payload) item.now }
-    requires inside { at + item_size (scalars_of payload) ≤ length memory.old.bytes }
+    requires fits { FitsItem (item_type payload) item.now }
+    requires inside { at + item_size (item_type payload) ≤ length memory.old.bytes }
     ensures { memory.new ≡ with_contents memory.old
-        (stored_at (scalars_of payload) memory.old.bytes at (item.now ∷ [])) }
+        (stored_at (item_type payload) memory.old.bytes at (item.now ∷ [])) }
 {
     lower_item_at(item, payload, memory.bytes_mut(), at);
 }
 
 // Writes so many items with which a source begins over bytes from their front on.
 fn write_from(source: &[u8], bytes: &mut [u8], payload: Payload, count: usize)
-    requires lie { LieIn (scalars_of payload) source.now 0 count }
-    requires inside { item_size (scalars_of payload) * count ≤ length bytes.old }
-    ensures { bytes.new ≡ stored (scalars_of payload) bytes.old
-        (items_in (scalars_of payload) source.now 0 count) }
+    requires lie { LieIn (item_type payload) source.now 0 count }
+    requires inside { item_size (item_type payload) * count ≤ length bytes.old }
+    ensures { bytes.new ≡ stored (item_type payload) bytes.old
+        (items_in (item_type payload) source.now 0 count) }
 {
     match copy_region(source, 0, bytes, 0, payload, count) {
         Ok(()) => {}
@@ -335,10 +336,10 @@ pub(crate) fn write_items(
     payload: Payload,
     count: u32,
 )
-    requires lie { LieIn (scalars_of payload) source.now 0 count }
-    requires inside { at + item_size (scalars_of payload) * count ≤ length memory.old.bytes }
-    ensures { memory.new ≡ with_contents memory.old (stored_at (scalars_of payload)
-        memory.old.bytes at (items_in (scalars_of payload) source.now 0 count)) }
+    requires lie { LieIn (item_type payload) source.now 0 count }
+    requires inside { at + item_size (item_type payload) * count ≤ length memory.old.bytes }
+    ensures { memory.new ≡ with_contents memory.old (stored_at (item_type payload)
+        memory.old.bytes at (items_in (item_type payload) source.now 0 count)) }
 {
     match copy_region(source, 0, memory.bytes_mut(), at, payload, count as usize) {
         Ok(()) => {}
@@ -350,7 +351,7 @@ pub(crate) fn write_items(
 fn bytes_of_values<T: Payloaded>(alloc: Global, mut values: Vec<T>) -> Result<Vec<u8>, OutOfMemory>
     requires { length values.items < 4294967295 }
     ensures stored { IfOk result
-        (λ bytes. AreStored (scalars_of T.payload) bytes.items (map T.item values.items)) }
+        (λ bytes. AreStored (item_type T.payload) bytes.items (map T.item values.items)) }
     ensures bytes { T.payload ≡ One U8 → IsOk result }
 {
     match T::take_bytes(&mut values) {
@@ -366,7 +367,7 @@ fn bytes_of_values<T: Payloaded>(alloc: Global, mut values: Vec<T>) -> Result<Ve
 fn store_values<T: Payloaded>(alloc: Global, values: &[T]) -> Result<Vec<u8>, OutOfMemory>
     requires { length values.now < 4294967295 }
     ensures { IfOk result
-        (λ bytes. AreStored (scalars_of T.payload) bytes.items (map T.item values.now)) }
+        (λ bytes. AreStored (item_type T.payload) bytes.items (map T.item values.now)) }
 {
     let mut bytes = Vec::new(alloc);
     append_zeros(&mut bytes, 0, T::payload().size() as usize * values.len())?;

@@ -5,8 +5,9 @@
 
 ghost use Rattle.std.specs.Prelude.{◌≡◌, ◌+◌, ◌*◌, ◌-◌, ◌≤◌, min, [], length, false, None, IsTrue, IfSome};
 ghost use Rattle.std.specs.Bool.{then_some};
-ghost use Rattle.strm_codes.specs.Layout.{scalars_of, item_size};
-ghost use Rattle.strm_codes.specs.Items.{FitsItem};
+ghost use Rattle.strm_codes.specs.Layout.{item_type};
+ghost use Rattle.strm_codes.specs.ItemTypes.{item_size};
+ghost use Rattle.strm_codes.specs.Begins.{FitsItem};
 ghost use Rattle.strm_codes.specs.declared.payloads.Payload.TheVariants.{One};
 ghost use Rattle.strm_codes.specs.declared.scalars.Scalar.TheVariants.{U8};
 ghost use Rattle.strm_buffers.specs.declared.sources.Source.TheVariants.{Region, Listed};
@@ -55,7 +56,7 @@ impl Offer {
         remaining: u32,
         since: u32,
     ) -> Offer
-        requires { address + item_size (scalars_of payload) * remaining ≤ length memory.bytes }
+        requires { address + item_size (item_type payload) * remaining ≤ length memory.bytes }
         ensures { result ≡ record {
           payload = payload;
           source = Region memory address remaining;
@@ -155,7 +156,7 @@ impl Offer {
     /// Takes so many items more, without a look at them.
     pub(crate) fn pass(&mut self, count: u32)
         requires { self.old.taken + count
-            ≤ length (good_lent (scalars_of self.old.payload) self.old.source) }
+            ≤ length (good_lent (item_type self.old.payload) self.old.source) }
         ensures { self.new ≡ record self.old { taken = self.old.taken + count } }
     {
         self.taken = (self.taken as usize + count as usize) as u32;
@@ -182,11 +183,11 @@ impl Offer {
 
     /// The bytes of the items that were taken, one behind the other.
     pub fn taken_bytes(&self) -> &[u8]
-        ensures lie { LieIn (scalars_of self.now.payload) result.now 0 self.now.taken }
-        ensures items { items_in (scalars_of self.now.payload) result.now 0 self.now.taken
-            ≡ first_lent (scalars_of self.now.payload) self.now.source self.now.taken }
+        ensures lie { LieIn (item_type self.now.payload) result.now 0 self.now.taken }
+        ensures items { items_in (item_type self.now.payload) result.now 0 self.now.taken
+            ≡ first_lent (item_type self.now.payload) self.now.source self.now.taken }
         ensures all { length result.now
-            ≡ item_size (scalars_of self.now.payload) * self.now.taken }
+            ≡ item_size (item_type self.now.payload) * self.now.taken }
     {
         let taken = self.taken as usize;
         match &self.source {
@@ -244,7 +245,7 @@ impl Offer {
     pub fn bad(&self) -> bool
         ensures exact { result ≡ self.now.bad }
         ensures next { IsTrue result
-            → IsBadNext (scalars_of self.now.payload) self.now.source self.now.taken }
+            → IsBadNext (item_type self.now.payload) self.now.source self.now.taken }
     {
         self.bad
     }
@@ -260,8 +261,8 @@ impl Offer {
     /// Takes the next item; none where none is left, or where it is bad: then it is not taken.
     pub fn next(&mut self) -> Option<Value>
         ensures exact { result ≡
-            item_behind (scalars_of self.old.payload) self.old.source self.old.taken }
-        ensures fits { IfSome result (λ x. FitsItem (scalars_of self.old.payload) x) }
+            item_behind (item_type self.old.payload) self.old.source self.old.taken }
+        ensures fits { IfSome result (λ x. FitsItem (item_type self.old.payload) x) }
         ensures after { self.new ≡ after_next self.old result }
     {
         let mut item = Value::empty();
@@ -291,9 +292,9 @@ fn behind_into(source: &Source, payload: &Payload, taken: u32, item: &mut Value)
     requires source { IsSource payload.now source.now }
     requires empty { item.old ≡ [] }
     ensures exact { then_some result item.new ≡
-        item_behind (scalars_of payload.now) source.now taken }
+        item_behind (item_type payload.now) source.now taken }
     ensures there { IsTrue result → taken + 1 ≤ items_lent source.now }
-    ensures fits { IsTrue result → FitsItem (scalars_of payload.now) item.new }
+    ensures fits { IsTrue result → FitsItem (item_type payload.now) item.new }
 {
     match source {
         Source::Region {

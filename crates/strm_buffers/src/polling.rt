@@ -3,7 +3,7 @@
 //! Source: ours.
 
 ghost use Rattle.std.specs.Prelude.{◌≡◌, ◌≤◌, true, [], length, take, drop, IfOk, OnOk, OnErr};
-ghost use Rattle.strm_codes.specs.Layout.{scalars_of};
+ghost use Rattle.strm_codes.specs.Layout.{item_type};
 ghost use Rattle.strm_buffers.specs.Windows.{Between, room_of, HasRoom};
 ghost use Rattle.strm_buffers.specs.Said.{in_room, past_room};
 ghost use Rattle.strm_buffers.specs.Tells.{Fills, first_lent};
@@ -92,10 +92,10 @@ fn mark_first(window: &mut Window, items: &Items, count: usize) -> Result<(), Ou
 pub fn take_up_to(offer: &mut Offer, wanted: u32)
     ensures takes { offer.new ≡ after_taking wanted offer.old }
     ensures counted { length
-        (first_lent (scalars_of offer.old.payload) offer.old.source offer.new.taken)
+        (first_lent (item_type offer.old.payload) offer.old.source offer.new.taken)
         ≡ offer.new.taken }
     ensures next { offer.new.bad ≡ true
-        → IsBadNext (scalars_of offer.old.payload) offer.old.source offer.new.taken }
+        → IsBadNext (item_type offer.old.payload) offer.old.source offer.new.taken }
 {
     offer.sound();
     let count = wanted.min(offer.remaining());

@@ -4,7 +4,7 @@
 //! tells are ours.
 
 ghost use Rattle.std.specs.Prelude.{◌≡◌, ◌<◌, true, false, length, slice_get, Some, OnOk, OnErr};
-ghost use Rattle.strm_codes.specs.Layout.{scalars_of};
+ghost use Rattle.strm_codes.specs.Layout.{item_type};
 
 use crate::answers::{HostTurn, ReaderSaid};
 use crate::offers::Offer;
@@ -55,12 +55,12 @@ pub trait HostReader: Drop {
         requires not_bad { offer.old.bad ≡ false }
         ensures polls { IfAnswered result (λ answer. PollsReader (reader_tells self.old)
             (reader_tells self.new) (reader_record offer.old offer.new finish answer)
-            (first_lent (scalars_of offer.old.payload) offer.old.source offer.new.taken)) }
+            (first_lent (item_type offer.old.payload) offer.old.source offer.new.taken)) }
         ensures no_memory { IfNoMemory result
             (KeepsReader (reader_tells self.old) (reader_tells self.new)) }
         ensures untaken { IfNoMemory result (offer.new.taken ≡ 0) }
         ensures next { offer.new.bad ≡ true →
-            IsBadNext (scalars_of offer.old.payload) offer.old.source offer.new.taken }
+            IsBadNext (item_type offer.old.payload) offer.old.source offer.new.taken }
         ensures same { SameOffer offer.old offer.new };
 
     /// Lets it take so many items more. `OutOfMemory` changes nothing.

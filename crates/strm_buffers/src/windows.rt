@@ -5,8 +5,9 @@
 //! items.
 
 ghost use Rattle.std.specs.Prelude.{◌≡◌, ◌≢◌, ◌+◌, ◌*◌, ◌<◌, ◌≤◌, ◌∷◌, [], length, true, IfOk, OnOk, OnErr};
-ghost use Rattle.strm_codes.specs.Layout.{scalars_of, item_size};
-ghost use Rattle.strm_codes.specs.Items.{FitsItem};
+ghost use Rattle.strm_codes.specs.Layout.{item_type};
+ghost use Rattle.strm_codes.specs.ItemTypes.{item_size};
+ghost use Rattle.strm_codes.specs.Begins.{FitsItem};
 ghost use Rattle.strm_codes.specs.declared.payloads.Payload.TheVariants.{One};
 ghost use Rattle.strm_codes.specs.declared.scalars.Scalar.TheVariants.{U8};
 ghost use Rattle.strm_memory.specs.Items.{byte_items};
@@ -57,7 +58,7 @@ impl Window {
     /// Lends a memory from an address on, with room for so many items. Takes no memory.
     #[inline(always)]
     pub fn over(memory: GuestMemory, payload: Payload, address: u32, room: u32) -> Window
-        requires { address + item_size (scalars_of payload) * room ≤ length memory.bytes }
+        requires { address + item_size (item_type payload) * room ≤ length memory.bytes }
         ensures { result ≡ lent_memory payload memory address room }
     {
         let alloc = memory.alloc();
@@ -153,7 +154,7 @@ impl Window {
     /// Marks one item more; between host ends the unmarked bytes are given up. After `OutOfMemory`,
     /// which comes only there, nothing has changed.
     pub fn put(&mut self, item: &Value) -> Result<(), OutOfMemory>
-        requires fits { FitsItem (scalars_of self.old.payload) item.now }
+        requires fits { FitsItem (item_type self.old.payload) item.now }
         requires room { HasRoom self.old.place (length self.old.marked) 1 }
         ensures ok { OnOk result (self.new ≡ with_items self.old (item.now ∷ [])) }
         ensures err { OnErr result (self.new ≡ self.old) }
@@ -171,10 +172,10 @@ impl Window {
     /// Marks so many items more, which these bytes begin with, all at once; between host ends the
     /// unmarked bytes are given up. After `OutOfMemory`, which comes only there, nothing has changed.
     pub fn put_all(&mut self, bytes: &[u8], count: u32) -> Result<(), OutOfMemory>
-        requires lie { LieIn (scalars_of self.old.payload) bytes.now 0 count }
+        requires lie { LieIn (item_type self.old.payload) bytes.now 0 count }
         requires room { HasRoom self.old.place (length self.old.marked) count }
         ensures ok { OnOk result (self.new ≡ with_items self.old
-            (items_in (scalars_of self.old.payload) bytes.now 0 count)) }
+            (items_in (item_type self.old.payload) bytes.now 0 count)) }
         ensures err { OnErr result (self.new ≡ self.old) }
         ensures out_of_memory { OnErr result (self.old.place ≡ Between) }
     {
@@ -250,7 +251,7 @@ impl Window {
     /// The whole memory as it stands, with what was written to unmarked bytes. Takes no memory.
     pub fn lent(&self) -> &[u8]
         requires { self.now.place ≢ Between }
-        ensures { result.now ≡ standing (scalars_of self.now.payload) self.now.place
+        ensures { result.now ≡ standing (item_type self.now.payload) self.now.place
             (length self.now.marked) self.now.unmarked }
     {
         self.memory.bytes()

@@ -20,7 +20,7 @@ enum Slot<E> {
     Full(E),
 }
 
-const _: () = prove!(size_of::<Slot<Entry>>() <= 24);
+const _: () = prove!(size_of::<Slot<Entry>>() <= 52);
 
 /// Slots, each of which holds an entry or is free. The slot at an index has the number above it.
 #[derive(Drop)]

@@ -3,9 +3,9 @@ use Rattle.std.proofs.Common.{◌≡◌, ℕ, ◌+◌, ◌*◌, ◌-◌, ◌≤�
 use Rattle.std.proofs.lemmas.List.{nil_from_length, take_all, drop-append-le, take-append-le, take-append-drop, length-take-le}
 use Rattle.std.proofs.lemmas.List.Elements.{All-head, All-tail}
 use Rattle.std.specs.Prelude.{All}
-use Rattle.strm_codes.specs.Layout.{scalars_of, item_size}
+use Rattle.strm_codes.specs.Layout.{item_type, byte_type}
+use Rattle.strm_codes.specs.ItemTypes.{item_size}
 use Rattle.strm_codes.specs.declared.payloads.Payload.{Payload}
-use Rattle.strm_codes.specs.declared.scalars.Scalar.TheVariants.{U8}
 use Rattle.strm_memory.specs.Items.{items, byte_items, AreItems}
 use Rattle.strm_memory.proofs.AppendLemmas.{items-bytes}
 use Rattle.strm_buffers.specs.Listing.{items_in, listed}
@@ -72,9 +72,9 @@ pub record FedMore (old : AllFed) (records : ℕ) (given : List ℕ) (payload : 
 
 -- so many items, of so many bytes, are what these bytes are to a queue
 pub record AreFed (payload : Payload) (given : List ℕ) (n k : ℕ) : Type 0 where
-  pub lie : items (scalars_of payload) given n ≡ Some (items_fed payload given)
-  pub fit : AreItems (scalars_of payload) (items_fed payload given)
-  pub size : k ≡ item_size (scalars_of payload) * n
+  pub lie : items (item_type payload) given n ≡ Some (items_fed payload given)
+  pub fit : AreItems (item_type payload) (items_fed payload given)
+  pub size : k ≡ item_size (item_type payload) * n
   pub within : k ≤ length given
   pub few : n ≤ length given
 
@@ -86,7 +86,7 @@ module _ (payload : Payload) (bytes rest : List ℕ) (len : ℕ) (feeds : List F
       let s = fed.size in
       let h = fed.within in
       let g = fed.few in
-      let ss = scalars_of payload in
+      let ss = item_type payload in
       let w = item_size ss in
       let new : List ℕ = take k given in
       let left : List ℕ = drop k given in
@@ -112,5 +112,5 @@ module _ (payload : Payload) (bytes rest : List ℕ) (len : ℕ) (feeds : List F
       }
 
 -- bytes are the items that they hold
-pub all_bytes : (bytes : List ℕ) (count : ℕ) → length bytes ≡ count → items_in (U8 ∷ []) bytes 0 count ≡ byte_items bytes
+pub all_bytes : (bytes : List ℕ) (count : ℕ) → length bytes ≡ count → items_in byte_type bytes 0 count ≡ byte_items bytes
 all_bytes bytes count size = ap listed (items-bytes bytes count (omega (arith, size))) ∙ ap byte_items (take_all count bytes (omega (arith, size)))

@@ -4,7 +4,8 @@ use Rattle.std.proofs.lemmas.List.{take_all}
 use Rattle.std.proofs.Math.Nat.{mul-le-mul_left}
 use Rattle.std.specs.Prelude.{IsSome}
 use Rattle.std.specs.Option.{option_map}
-use Rattle.strm_codes.specs.Layout.{scalars_of, item_size}
+use Rattle.strm_codes.specs.Layout.{item_type}
+use Rattle.strm_codes.specs.ItemTypes.{item_size}
 use Rattle.strm_codes.specs.declared.payloads.Payload.{Payload}
 use Rattle.strm_memory.specs.Bytes.{IsBytes}
 use Rattle.strm_memory.specs.Items.{items_at}
@@ -23,37 +24,37 @@ taken_in_polls-more [] said = omega arith
 taken_in_polls-more (x ∷ saids) said = omega (arith, taken_in_polls-more saids said)
 
 -- they lie there
-taken_lie : (payload : Payload) (bytes : List ℕ) (saids : List ReaderSaid) → IsBytes bytes → AreTaken payload bytes saids → LieIn (scalars_of payload) bytes 0 (taken_in_polls saids)
+taken_lie : (payload : Payload) (bytes : List ℕ) (saids : List ReaderSaid) → IsBytes bytes → AreTaken payload bytes saids → LieIn (item_type payload) bytes 0 (taken_in_polls saids)
 taken_lie payload bytes saids b a =
-    go (items_at (scalars_of payload) bytes 0 (taken_in_polls saids)) refl a.good
+    go (items_at (item_type payload) bytes 0 (taken_in_polls saids)) refl a.good
   where
-    go : (o : Option (List Item)) → items_at (scalars_of payload) bytes 0 (taken_in_polls saids) ≡ o → IsSome o → LieIn (scalars_of payload) bytes 0 (taken_in_polls saids)
+    go : (o : Option (List Item)) → items_at (item_type payload) bytes 0 (taken_in_polls saids) ≡ o → IsSome o → LieIn (item_type payload) bytes 0 (taken_in_polls saids)
     go None e g = cc
-    go (Some xs) e g = (lie_made (scalars_of payload) bytes 0 (taken_in_polls saids) xs (omega (arith, a.all)) e (AreItems-items (scalars_of payload) bytes (taken_in_polls saids) xs b e)).lie
+    go (Some xs) e g = (lie_made (item_type payload) bytes 0 (taken_in_polls saids) xs (omega (arith, a.all)) e (AreItems-items (item_type payload) bytes (taken_in_polls saids) xs b e)).lie
 
 -- nothing is kept before the first poll
 pub taken_none : (payload : Payload) (bytes : List ℕ) (saids : List ReaderSaid) → bytes ≡ [] → saids ≡ [] → AreTaken payload bytes saids
 taken_none payload bytes saids e f =
-    let none : AreTaken payload [] [] = record { all = omega arith; good = (lie_none (scalars_of payload) [] 0 (omega arith)).lie.good } in
+    let none : AreTaken payload [] [] = record { all = omega arith; good = (lie_none (item_type payload) [] 0 (omega arith)).lie.good } in
     subst (λ xs. AreTaken payload xs saids) (sym e) (subst (λ s. AreTaken payload [] s) (sym f) none)
 
 -- what a turn takes needs no more room than was made
-pub taken_within : (payload : Payload) (o : Offered) (wanted offered size : ℕ) → o.payload ≡ payload → o.taken ≡ 0 → offered ≡ items_lent o.source → size ≡ item_size (scalars_of payload)
-    → item_size (scalars_of payload) * (after_taking wanted o).taken ≤ size * min wanted offered
+pub taken_within : (payload : Payload) (o : Offered) (wanted offered size : ℕ) → o.payload ≡ payload → o.taken ≡ 0 → offered ≡ items_lent o.source → size ≡ item_size (item_type payload)
+    → item_size (item_type payload) * (after_taking wanted o).taken ≤ size * min wanted offered
 taken_within payload o wanted offered size p t n e =
-    let ss = scalars_of o.payload in
+    let ss = item_type o.payload in
     let few : (after_taking wanted o).taken ≤ min wanted offered = omega (arith, t, n, good_most ss o.source, length-drop o.taken (good_lent ss o.source)) in
-    rw e (mul-le-mul_left (item_size (scalars_of payload)) few)
+    rw e (mul-le-mul_left (item_size (item_type payload)) few)
 
 -- the bytes of one poll more
 pub record KeptMore (payload : Payload) (bytes new : List ℕ) (saids news : List ReaderSaid) (took : List Item) : Type 0 where
   pub taken : AreTaken payload new news
-  pub is : items_in (scalars_of payload) new 0 (taken_in_polls news) ≡ items_in (scalars_of payload) bytes 0 (taken_in_polls saids) ++ took
+  pub is : items_in (item_type payload) new 0 (taken_in_polls news) ≡ items_in (item_type payload) bytes 0 (taken_in_polls saids) ++ took
 
 module _ (payload : Payload) (bytes given new : List ℕ) (saids news : List ReaderSaid) (said : ReaderSaid) (took : List Item) (b : IsBytes bytes) (a : AreTaken payload bytes saids) (e : new ≡ bytes ++ given) (f : news ≡ saids ++ said ∷ []) where
-  pub kept_more : let ss = scalars_of payload in LieIn ss given 0 said.taken → items_in ss given 0 said.taken ≡ took → length given ≡ item_size ss * said.taken → KeptMore payload bytes new saids news took
+  pub kept_more : let ss = item_type payload in LieIn ss given 0 said.taken → items_in ss given 0 said.taken ≡ took → length given ≡ item_size ss * said.taken → KeptMore payload bytes new saids news took
   kept_more l i size =
-      let ss = scalars_of payload in
+      let ss = item_type payload in
       let w = item_size ss in
       let n = taken_in_polls saids in
       let count : taken_in_polls news ≡ n + said.taken = ap taken_in_polls f ∙ taken_in_polls-more saids said in
@@ -76,11 +77,11 @@ kept_holds false payload bytes new saids news took h = refl
 
 -- after a poll that did a turn
 module _ (payload : Payload) (old new : Offered) (wanted : ℕ) (bytes given kept : List ℕ) (saids news : List ReaderSaid) (finish : Bool) (answer : Answer) (h : old.payload ≡ payload) (e : new ≡ after_taking wanted old) (b : IsBytes bytes) (a : AreTaken payload bytes saids) (k : kept ≡ bytes ++ given) (f : news ≡ saids ++ reader_record old new finish answer ∷ []) where
-  pub polled_more : let ss = scalars_of new.payload in LieIn ss given 0 new.taken → items_in ss given 0 new.taken ≡ first_lent ss new.source new.taken → length given ≡ item_size ss * new.taken → KeptMore payload bytes kept saids news (first_lent (scalars_of old.payload) old.source new.taken)
+  pub polled_more : let ss = item_type new.payload in LieIn ss given 0 new.taken → items_in ss given 0 new.taken ≡ first_lent ss new.source new.taken → length given ≡ item_size ss * new.taken → KeptMore payload bytes kept saids news (first_lent (item_type old.payload) old.source new.taken)
   polled_more lie items size =
       let p : new.payload ≡ payload = ap (λ (o : Offered). o.payload) e ∙ h in
       let s = ap (λ (o : Offered). o.source) e in
-      let took = subst (λ q. items_in (scalars_of q) given 0 new.taken ≡ first_lent (scalars_of q) new.source new.taken) p items
-      ∙ ap (λ src. first_lent (scalars_of payload) src new.taken) s ∙ ap (λ q. first_lent (scalars_of q) old.source new.taken) (sym h) in
+      let took = subst (λ q. items_in (item_type q) given 0 new.taken ≡ first_lent (item_type q) new.source new.taken) p items
+      ∙ ap (λ src. first_lent (item_type payload) src new.taken) s ∙ ap (λ q. first_lent (item_type q) old.source new.taken) (sym h) in
       kept_more payload bytes given kept saids news (reader_record old new finish answer) _ b a k f
-      (subst (λ q. LieIn (scalars_of q) given 0 new.taken) p lie) took (subst (λ q. length given ≡ item_size (scalars_of q) * new.taken) p size)
+      (subst (λ q. LieIn (item_type q) given 0 new.taken) p lie) took (subst (λ q. length given ≡ item_size (item_type q) * new.taken) p size)

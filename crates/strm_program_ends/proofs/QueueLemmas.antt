@@ -8,7 +8,7 @@ use Rattle.strm_codes.specs.declared.codes.TransmitKind.TheVariants.{Stream, Fut
 use Rattle.strm_memory.specs.Items.{AreItems}
 use Rattle.strm_buffers.specs.Listing.{Item}
 use Rattle.strm_buffers.specs.Windows.{Place, Memory, Between, room_of, HasRoom}
-use Rattle.strm_codes.specs.Layout.{scalars_of}
+use Rattle.strm_codes.specs.Layout.{item_type}
 use Rattle.strm_codes.specs.declared.payloads.Payload.{Payload}
 use Rattle.strm_buffers.specs.Windows.{Lent}
 use Rattle.strm_buffers.specs.Said.{in_room, past_room}
@@ -98,7 +98,7 @@ no_fault over finish (suc n) (suc k) = omega arith
 pub record Polled (old new : QueueWriter) (window after : Lent) (finish : Bool) (a : Answer) : Type 0 where
   pub gives : GivesNext old new window after finish a
   pub said : (queue_tells new).said ≡ (queue_tells old).said ++ writer_record window finish after.marked [] a ∷ []
-  pub fit : AreItems (scalars_of old.fed.payload) after.marked
+  pub fit : AreItems (item_type old.fed.payload) after.marked
   pub same : SameFed old new
 
 pub gives_polls : (old new : QueueWriter) (window after : Lent) (finish : Bool) (a : Answer) → Polled old new window after finish a → PollsWriter (queue_tells old) (queue_tells new) (writer_record window finish after.marked [] a) after.marked

@@ -6,7 +6,7 @@ use Rattle.std.proofs.lemmas.List.{take-append-drop}
 use Rattle.std.proofs.lemmas.List.Elements.{All-map}
 use Rattle.strm_codes.specs.declared.payloads.Payload.TheVariants.{One}
 use Rattle.strm_codes.specs.declared.scalars.Scalar.TheVariants.{U8}
-use Rattle.strm_codes.specs.Layout.{scalars_of}
+use Rattle.strm_codes.specs.Layout.{item_type}
 use Rattle.strm_memory.specs.Items.{AreItems}
 use Rattle.strm_buffers.specs.Listing.{Item}
 use Rattle.strm_buffers.specs.Windows.{Lent, room_of}
@@ -47,7 +47,7 @@ pub record Turns (old new : ScriptedWriter) (window after : Lent) (finish : Bool
   pub said : new.said.items ≡ old.said.items ++ said_of window finish items answer ∷ []
   pub marked : after.marked ≡ in_room (room_of window.place) items
   pub held : new.held.items ≡ past_room (room_of window.place) items
-  pub fit : AreItems (scalars_of old.payload) items
+  pub fit : AreItems (item_type old.payload) items
   pub kind : new.kind ≡ old.kind
   pub payload : new.payload ≡ old.payload
   pub closed : new.closed ≡ old.closed

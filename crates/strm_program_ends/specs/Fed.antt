@@ -1,6 +1,7 @@
 -- What a host writer keeps of all that it was fed. Ours.
 use Rattle.std.specs.Prelude.{◌≡◌, ℕ, ◌+◌, ◌*◌, ◌≤◌, List, [], ◌∷◌, ◌++◌, length, take, drop}
-use Rattle.strm_codes.specs.Layout.{scalars_of, item_size}
+use Rattle.strm_codes.specs.Layout.{item_type}
+use Rattle.strm_codes.specs.ItemTypes.{item_size}
 use Rattle.strm_codes.specs.declared.payloads.Payload.{Payload}
 use Rattle.strm_buffers.specs.Listing.{Item, LieIn, items_in}
 use Rattle.strm_program_ends.specs.Queues.{items_fed}
@@ -39,7 +40,7 @@ abbrev pub fed_kept : Payload → List ℕ → ℕ → List ℕ → List Feed �
 fed_kept payload bytes len rest feeds =
     record {
       payload = payload;
-      items = items_in (scalars_of payload) bytes 0 len;
+      items = items_in (item_type payload) bytes 0 len;
       heard = heard_kept bytes rest feeds;
     }
 
@@ -55,8 +56,8 @@ other_bytes (feed ∷ feeds) = feed.rest_len + other_bytes feeds
 
 -- what is kept so is what was fed
 pub record IsQueueFed (payload : Payload) (bytes : List ℕ) (len : ℕ) (rest : List ℕ) (feeds : List Feed) : Type 0 where
-  pub all : length bytes ≡ item_size (scalars_of payload) * len
-  pub lie : LieIn (scalars_of payload) bytes 0 len
+  pub all : length bytes ≡ item_size (item_type payload) * len
+  pub lie : LieIn (item_type payload) bytes 0 len
   pub counted : len ≤ length bytes + length rest
   pub fed : length bytes ≡ item_bytes feeds
   pub others : length rest ≡ other_bytes feeds

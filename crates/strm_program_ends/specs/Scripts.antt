@@ -6,7 +6,7 @@ use Rattle.strm_codes.specs.declared.payloads.Payload.TheVariants.{One}
 use Rattle.strm_codes.specs.declared.scalars.Scalar.TheVariants.{U8}
 use Rattle.strm_buffers.specs.declared.answers.Answer.{Answer}
 use Rattle.strm_buffers.specs.declared.answers.Answer.TheVariants.{Pending, Failed}
-use Rattle.strm_codes.specs.Layout.{scalars_of}
+use Rattle.strm_codes.specs.Layout.{item_type}
 use Rattle.strm_memory.specs.Items.{AreItems, byte_items}
 use Rattle.strm_buffers.specs.Listing.{Item}
 use Rattle.strm_buffers.specs.Windows.{Lent, room_of}
@@ -82,7 +82,7 @@ pub record PlaysTurn (old new : ScriptedWriter) (before after : Lent) (finish : 
   pub marked : after.marked ≡ in_room (room_of before.place) (next_items old.turns.items)
   pub held : new.held.items ≡ past_room (room_of before.place) (next_items old.turns.items)
   pub said : new.said.items ≡ old.said.items ++ turn_record before finish old.turns.items ∷ []
-  pub fit : AreItems (scalars_of old.payload) (next_items old.turns.items)
+  pub fit : AreItems (item_type old.payload) (next_items old.turns.items)
   pub turns : new.turns.items ≡ drop 1 old.turns.items
 
 -- no turn was played

@@ -3,7 +3,8 @@
 //! Meaning: `Queues.antt`. Source: ours.
 
 ghost use Rattle.std.specs.Prelude.{◌≡◌, ◌*◌, ◌≤◌, length, Some};
-ghost use Rattle.strm_codes.specs.Layout.{scalars_of, item_size};
+ghost use Rattle.strm_codes.specs.Layout.{item_type};
+ghost use Rattle.strm_codes.specs.ItemTypes.{item_size};
 ghost use Rattle.strm_memory.specs.Bytes.{IsBytes};
 ghost use Rattle.strm_memory.specs.Items.{items, AreItems};
 ghost use Rattle.strm_program_ends.specs.Queues.{most_items, items_fed};
@@ -13,10 +14,10 @@ use strm_memory::good_items::count_good_items;
 
 // How many items these bytes are: as many as fit in them, up to the first that is none.
 pub(crate) fn count_items(bytes: &[u8], payload: &Payload) -> usize
-    ensures lie { items (scalars_of payload.now) bytes.now result
+    ensures lie { items (item_type payload.now) bytes.now result
         ≡ Some (items_fed payload.now bytes.now) }
-    ensures fit { AreItems (scalars_of payload.now) (items_fed payload.now bytes.now) }
-    ensures within { item_size (scalars_of payload.now) * result ≤ length bytes.now }
+    ensures fit { AreItems (item_type payload.now) (items_fed payload.now bytes.now) }
+    ensures within { item_size (item_type payload.now) * result ≤ length bytes.now }
     ensures few { result ≤ length bytes.now }
 {
     are_bytes(bytes);

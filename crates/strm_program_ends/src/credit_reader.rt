@@ -55,7 +55,7 @@ impl CreditReader {
 
 impl HostReader for CreditReader {
     ghost use Rattle.std.specs.Prelude.{◌==◌, ◌||◌, true, OnOk, OnErr};
-    ghost use Rattle.strm_codes.specs.Layout.{scalars_of};
+    ghost use Rattle.strm_codes.specs.Layout.{item_type};
     ghost use Rattle.strm_buffers.specs.Offers.{IsBadNext};
     ghost use Rattle.strm_buffers.specs.Said.{IfAnswered, IfNoMemory};
     ghost use Rattle.strm_buffers.specs.Tells.{PollsReader, KeepsReader, SameOffer, reader_record, first_lent, reader_tells_closed, reader_granted};
@@ -78,12 +78,12 @@ impl HostReader for CreditReader {
         ensures polls { IfAnswered result (λ answer.
             PollsReader (credit_tells self.old) (credit_tells self.new)
             (reader_record offer.old offer.new finish answer)
-            (first_lent (scalars_of offer.old.payload) offer.old.source offer.new.taken)) }
+            (first_lent (item_type offer.old.payload) offer.old.source offer.new.taken)) }
         ensures no_memory { IfNoMemory result
             (KeepsReader (credit_tells self.old) (credit_tells self.new)) }
         ensures untaken { IfNoMemory result (offer.new.taken ≡ 0) }
         ensures next { offer.new.bad ≡ true →
-            IsBadNext (scalars_of offer.old.payload) offer.old.source offer.new.taken }
+            IsBadNext (item_type offer.old.payload) offer.old.source offer.new.taken }
         ensures same { SameOffer offer.old offer.new }
 
         // It takes what it has credit for, up to a bad item, and answers by what is left of it.

@@ -4,7 +4,7 @@
 //! the others apart from them: each byte is kept once. Source: ours.
 
 ghost use Rattle.std.specs.Prelude.{◌≡◌, true, ◌+◌, ◌*◌, ◌<◌, ◌≤◌, [], ◌++◌, length, take, drop, IfOk, OnOk, OnErr};
-ghost use Rattle.strm_codes.specs.Layout.{scalars_of};
+ghost use Rattle.strm_codes.specs.Layout.{item_type};
 ghost use Rattle.strm_codes.specs.declared.payloads.Payload.TheVariants.{One};
 ghost use Rattle.strm_codes.specs.declared.scalars.Scalar.TheVariants.{U8};
 ghost use Rattle.strm_memory.specs.Items.{AreItems};
@@ -85,7 +85,7 @@ impl Feeds {
 
     // Each fits the payload. It does nothing.
     pub(crate) fn sound(&self)
-        ensures { AreItems (scalars_of self.now.payload) self.now.items }
+        ensures { AreItems (item_type self.now.payload) self.now.items }
     {
         let _ = &self.bytes;
     }
@@ -160,16 +160,16 @@ impl Feeds {
 }
 
 impl Feeds {
-    ghost use Rattle.strm_codes.specs.Layout.{item_size};
+    ghost use Rattle.strm_codes.specs.ItemTypes.{item_size};
     ghost use Rattle.strm_buffers.specs.Listing.{LieIn, items_in};
 
     // The bytes of so many items from a place on.
     fn bytes_of(&self, start: usize, count: u32) -> &[u8]
         requires { start + count ≤ length self.now.items }
-        ensures lie { LieIn (scalars_of self.now.payload) result.now 0 count }
-        ensures items { items_in (scalars_of self.now.payload) result.now 0 count
+        ensures lie { LieIn (item_type self.now.payload) result.now 0 count }
+        ensures items { items_in (item_type self.now.payload) result.now 0 count
             ≡ take count (drop start self.now.items) }
-        ensures all { length result.now ≡ item_size (scalars_of self.now.payload) * count }
+        ensures all { length result.now ≡ item_size (item_type self.now.payload) * count }
     {
         let size = self.payload.size() as usize;
         // For the products: how many bytes there can be.

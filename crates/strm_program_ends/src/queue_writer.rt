@@ -164,7 +164,7 @@ impl HostWriter for QueueWriter {
 
 impl QueueWriter {
     ghost use Rattle.std.specs.Prelude.{◌+◌, [], ◌∷◌, ◌++◌, true, IfOk, OnOk, OnErr};
-    ghost use Rattle.strm_codes.specs.Layout.{scalars_of};
+    ghost use Rattle.strm_codes.specs.Layout.{item_type};
     ghost use Rattle.strm_memory.specs.Items.{AreItems};
     ghost use Rattle.strm_buffers.specs.Tells.{Fills, writer_record};
     ghost use Rattle.strm_program_ends.specs.Queues.{is_over, answer_by};
@@ -179,7 +179,7 @@ impl QueueWriter {
         ensures said { IfOk result (λ answer. (queue_tells self.new).said
             ≡ (queue_tells self.old).said
             ++ writer_record window.old finish window.new.marked [] answer ∷ []) }
-        ensures fit { OnOk result (AreItems (scalars_of self.old.fed.payload) window.new.marked) }
+        ensures fit { OnOk result (AreItems (item_type self.old.fed.payload) window.new.marked) }
         ensures err { OnErr result (self.new.polls.items ≡ self.old.polls.items) }
         ensures same_queue { OnErr result (queue_of self.new ≡ queue_of self.old) }
         ensures same_fed { SameFed self.old self.new }

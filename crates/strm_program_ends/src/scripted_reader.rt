@@ -93,7 +93,7 @@ impl ScriptedReader {
 
 impl HostReader for ScriptedReader {
     ghost use Rattle.std.specs.Prelude.{false, OnErr};
-    ghost use Rattle.strm_codes.specs.Layout.{scalars_of};
+    ghost use Rattle.strm_codes.specs.Layout.{item_type};
     ghost use Rattle.strm_buffers.specs.Offers.{IsBadNext};
     ghost use Rattle.strm_buffers.specs.Said.{IfAnswered, IfNoMemory};
     ghost use Rattle.strm_buffers.specs.Tells.{PollsReader, KeepsReader, SameOffer, reader_record, first_lent, reader_tells_closed, reader_granted};
@@ -116,12 +116,12 @@ impl HostReader for ScriptedReader {
         ensures polls { IfAnswered result (λ answer.
             PollsReader (scripted_reader_tells self.old) (scripted_reader_tells self.new)
             (reader_record offer.old offer.new finish answer)
-            (first_lent (scalars_of offer.old.payload) offer.old.source offer.new.taken)) }
+            (first_lent (item_type offer.old.payload) offer.old.source offer.new.taken)) }
         ensures no_memory { IfNoMemory result
             (KeepsReader (scripted_reader_tells self.old) (scripted_reader_tells self.new)) }
         ensures untaken { IfNoMemory result (offer.new.taken ≡ 0) }
         ensures next { offer.new.bad ≡ true →
-            IsBadNext (scalars_of offer.old.payload) offer.old.source offer.new.taken }
+            IsBadNext (item_type offer.old.payload) offer.old.source offer.new.taken }
         ensures same { SameOffer offer.old offer.new }
 
         // It does the turn of its place among the polls.

@@ -4,8 +4,8 @@ use Rattle.std.proofs.Math.Nat.{mul-le-mul_left}
 use Rattle.std.proofs.lemmas.List.{take-take}
 use Rattle.std.specs.Prelude.{nat_eq, is_some, ◌&&◌}
 use Rattle.std.proofs.lemmas.Bool.Decides.{nat_tests}
-use Rattle.strm_codes.specs.Layout.{scalars_of, item_size}
-use Rattle.strm_codes.specs.declared.scalars.Scalar.{Scalar}
+use Rattle.strm_codes.specs.Layout.{item_type}
+use Rattle.strm_codes.specs.ItemTypes.{item_size, ItemType}
 use Rattle.strm_codes.specs.declared.payloads.Payload.{Payload}
 use Rattle.strm_memory.specs.Bytes.{IsBytes}
 use Rattle.strm_memory.specs.Items.{items, good_items}
@@ -17,7 +17,7 @@ use Rattle.strm_buffers.proofs.ListingLemmas.{Lie, lie_made, lie_same}
 use Rattle.strm_ready_ends.specs.Wholes.{are_whole, AreWhole}
 
 -- as many good ones are found as are looked for exactly where all are items
-pub good_if_all : (ss : List Scalar) (bytes : List ℕ) (n : ℕ) → nat_eq (length (good_items ss bytes n)) n ≡ is_some (items ss bytes n)
+pub good_if_all : (ss : ItemType) (bytes : List ℕ) (n : ℕ) → nat_eq (length (good_items ss bytes n)) n ≡ is_some (items ss bytes n)
 good_if_all ss bytes n = go (items ss bytes n) refl
   where
     none : nat_eq (length (good_items ss bytes n)) n ≡ true → items ss bytes n ≡ None → ⊥
@@ -45,8 +45,8 @@ both_true false b e = cc
 pub whole_lies : (payload : Payload) (bytes : List ℕ) (count : ℕ) → IsBytes bytes → are_whole payload bytes count ≡ true → AreWhole payload bytes count
 whole_lies payload bytes count b e = go (items ss bytes count) refl
   where
-    ss : List Scalar
-    ss = scalars_of payload
+    ss : ItemType
+    ss = item_type payload
 
     parts : (nat_eq (length bytes) (item_size ss * count) ≡ true) × (is_some (items ss bytes count) ≡ true)
     parts = both_true (nat_eq (length bytes) (item_size ss * count)) (is_some (items ss bytes count)) e
@@ -59,22 +59,22 @@ whole_lies payload bytes count b e = go (items ss bytes count) refl
     go (Some xs) p = record { all = size; lie = (lie_made ss bytes 0 count xs (omega (arith, size)) p (AreItems-items ss bytes count xs b p)).lie }
 
 -- some items at the front of others take no more bytes
-pub good_inside : (payload : Payload) (len from count n : ℕ) → n ≤ count → from + item_size (scalars_of payload) * count ≤ len → from + item_size (scalars_of payload) * n ≤ len
-good_inside payload len from count n few room = let less = mul-le-mul_left (item_size (scalars_of payload)) few in omega (arith, less, room)
+pub good_inside : (payload : Payload) (len from count n : ℕ) → n ≤ count → from + item_size (item_type payload) * count ≤ len → from + item_size (item_type payload) * n ≤ len
+good_inside payload len from count n few room = let less = mul-le-mul_left (item_size (item_type payload)) few in omega (arith, less, room)
 
 -- the good items at the front of so many, as the bytes of their own that they take, cut off behind a place
 pub record IsGoodFront (payload : Payload) (bytes behind front : List ℕ) (from count n size : ℕ) : Type 0 where
-  pub good : n ≡ length (good_items (scalars_of payload) (drop from bytes) count)
-  pub inside : from + item_size (scalars_of payload) * n ≤ length bytes
-  pub size_is : size ≡ item_size (scalars_of payload)
+  pub good : n ≡ length (good_items (item_type payload) (drop from bytes) count)
+  pub inside : from + item_size (item_type payload) * n ≤ length bytes
+  pub size_is : size ≡ item_size (item_type payload)
   pub rest : behind ≡ drop from bytes
   pub cut : front ≡ take (size * n) behind
   pub len : length front ≡ size * n
 
 pub good_lie : (payload : Payload) (bytes behind front : List ℕ) (from count n size : ℕ) → IsBytes bytes → IsGoodFront payload bytes behind front from count n size
-    → Lie (scalars_of payload) front 0 n (items_in (scalars_of payload) bytes from n)
+    → Lie (item_type payload) front 0 n (items_in (item_type payload) bytes from n)
 good_lie payload bytes behind front from count n size b f =
-    let ss = scalars_of payload in
+    let ss = item_type payload in
     let good = good_items ss (drop from bytes) count in
     let are : items ss (drop from bytes) n ≡ Some good = ap (items ss (drop from bytes)) f.good ∙ good_are ss (drop from bytes) count in
     let fit = AreItems-items ss (drop from bytes) n good (IsBytes-drop bytes from b) are in

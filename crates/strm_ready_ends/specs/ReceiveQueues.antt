@@ -2,7 +2,8 @@
 -- consumers are code of the host's that is asked; this one takes what it was granted before, and keeps what it
 -- took until that is collected.
 use Rattle.std.specs.Prelude.{◌≡◌, ℕ, ◌+◌, ◌-◌, ◌*◌, ◌<◌, ◌≤◌, ◌==◌, min, max, Bool, true, false, ◌&&◌, ◌||◌, not, nat_lt, nat_le, if◌then◌else◌, List, [], ◌∷◌, ◌++◌, length, drop, Some, None, Result, Ok, Err}
-use Rattle.strm_codes.specs.Layout.{scalars_of, item_size}
+use Rattle.strm_codes.specs.Layout.{item_type}
+use Rattle.strm_codes.specs.ItemTypes.{item_size}
 use Rattle.strm_codes.specs.declared.codes.TransmitKind.{TransmitKind}
 use Rattle.strm_codes.specs.declared.payloads.Payload.{Payload}
 use Rattle.strm_memory.specs.Items.{good_items}
@@ -122,16 +123,16 @@ pub record Takes (old new : ReceiveQueue) (before after : Offered) (finish : Boo
       ≡ taking_answer old.kind old.ended (old.credit - after.taken) (items_lent before.source) after.taken finish
   pub leaves :
       new
-      ≡ took old (first_lent (scalars_of before.payload) before.source after.taken)
+      ≡ took old (first_lent (item_type before.payload) before.source after.taken)
       (reader_record before after finish answer)
 
 -- a poll of so many items that lie in bytes from a place on, which asks for none that is bad: it takes what it may of
 -- the good ones at the front
 pub record TakesGood (old new : ReceiveQueue) (bytes : List ℕ) (from offered since : ℕ) (finish : Bool) (said : ReaderSaid) : Type 0 where
   pub taken :
-      said.taken ≡ length (good_items (scalars_of old.payload) (drop from bytes) (min offered old.credit))
+      said.taken ≡ length (good_items (item_type old.payload) (drop from bytes) (min offered old.credit))
   pub record_is : said ≡ taking_record old offered since finish said.taken false
-  pub leaves : new ≡ took old (items_in (scalars_of old.payload) bytes from said.taken) said
+  pub leaves : new ≡ took old (items_in (item_type old.payload) bytes from said.taken) said
 
 -- WHAT ELSE IS DONE
 
@@ -151,5 +152,5 @@ reader_shut queue = record queue { closed = true }
 
 -- there is memory for what it may take yet, and all of that can be counted
 pub record HasRoomFor (kept : Waiting) (credit : ℕ) : Type 0 where
-  pub room : item_size (scalars_of kept.payload) * credit ≤ kept.room
+  pub room : item_size (item_type kept.payload) * credit ≤ kept.room
   pub few : length kept.items + credit < 4294967295

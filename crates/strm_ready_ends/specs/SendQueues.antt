@@ -1,7 +1,7 @@
 -- What a ready host writer is: what it tells as a host writer, and what each of its calls does. Ours: wasmtime's
 -- producers are code of the host's that is asked; this one is fed before it is asked, and holds what it was fed.
 use Rattle.std.specs.Prelude.{◌≡◌, ℕ, ◌+◌, ◌==◌, Bool, true, false, ◌&&◌, ◌||◌, not, if◌then◌else◌, List, [], ◌∷◌, ◌++◌, length, map, nat_le, Option, None, Result, Ok, Err}
-use Rattle.strm_codes.specs.Layout.{scalars_of}
+use Rattle.strm_codes.specs.Layout.{item_type}
 use Rattle.strm_codes.specs.declared.codes.TransmitKind.{TransmitKind}
 use Rattle.strm_codes.specs.declared.codes.TransmitKind.TheVariants.{Stream, Future}
 use Rattle.strm_codes.specs.declared.payloads.Payload.{Payload}
@@ -72,7 +72,7 @@ pub record MayFeed (queue : SendQueue) (bytes : List ℕ) (count : ℕ) : Type 0
 -- is wrong, or the bytes are not so many items, or memory had run out
 abbrev pub Feeds : SendQueue → SendQueue → List ℕ → ℕ → Result (Unit {0}) FeedError → Type 0
 Feeds old new bytes count (Ok _) =
-    MayFeed old bytes count × (new ≡ fed old (items_in (scalars_of old.payload) bytes 0 count))
+    MayFeed old bytes count × (new ≡ fed old (items_in (item_type old.payload) bytes 0 count))
 Feeds old new bytes count (Err Ended) = (is_shut old ≡ true) × (new ≡ old)
 Feeds old new bytes count (Err WrongCount) =
     (is_shut old ≡ false) × (is_wrong_count old.kind (length old.items) count ≡ true) × (new ≡ old)

@@ -11,7 +11,7 @@ pub enum FeedError {
     /// A future is fed one item, and a writer holds at most 4,294,967,294.
     #[error("as many items may not be fed")]
     WrongCount,
-    /// The bytes are not so many items, or one of these is no Unicode scalar value.
+    /// The bytes are not so many items, or one of these is none of its type.
     #[error("the bytes are not so many items")]
     BadItems,
     /// An allocation was refused.

@@ -3,7 +3,8 @@
 //! Meaning: `Waiting.antt`. Source: ours. Layout: Canonical ABI, "Loading" and "Storing".
 
 ghost use Rattle.std.specs.Prelude.{◌≡◌, ◌+◌, ◌*◌, ◌<◌, ◌≤◌, [], ◌++◌, length, take, drop, OnOk, OnErr};
-ghost use Rattle.strm_codes.specs.Layout.{scalars_of, item_size};
+ghost use Rattle.strm_codes.specs.Layout.{item_type};
+ghost use Rattle.strm_codes.specs.ItemTypes.{item_size};
 ghost use Rattle.strm_memory.specs.Items.{stored, AreItems};
 ghost use Rattle.strm_buffers.specs.Listing.{LieIn, items_in};
 ghost use Rattle.strm_buffers.specs.Tells.{Fills};
@@ -61,7 +62,7 @@ impl ItemQueue {
     pub fn len(&self) -> usize
         ensures exact { result ≡ length self.now.items }
         ensures most { result < 4294967295 }
-        ensures fit { AreItems (scalars_of self.now.payload) self.now.items }
+        ensures fit { AreItems (item_type self.now.payload) self.now.items }
     {
         self.len
     }
@@ -72,7 +73,7 @@ impl ItemQueue {
         ensures items { self.new.items ≡ self.old.items }
         ensures grows { self.old.room ≤ self.new.room }
         ensures room { OnOk result
-            (item_size (scalars_of self.old.payload) * count ≤ self.new.room) }
+            (item_size (item_type self.old.payload) * count ≤ self.new.room) }
     {
         self.bytes
             .reserve(self.payload.size() as usize * count as usize)?;
@@ -81,13 +82,13 @@ impl ItemQueue {
 
     /// Puts so many items behind the others, which these bytes are: there is room for them.
     pub fn push_reserved(&mut self, bytes: &[u8], count: u32)
-        requires all { length bytes.now ≡ item_size (scalars_of self.old.payload) * count }
-        requires lie { LieIn (scalars_of self.old.payload) bytes.now 0 count }
+        requires all { length bytes.now ≡ item_size (item_type self.old.payload) * count }
+        requires lie { LieIn (item_type self.old.payload) bytes.now 0 count }
         requires few { length self.old.items + count < 4294967295 }
         requires room { length bytes.now ≤ self.old.room }
         ensures payload { self.new.payload ≡ self.old.payload }
         ensures items { self.new.items
-            ≡ self.old.items ++ items_in (scalars_of self.old.payload) bytes.now 0 count }
+            ≡ self.old.items ++ items_in (item_type self.old.payload) bytes.now 0 count }
         ensures left { self.new.room + length bytes.now ≡ self.old.room }
     {
         self.bytes.extend_reserved(bytes);
@@ -96,12 +97,12 @@ impl ItemQueue {
 
     /// Puts so many items behind the others, which these bytes are. After `OutOfMemory` nothing has changed.
     pub fn push(&mut self, bytes: &[u8], count: u32) -> Result<(), OutOfMemory>
-        requires all { length bytes.now ≡ item_size (scalars_of self.old.payload) * count }
-        requires lie { LieIn (scalars_of self.old.payload) bytes.now 0 count }
+        requires all { length bytes.now ≡ item_size (item_type self.old.payload) * count }
+        requires lie { LieIn (item_type self.old.payload) bytes.now 0 count }
         requires few { length self.old.items + count < 4294967295 }
         ensures payload { self.new.payload ≡ self.old.payload }
         ensures ok { OnOk result (self.new.items
-            ≡ self.old.items ++ items_in (scalars_of self.old.payload) bytes.now 0 count) }
+            ≡ self.old.items ++ items_in (item_type self.old.payload) bytes.now 0 count) }
         ensures err { OnErr result (self.new.items ≡ self.old.items) }
     {
         self.reserve(count)?;
@@ -112,10 +113,10 @@ impl ItemQueue {
     /// The bytes of the first so many items, one behind the other.
     pub fn first(&self, count: usize) -> &[u8]
         requires { count ≤ length self.now.items }
-        ensures lie { LieIn (scalars_of self.now.payload) result.now 0 count }
-        ensures items { items_in (scalars_of self.now.payload) result.now 0 count
+        ensures lie { LieIn (item_type self.now.payload) result.now 0 count }
+        ensures items { items_in (item_type self.now.payload) result.now 0 count
             ≡ take count self.now.items }
-        ensures all { length result.now ≡ item_size (scalars_of self.now.payload) * count }
+        ensures all { length result.now ≡ item_size (item_type self.now.payload) * count }
     {
         let size = self.payload.size() as usize;
         // For the product: how many bytes there can be.
@@ -127,9 +128,9 @@ impl ItemQueue {
     /// it was.
     pub fn write_first(&self, count: usize, bytes: &mut [u8])
         requires there { count ≤ length self.now.items }
-        requires room { item_size (scalars_of self.now.payload) * count ≤ length bytes.old }
+        requires room { item_size (item_type self.now.payload) * count ≤ length bytes.old }
         ensures { bytes.new
-            ≡ stored (scalars_of self.now.payload) bytes.old (take count self.now.items) }
+            ≡ stored (item_type self.now.payload) bytes.old (take count self.now.items) }
     {
         write_from(self.first(count), bytes, self.payload(), count);
     }
@@ -180,10 +181,10 @@ fn give_up(bytes: &mut BytesMut, count: usize)
 
 // Writes so many items with which a source begins over bytes from their front on.
 fn write_from(source: &[u8], bytes: &mut [u8], payload: Payload, count: usize)
-    requires lie { LieIn (scalars_of payload) source.now 0 count }
-    requires inside { item_size (scalars_of payload) * count ≤ length bytes.old }
+    requires lie { LieIn (item_type payload) source.now 0 count }
+    requires inside { item_size (item_type payload) * count ≤ length bytes.old }
     ensures { bytes.new
-        ≡ stored (scalars_of payload) bytes.old (items_in (scalars_of payload) source.now 0 count) }
+        ≡ stored (item_type payload) bytes.old (items_in (item_type payload) source.now 0 count) }
 {
     match copy_region(source, 0, bytes, 0, payload, count) {
         Ok(()) => {}

@@ -3,7 +3,8 @@
 //! Meaning: `ReceiveQueues.antt`. Ours.
 
 ghost use Rattle.std.specs.Prelude.{◌≡◌, ◌+◌, ◌-◌, ◌*◌, ◌<◌, ◌≤◌, min, true, false, [], ◌++◌, length, take, IsOk, IfOk, OnOk, OnErr};
-ghost use Rattle.strm_codes.specs.Layout.{scalars_of, item_size};
+ghost use Rattle.strm_codes.specs.Layout.{item_type};
+ghost use Rattle.strm_codes.specs.ItemTypes.{item_size};
 ghost use Rattle.strm_memory.specs.Items.{stored, AreItems};
 ghost use Rattle.strm_buffers.specs.Listing.{LieIn, items_in};
 ghost use Rattle.strm_buffers.specs.Offers.{items_lent, IsBadNext};
@@ -94,7 +95,7 @@ impl ReadyReader {
     pub fn kept(&self) -> usize
         ensures exact { result ≡ length self.now.items }
         ensures most { result < 4294967295 }
-        ensures fit { AreItems (scalars_of self.now.payload) self.now.items }
+        ensures fit { AreItems (item_type self.now.payload) self.now.items }
     {
         self.taken.len()
     }
@@ -116,10 +117,10 @@ impl ReadyReader {
     /// The bytes of the first so many items that it keeps, one behind the other: no byte is copied.
     pub fn first_bytes(&self, count: usize) -> &[u8]
         requires { count ≤ length self.now.items }
-        ensures lie { LieIn (scalars_of self.now.payload) result.now 0 count }
-        ensures items { items_in (scalars_of self.now.payload) result.now 0 count
+        ensures lie { LieIn (item_type self.now.payload) result.now 0 count }
+        ensures items { items_in (item_type self.now.payload) result.now 0 count
             ≡ take count self.now.items }
-        ensures all { length result.now ≡ item_size (scalars_of self.now.payload) * count }
+        ensures all { length result.now ≡ item_size (item_type self.now.payload) * count }
     {
         self.taken.first(count)
     }
@@ -135,10 +136,10 @@ impl ReadyReader {
     /// Writes the first items that it keeps over bytes from their front on, one behind the other, at most so many, and
     /// gives them up: how many. Padding stays as it was.
     pub fn collect(&mut self, bytes: &mut [u8], most: u32) -> u32
-        requires { item_size (scalars_of self.old.payload) * most ≤ length bytes.old }
+        requires { item_size (item_type self.old.payload) * most ≤ length bytes.old }
         ensures count { result ≡ min most (length self.old.items) }
         ensures bytes { bytes.new
-            ≡ stored (scalars_of self.old.payload) bytes.old (take result self.old.items) }
+            ≡ stored (item_type self.old.payload) bytes.old (take result self.old.items) }
         ensures left { self.new ≡ collected self.old result }
     {
         let count = most.min(self.taken.len() as u32);
@@ -214,11 +215,11 @@ impl ReadyReader {
 
     // Keeps so many items that these bytes are, of those that it may take.
     fn keep(&mut self, bytes: &[u8], taken: u32)
-        requires all { length bytes.now ≡ item_size (scalars_of self.old.payload) * taken }
-        requires lie { LieIn (scalars_of self.old.payload) bytes.now 0 taken }
+        requires all { length bytes.now ≡ item_size (item_type self.old.payload) * taken }
+        requires lie { LieIn (item_type self.old.payload) bytes.now 0 taken }
         requires few { taken ≤ self.old.credit }
         ensures { self.new ≡ record self.old {
-          items = self.old.items ++ items_in (scalars_of self.old.payload) bytes.now 0 taken;
+          items = self.old.items ++ items_in (item_type self.old.payload) bytes.now 0 taken;
           credit = self.old.credit - taken;
         } }
     {
@@ -237,10 +238,10 @@ impl ReadyReader {
         ensures said { IfOk result
             (λ said. said ≡ reader_record offer.old offer.new finish said.answer) }
         ensures counted { OnOk result (offer.new.taken ≡ length
-            (first_lent (scalars_of offer.old.payload) offer.old.source offer.new.taken)) }
+            (first_lent (item_type offer.old.payload) offer.old.source offer.new.taken)) }
         ensures most { OnOk result (offer.new.taken ≤ items_lent offer.old.source) }
         ensures next { OnOk result (offer.new.bad ≡ true →
-            IsBadNext (scalars_of offer.old.payload) offer.old.source offer.new.taken) }
+            IsBadNext (item_type offer.old.payload) offer.old.source offer.new.taken) }
         ensures err { OnErr result (self.new ≡ self.old) }
         ensures untaken { OnErr result (offer.new ≡ offer.old) }
         ensures takes_no_memory { self.old.said ≡ [] → IsOk result }
@@ -266,11 +267,11 @@ impl ReadyReader {
         since: u32,
         finish: bool,
     ) -> Result<ReaderSaid, OutOfMemory>
-        requires { from + item_size (scalars_of self.old.payload) * offered ≤ length bytes.now }
+        requires { from + item_size (item_type self.old.payload) * offered ≤ length bytes.now }
         ensures takes { IfOk result
             (TakesGood self.old self.new bytes.now from offered since finish) }
         ensures counted { IfOk result (λ said. said.taken
-            ≡ length (items_in (scalars_of self.old.payload) bytes.now from said.taken)) }
+            ≡ length (items_in (item_type self.old.payload) bytes.now from said.taken)) }
         ensures most { IfOk result (λ said. said.taken ≤ offered) }
         ensures err { OnErr result (self.new ≡ self.old) }
         ensures takes_no_memory { self.old.said ≡ [] → IsOk result }
@@ -315,12 +316,12 @@ impl HostReader for ReadyReader {
         ensures polls { IfAnswered result (λ answer.
             PollsReader (ready_reader_tells self.old) (ready_reader_tells self.new)
             (reader_record offer.old offer.new finish answer)
-            (first_lent (scalars_of offer.old.payload) offer.old.source offer.new.taken)) }
+            (first_lent (item_type offer.old.payload) offer.old.source offer.new.taken)) }
         ensures no_memory { IfNoMemory result
             (KeepsReader (ready_reader_tells self.old) (ready_reader_tells self.new)) }
         ensures untaken { IfNoMemory result (offer.new.taken ≡ 0) }
         ensures next { offer.new.bad ≡ true →
-            IsBadNext (scalars_of offer.old.payload) offer.old.source offer.new.taken }
+            IsBadNext (item_type offer.old.payload) offer.old.source offer.new.taken }
         ensures same { SameOffer offer.old offer.new }
 
         // It takes what it was granted, up to an item that is none, and answers by what is left of that. It takes no

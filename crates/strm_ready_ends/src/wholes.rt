@@ -3,7 +3,8 @@
 //! Meaning: `Wholes.antt`. Ours.
 
 ghost use Rattle.std.specs.Prelude.{◌≡◌, ◌+◌, ◌*◌, ◌≤◌, true, length, drop};
-ghost use Rattle.strm_codes.specs.Layout.{scalars_of, item_size};
+ghost use Rattle.strm_codes.specs.Layout.{item_type};
+ghost use Rattle.strm_codes.specs.ItemTypes.{item_size};
 ghost use Rattle.strm_memory.specs.Bytes.{IsBytes};
 ghost use Rattle.strm_memory.specs.Items.{good_items};
 ghost use Rattle.strm_buffers.specs.Listing.{LieIn, items_in};
@@ -27,11 +28,11 @@ pub fn are_whole(bytes: &[u8], payload: &Payload, count: u32) -> bool
 
 // Of so many items that lie from a place on, how many are good, up to the first that is none.
 fn count_good(bytes: &[u8], from: usize, payload: &Payload, count: u32) -> u32
-    requires { from + item_size (scalars_of payload.now) * count ≤ length bytes.now }
+    requires { from + item_size (item_type payload.now) * count ≤ length bytes.now }
     ensures exact { result
-        ≡ length (good_items (scalars_of payload.now) (drop from bytes.now) count) }
+        ≡ length (good_items (item_type payload.now) (drop from bytes.now) count) }
     ensures few { result ≤ count }
-    ensures inside { from + item_size (scalars_of payload.now) * result ≤ length bytes.now }
+    ensures inside { from + item_size (item_type payload.now) * result ≤ length bytes.now }
 {
     let good = count_good_items(bytes, from, payload, count as usize);
     good.min(count as usize) as u32
@@ -44,15 +45,15 @@ pub(crate) fn good_front<'a>(
     payload: &Payload,
     count: u32,
 ) -> (&'a [u8], u32)
-    requires { from + item_size (scalars_of payload.now) * count ≤ length bytes.now }
+    requires { from + item_size (item_type payload.now) * count ≤ length bytes.now }
     ensures exact { result.1
-        ≡ length (good_items (scalars_of payload.now) (drop from bytes.now) count) }
+        ≡ length (good_items (item_type payload.now) (drop from bytes.now) count) }
     ensures few { result.1 ≤ count }
-    ensures lie { LieIn (scalars_of payload.now) result.0.now 0 result.1 }
-    ensures items { items_in (scalars_of payload.now) result.0.now 0 result.1
-        ≡ items_in (scalars_of payload.now) bytes.now from result.1 }
-    ensures counted { length (items_in (scalars_of payload.now) bytes.now from result.1) ≡ result.1 }
-    ensures all { length result.0.now ≡ item_size (scalars_of payload.now) * result.1 }
+    ensures lie { LieIn (item_type payload.now) result.0.now 0 result.1 }
+    ensures items { items_in (item_type payload.now) result.0.now 0 result.1
+        ≡ items_in (item_type payload.now) bytes.now from result.1 }
+    ensures counted { length (items_in (item_type payload.now) bytes.now from result.1) ≡ result.1 }
+    ensures all { length result.0.now ≡ item_size (item_type payload.now) * result.1 }
 {
     are_bytes(bytes);
     let good = count_good(bytes, from, payload, count);

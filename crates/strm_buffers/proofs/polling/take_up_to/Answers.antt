@@ -1,5 +1,5 @@
 use Rattle.std.proofs.Common.{◌≡◌, length, arith}
-use Rattle.strm_codes.specs.Layout.{scalars_of}
+use Rattle.strm_codes.specs.Layout.{item_type}
 use Rattle.strm_buffers.specs.Offers.{left_of, after_taking}
 use Rattle.strm_buffers.proofs.OfferLemmas.{length-first_lent, offer_taken}
 use Rattle.strm_buffers.proofs.PollingLemmas.{taken_stop, taken_all, stops_at}
@@ -17,7 +17,7 @@ returns-then-good-count-clause-takes c =
 pub returns-then-good-count-clause-counted : goal.returns-then-good-count-clause-counted
 returns-then-good-count-clause-counted c =
     let old = c.args.offer.now in
-    rw (returns-then-good-count-clause-takes c) (length-first_lent (scalars_of old.payload) old.source (after_taking c.args.wanted old).taken (offer_taken old c.args.wanted c.sound.ensures).good)
+    rw (returns-then-good-count-clause-takes c) (length-first_lent (item_type old.payload) old.source (after_taking c.args.wanted old).taken (offer_taken old c.args.wanted c.sound.ensures).good)
 
 pub returns-then-good-count-clause-next : goal.returns-then-good-count-clause-next
 returns-then-good-count-clause-next c =
@@ -33,7 +33,7 @@ returns-else-good-count-clause-takes c =
 pub returns-else-good-count-clause-counted : goal.returns-else-good-count-clause-counted
 returns-else-good-count-clause-counted c =
     let old = c.args.offer.now in
-    rw (returns-else-good-count-clause-takes c) (length-first_lent (scalars_of old.payload) old.source (after_taking c.args.wanted old).taken (offer_taken old c.args.wanted c.sound.ensures).good)
+    rw (returns-else-good-count-clause-takes c) (length-first_lent (item_type old.payload) old.source (after_taking c.args.wanted old).taken (offer_taken old c.args.wanted c.sound.ensures).good)
 
 pub returns-else-good-count-clause-next : goal.returns-else-good-count-clause-next
 returns-else-good-count-clause-next c =

@@ -1,5 +1,5 @@
 use Rattle.std.proofs.Common.{length, sym, ap, ◌∙◌}
-use Rattle.strm_codes.specs.Layout.{scalars_of}
+use Rattle.strm_codes.specs.Layout.{item_type}
 use Rattle.strm_buffers.proofs.ListingLemmas.{length-items_in}
 use Rattle.strm_ready_ends.proofs.WholeLemmas.{good_lie}
 use Rattle.strm_ready_ends.proofs.wholes.good_front.Goals as goal
@@ -37,4 +37,4 @@ returns-clause-counted c =
       cut = c.split_at-2.ensures.front;
       len = c.split_at-2.ensures.front_len;
     }) in
-    ap length (sym there.is) ∙ length-items_in (scalars_of c.args.payload.now) c.split_at-2.result.0.now 0 c.count_good-good.result there.lie
+    ap length (sym there.is) ∙ length-items_in (item_type c.args.payload.now) c.split_at-2.result.0.now 0 c.count_good-good.result there.lie

@@ -1,5 +1,5 @@
 use Rattle.std.proofs.Common.{◌≡◌, ◌+◌, ◌*◌, ◌≤◌, min, length, drop, sym, subst, ◌∙◌, arith}
-use Rattle.strm_codes.specs.Layout.{scalars_of}
+use Rattle.strm_codes.specs.Layout.{item_type}
 use Rattle.strm_memory.proofs.GoodLemmas.{length-good_items}
 use Rattle.strm_buffers.specs.Offers.{Offered, items_lent, left_of}
 use Rattle.strm_buffers.proofs.OfferLemmas.{left_fits, count_left}
@@ -14,7 +14,7 @@ count_good_items-requires c =
 
 pub overflow_cast-result : goal.overflow_cast-result
 overflow_cast-result c =
-    let most = length-good_items (scalars_of c.self.inside.payload) (drop (c.in-Region.address + c.size.result * c.self.inside.taken) c.bytes.result.now) c.args.count in
+    let most = length-good_items (item_type c.self.inside.payload) (drop (c.in-Region.address + c.size.result * c.self.inside.taken) c.bytes.result.now) c.args.count in
     omega (arith, most, c.count_good_items.ensures, c.ranges.count)
 
 pub returns-in-Region : goal.returns-in-Region

@@ -1,5 +1,5 @@
 use Rattle.std.proofs.Common.{◌≡◌, length}
-use Rattle.strm_codes.specs.Layout.{scalars_of}
+use Rattle.strm_codes.specs.Layout.{item_type}
 use Rattle.strm_memory.specs.Items.{byte_items}
 use Rattle.strm_buffers.specs.Listing.{items_in}
 use Rattle.strm_buffers.proofs.ListingLemmas.{bytes_lie}
@@ -11,6 +11,6 @@ put_all-requires-clause-lie c = rw c.requires.bytes (bytes_lie c.args.bytes.now 
 pub returns-clause-ok : goal.returns-clause-ok
 returns-clause-ok c =
     let bytes = c.args.bytes.now in
-    let is : items_in (scalars_of c.args.self.now.payload) bytes 0 (length bytes) ≡ byte_items bytes =
+    let is : items_in (item_type c.args.self.now.payload) bytes 0 (length bytes) ≡ byte_items bytes =
     rw c.requires.bytes (bytes_lie bytes c.are_bytes.ensures).is in
     rw is at c.put_all.ensures.ok

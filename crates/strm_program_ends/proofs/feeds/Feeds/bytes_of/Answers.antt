@@ -1,5 +1,6 @@
 use Rattle.std.proofs.Common.{◌≡◌, ◌+◌, ◌*◌, ◌≤◌, length, take, drop, sym, ap, subst, ◌∙◌, arith}
-use Rattle.strm_codes.specs.Layout.{scalars_of, item_size}
+use Rattle.strm_codes.specs.Layout.{item_type}
+use Rattle.strm_codes.specs.ItemTypes.{item_size}
 use Rattle.strm_buffers.specs.Listing.{LieIn, items_in}
 use Rattle.strm_buffers.proofs.ListingLemmas.{length-items_in, lie_part, part_inside}
 use Rattle.strm_program_ends.specs.Fed.{AllFed}
@@ -29,17 +30,17 @@ split_at-requires-2 c =
 pub returns-clause-lie : goal.returns-clause-lie
 returns-clause-lie c =
     let s = c.self.inside in
-    let ss = scalars_of s.payload in
+    let ss = item_type s.payload in
     let h : c.args.start + c.args.count ≤ s.len = omega (arith, c.requires, length-items_in _ _ _ _ c.self.invariant.lie, ap (λ v. length v.items) c.self.view_is) in
     let e : c.split_at-2.result.0.now ≡ take (item_size ss * c.args.count) (drop (item_size ss * c.args.start) s.bytes.items) = rw (← c.size-size.ensures.exact, ← c.as_slice.ensures) (c.split_at-2.ensures.front ∙ ap (take (c.size-size.result * c.args.count)) c.split_at.ensures.back) in
     let n : length c.split_at-2.result.0.now ≡ item_size ss * c.args.count = c.split_at-2.ensures.front_len ∙ ap (λ w. w * c.args.count) c.size-size.ensures.exact in
-    subst (λ (v : AllFed). LieIn (scalars_of v.payload) c.split_at-2.result.0.now 0 c.args.count) c.self.view_is (lie_part ss s.bytes.items c.split_at-2.result.0.now s.len c.args.start c.args.count c.self.invariant.lie h e n).lie
+    subst (λ (v : AllFed). LieIn (item_type v.payload) c.split_at-2.result.0.now 0 c.args.count) c.self.view_is (lie_part ss s.bytes.items c.split_at-2.result.0.now s.len c.args.start c.args.count c.self.invariant.lie h e n).lie
 
 pub returns-clause-items : goal.returns-clause-items
 returns-clause-items c =
     let s = c.self.inside in
-    let ss = scalars_of s.payload in
+    let ss = item_type s.payload in
     let h : c.args.start + c.args.count ≤ s.len = omega (arith, c.requires, length-items_in _ _ _ _ c.self.invariant.lie, ap (λ v. length v.items) c.self.view_is) in
     let e : c.split_at-2.result.0.now ≡ take (item_size ss * c.args.count) (drop (item_size ss * c.args.start) s.bytes.items) = rw (← c.size-size.ensures.exact, ← c.as_slice.ensures) (c.split_at-2.ensures.front ∙ ap (take (c.size-size.result * c.args.count)) c.split_at.ensures.back) in
     let n : length c.split_at-2.result.0.now ≡ item_size ss * c.args.count = c.split_at-2.ensures.front_len ∙ ap (λ w. w * c.args.count) c.size-size.ensures.exact in
-    subst (λ (v : AllFed). items_in (scalars_of v.payload) c.split_at-2.result.0.now 0 c.args.count ≡ take c.args.count (drop c.args.start v.items)) c.self.view_is (lie_part ss s.bytes.items c.split_at-2.result.0.now s.len c.args.start c.args.count c.self.invariant.lie h e n).is
+    subst (λ (v : AllFed). items_in (item_type v.payload) c.split_at-2.result.0.now 0 c.args.count ≡ take c.args.count (drop c.args.start v.items)) c.self.view_is (lie_part ss s.bytes.items c.split_at-2.result.0.now s.len c.args.start c.args.count c.self.invariant.lie h e n).is

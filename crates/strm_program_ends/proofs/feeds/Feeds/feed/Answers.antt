@@ -1,6 +1,7 @@
 use Rattle.std.proofs.Common.{◌≡◌, ℕ, ◌+◌, ◌*◌, List, [], ◌∷◌, ◌++◌, length, take, drop, refl, ap, ◌∙◌, arith, length-append}
 use Rattle.std.proofs.Math.Seq.{take-append_seam}
-use Rattle.strm_codes.specs.Layout.{scalars_of, item_size}
+use Rattle.strm_codes.specs.Layout.{item_type}
+use Rattle.strm_codes.specs.ItemTypes.{item_size}
 use Rattle.strm_program_ends.specs.Fed.{more_fed, fed_kept}
 use Rattle.strm_program_ends.specs.declared.feeds.Feed.{Feed}
 use Rattle.strm_program_ends.proofs.FedLemmas.{AreFed, FedMore, fed_more, feed_of}
@@ -29,7 +30,7 @@ invariant_of-self-2 c =
     let n = c.count_items-count.result in
     let k = c.size.result * n in
     let counted = c.count_items-count.ensures in
-    let e : k ≡ item_size (scalars_of s.payload) * n = ap (λ w. w * n) c.size.ensures.exact in
+    let e : k ≡ item_size (item_type s.payload) * n = ap (λ w. w * n) c.size.ensures.exact in
     let fed : AreFed s.payload given n k = record { lie = counted.lie; fit = counted.fit; size = e; within = omega (arith, e, counted.within); few = counted.few } in
     let p : FedMore c.args.self.now c.args.records given s.payload (s.bytes.items ++ take k given) (s.len + n) (s.rest.items ++ drop k given) (s.feeds.items ++ feed_of c.args.records (take k given) (drop k given) ∷ []) =
     fed_more s.payload s.bytes.items s.rest.items s.len s.feeds.items c.args.self.now c.self.invariant c.self.view_is given n k c.args.records fed in
@@ -47,7 +48,7 @@ returns-clause-ok c =
     let n = c.count_items-count.result in
     let k = c.size.result * n in
     let counted = c.count_items-count.ensures in
-    let e : k ≡ item_size (scalars_of s.payload) * n = ap (λ w. w * n) c.size.ensures.exact in
+    let e : k ≡ item_size (item_type s.payload) * n = ap (λ w. w * n) c.size.ensures.exact in
     let fed : AreFed s.payload given n k = record { lie = counted.lie; fit = counted.fit; size = e; within = omega (arith, e, counted.within); few = counted.few } in
     let p : FedMore c.args.self.now c.args.records given s.payload (s.bytes.items ++ take k given) (s.len + n) (s.rest.items ++ drop k given) (s.feeds.items ++ feed_of c.args.records (take k given) (drop k given) ∷ []) =
     fed_more s.payload s.bytes.items s.rest.items s.len s.feeds.items c.args.self.now c.self.invariant c.self.view_is given n k c.args.records fed in

@@ -2,7 +2,7 @@ use Rattle.std.proofs.Common.{◌≡◌, ◌+◌, ◌-◌, ◌≤◌, [], ◌∷
 use Rattle.std.proofs.lemmas.List.{map-append}
 use Rattle.std.proofs.lemmas.List.Elements.{All-push, All-same}
 use Rattle.std.specs.Prelude.{min}
-use Rattle.strm_codes.specs.Layout.{scalars_of}
+use Rattle.strm_codes.specs.Layout.{item_type}
 use Rattle.strm_memory.proofs.AppendLemmas.{AreItems-drop}
 use Rattle.strm_buffers.specs.Windows.{room_of}
 use Rattle.strm_buffers.specs.Listing.{Item}
@@ -49,7 +49,7 @@ returns-clause-gives c =
 pub returns-clause-fit : goal.returns-clause-fit
 returns-clause-fit c =
     let old = c.args.self.now in
-    let ss = scalars_of old.fed.payload in
+    let ss = item_type old.fed.payload in
     rw c.in_ok-mark.ensures.marked (AreItems-take ss c.min-count.result (drop old.given old.fed.items) (AreItems-drop ss old.given old.fed.items c.sound.ensures))
 
 pub returns-clause-said : goal.returns-clause-said

@@ -1,5 +1,5 @@
 use Rattle.std.proofs.Common.{Some, ap, arith}
-use Rattle.strm_codes.specs.Layout.{scalars_of}
+use Rattle.strm_codes.specs.Layout.{item_type}
 use Rattle.strm_buffers.proofs.ListingLemmas.{lie_none}
 use Rattle.strm_program_ends.specs.Takings.{unpolled_reader}
 use Rattle.strm_program_ends.proofs.KeepLemmas.{taken_none}
@@ -10,5 +10,5 @@ invariant_of-result c = record { taken = λ _. taken_none c.args.payload _ _ c.n
 
 pub returns-clause-tells : goal.returns-clause-tells
 returns-clause-tells c =
-    let none = (lie_none (scalars_of c.args.payload) c.new.result.items 0 (omega arith)).is in
+    let none = (lie_none (item_type c.args.payload) c.new.result.items 0 (omega arith)).is in
     rw c.new-2.ensures.items (ap (λ xs. record (unpolled_reader c.args.kind c.args.payload) { holds = Some xs }) none)

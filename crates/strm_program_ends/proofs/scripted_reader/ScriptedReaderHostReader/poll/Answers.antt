@@ -1,5 +1,6 @@
 use Rattle.std.proofs.Common.{◌≡◌, ◌≤◌, ◌*◌, length, refl, sym, ap, subst, ◌∙◌, arith}
-use Rattle.strm_codes.specs.Layout.{scalars_of, item_size}
+use Rattle.strm_codes.specs.Layout.{item_type}
+use Rattle.strm_codes.specs.ItemTypes.{item_size}
 use Rattle.strm_buffers.specs.Offers.{Offered, items_lent}
 use Rattle.strm_buffers.specs.Tells.{reader_record}
 use Rattle.strm_buffers.proofs.EndLemmas.{IfAnswered-turn_of}
@@ -14,9 +15,9 @@ keep-requires c = λ k.
     let payload = c.args.self.now.payload in
     let offered : c.remaining-offered.result ≡ items_lent old.source = omega (arith, c.remaining-offered.ensures, c.requires.nothing_taken) in
     let within = taken_within payload old c.next_turn-turn.result.take c.remaining-offered.result c.size.result c.requires.payload c.requires.nothing_taken offered c.size.ensures.exact in
-    let taken = ap (λ (o : Offered). item_size (scalars_of payload) * o.taken) c.take_up_to.ensures.takes in
-    let size : length c.taken_bytes.result.now ≡ item_size (scalars_of payload) * new.taken =
-    c.taken_bytes.ensures.all ∙ ap (λ p. item_size (scalars_of p) * new.taken) (ap (λ (o : Offered). o.payload) c.take_up_to.ensures.takes ∙ c.requires.payload) in
+    let taken = ap (λ (o : Offered). item_size (item_type payload) * o.taken) c.take_up_to.ensures.takes in
+    let size : length c.taken_bytes.result.now ≡ item_size (item_type payload) * new.taken =
+    c.taken_bytes.ensures.all ∙ ap (λ p. item_size (item_type p) * new.taken) (ap (λ (o : Offered). o.payload) c.take_up_to.ensures.takes ∙ c.requires.payload) in
     let most = ap (λ n. c.size.result * n) c.min.ensures in
     omega (arith, c.in-Ok-make_room.ensures.room k, size, taken, within, most)
 

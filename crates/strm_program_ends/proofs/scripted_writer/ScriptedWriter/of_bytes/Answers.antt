@@ -1,4 +1,3 @@
-use Rattle.std.proofs.Common.{◌≡◌}
 use Rattle.strm_program_ends.proofs.ScriptLemmas.{bytes_typed}
 use Rattle.strm_program_ends.proofs.scripted_writer.ScriptedWriter.of_bytes.Goals as goal
 

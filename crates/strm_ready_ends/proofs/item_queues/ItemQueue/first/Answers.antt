@@ -1,5 +1,6 @@
 use Rattle.std.proofs.Common.{◌≡◌, ◌*◌, ◌≤◌, length, take, ap, subst, ◌∙◌, arith}
-use Rattle.strm_codes.specs.Layout.{scalars_of, item_size}
+use Rattle.strm_codes.specs.Layout.{item_type}
+use Rattle.strm_codes.specs.ItemTypes.{item_size}
 use Rattle.strm_buffers.specs.Listing.{LieIn, items_in}
 use Rattle.strm_buffers.proofs.ListingLemmas.{length-items_in}
 use Rattle.strm_ready_ends.specs.Waiting.{Waiting}
@@ -21,25 +22,25 @@ split_at-requires c =
 pub returns-clause-lie : goal.returns-clause-lie
 returns-clause-lie c =
     let s = c.self.inside in
-    let ss = scalars_of s.payload in
+    let ss = item_type s.payload in
     let front = c.split_at.result.0.now in
     let h : c.args.count ≤ s.len = omega (arith, c.requires, length-items_in _ _ _ _ c.self.invariant.lie, ap (λ (w : Waiting). length w.items) c.self.view_is) in
     let e : front ≡ take (item_size ss * c.args.count) s.bytes.items = rw (← c.size-size.ensures.exact, ← c.as_slice.ensures) c.split_at.ensures.front in
     let n : length front ≡ item_size ss * c.args.count = c.split_at.ensures.front_len ∙ ap (λ w. w * c.args.count) c.size-size.ensures.exact in
-    subst (λ (w : Waiting). LieIn (scalars_of w.payload) front 0 c.args.count) c.self.view_is (kept_first s.payload s.bytes.items s.len c.self.invariant front c.args.count h e n).lie
+    subst (λ (w : Waiting). LieIn (item_type w.payload) front 0 c.args.count) c.self.view_is (kept_first s.payload s.bytes.items s.len c.self.invariant front c.args.count h e n).lie
 
 pub returns-clause-items : goal.returns-clause-items
 returns-clause-items c =
     let s = c.self.inside in
-    let ss = scalars_of s.payload in
+    let ss = item_type s.payload in
     let front = c.split_at.result.0.now in
     let h : c.args.count ≤ s.len = omega (arith, c.requires, length-items_in _ _ _ _ c.self.invariant.lie, ap (λ (w : Waiting). length w.items) c.self.view_is) in
     let e : front ≡ take (item_size ss * c.args.count) s.bytes.items = rw (← c.size-size.ensures.exact, ← c.as_slice.ensures) c.split_at.ensures.front in
     let n : length front ≡ item_size ss * c.args.count = c.split_at.ensures.front_len ∙ ap (λ w. w * c.args.count) c.size-size.ensures.exact in
-    subst (λ (w : Waiting). items_in (scalars_of w.payload) front 0 c.args.count ≡ take c.args.count w.items) c.self.view_is (kept_first s.payload s.bytes.items s.len c.self.invariant front c.args.count h e n).is
+    subst (λ (w : Waiting). items_in (item_type w.payload) front 0 c.args.count ≡ take c.args.count w.items) c.self.view_is (kept_first s.payload s.bytes.items s.len c.self.invariant front c.args.count h e n).is
 
 pub returns-clause-all : goal.returns-clause-all
 returns-clause-all c =
     let front = c.split_at.result.0.now in
-    let n : length front ≡ item_size (scalars_of c.self.inside.payload) * c.args.count = c.split_at.ensures.front_len ∙ ap (λ w. w * c.args.count) c.size-size.ensures.exact in
-    subst (λ (w : Waiting). length front ≡ item_size (scalars_of w.payload) * c.args.count) c.self.view_is n
+    let n : length front ≡ item_size (item_type c.self.inside.payload) * c.args.count = c.split_at.ensures.front_len ∙ ap (λ w. w * c.args.count) c.size-size.ensures.exact in
+    subst (λ (w : Waiting). length front ≡ item_size (item_type w.payload) * c.args.count) c.self.view_is n

@@ -1,5 +1,6 @@
 use Rattle.std.proofs.Common.{◌≡◌, ◌+◌, ◌*◌, ◌<◌, ◌++◌, length, sym, ap, subst, ◌∙◌, arith}
-use Rattle.strm_codes.specs.Layout.{scalars_of, item_size}
+use Rattle.strm_codes.specs.Layout.{item_type}
+use Rattle.strm_codes.specs.ItemTypes.{item_size}
 use Rattle.strm_codes.specs.declared.payloads.Payload.{Payload}
 use Rattle.strm_buffers.specs.Listing.{LieIn, items_in}
 use Rattle.strm_buffers.proofs.ListingLemmas.{length-items_in}
@@ -13,8 +14,8 @@ invariant_of-self c =
     let given = c.args.bytes.now in
     let n = c.args.count in
     let same : c.args.self.now.payload ≡ s.payload = sym (ap (λ (w : Waiting). w.payload) c.self.view_is) in
-    let size = subst (λ (p : Payload). length given ≡ item_size (scalars_of p) * n) same c.requires.all in
-    let lie = subst (λ (p : Payload). LieIn (scalars_of p) given 0 n) same c.requires.lie in
+    let size = subst (λ (p : Payload). length given ≡ item_size (item_type p) * n) same c.requires.all in
+    let lie = subst (λ (p : Payload). LieIn (item_type p) given 0 n) same c.requires.lie in
     let few : s.len + n < 4294967295 = omega (arith, c.requires.few, length-items_in _ _ _ _ c.self.invariant.lie, ap (λ (w : Waiting). length w.items) c.self.view_is) in
     rw c.extend_reserved.ensures.items (kept_more s.payload s.bytes.items s.len c.self.invariant given n size lie few).kept
 
@@ -24,11 +25,11 @@ returns-clause-items c =
     let given = c.args.bytes.now in
     let n = c.args.count in
     let same : c.args.self.now.payload ≡ s.payload = sym (ap (λ (w : Waiting). w.payload) c.self.view_is) in
-    let size = subst (λ (p : Payload). length given ≡ item_size (scalars_of p) * n) same c.requires.all in
-    let lie = subst (λ (p : Payload). LieIn (scalars_of p) given 0 n) same c.requires.lie in
+    let size = subst (λ (p : Payload). length given ≡ item_size (item_type p) * n) same c.requires.all in
+    let lie = subst (λ (p : Payload). LieIn (item_type p) given 0 n) same c.requires.lie in
     let few : s.len + n < 4294967295 = omega (arith, c.requires.few, length-items_in _ _ _ _ c.self.invariant.lie, ap (λ (w : Waiting). length w.items) c.self.view_is) in
     rw c.extend_reserved.ensures.items ((kept_more s.payload s.bytes.items s.len c.self.invariant given n size lie few).is
-    ∙ ap (λ (w : Waiting). w.items ++ items_in (scalars_of w.payload) given 0 n) c.self.view_is)
+    ∙ ap (λ (w : Waiting). w.items ++ items_in (item_type w.payload) given 0 n) c.self.view_is)
 
 pub overflow_add-self : goal.overflow_add-self
 overflow_add-self c = omega (arith, c.requires.few, length-items_in _ _ _ _ c.self.invariant.lie, ap (λ (w : Waiting). length w.items) c.self.view_is)

@@ -1,5 +1,6 @@
 use Rattle.std.proofs.Common.{◌≡◌, ◌*◌, ◌≤◌, length, drop, ap, ◌∙◌, arith}
-use Rattle.strm_codes.specs.Layout.{scalars_of, item_size}
+use Rattle.strm_codes.specs.Layout.{item_type}
+use Rattle.strm_codes.specs.ItemTypes.{item_size}
 use Rattle.strm_buffers.proofs.ListingLemmas.{length-items_in}
 use Rattle.strm_ready_ends.specs.Waiting.{Waiting}
 use Rattle.strm_ready_ends.proofs.QueueLemmas.{kept_fewer, first_inside}
@@ -25,7 +26,7 @@ invariant_of-self c =
     let s = c.self.inside in
     let h : c.args.count ≤ s.len = omega (arith, c.requires, length-items_in _ _ _ _ c.self.invariant.lie, ap (λ (w : Waiting). length w.items) c.self.view_is) in
     let new = c.give_up.new.bytes.items in
-    let e : new ≡ drop (item_size (scalars_of s.payload) * c.args.count) s.bytes.items = rw (← c.size.ensures.exact) c.give_up.ensures.items in
+    let e : new ≡ drop (item_size (item_type s.payload) * c.args.count) s.bytes.items = rw (← c.size.ensures.exact) c.give_up.ensures.items in
     (kept_fewer s.payload s.bytes.items s.len c.self.invariant new c.args.count h e).kept
 
 pub returns-clause-items : goal.returns-clause-items
@@ -33,5 +34,5 @@ returns-clause-items c =
     let s = c.self.inside in
     let h : c.args.count ≤ s.len = omega (arith, c.requires, length-items_in _ _ _ _ c.self.invariant.lie, ap (λ (w : Waiting). length w.items) c.self.view_is) in
     let new = c.give_up.new.bytes.items in
-    let e : new ≡ drop (item_size (scalars_of s.payload) * c.args.count) s.bytes.items = rw (← c.size.ensures.exact) c.give_up.ensures.items in
+    let e : new ≡ drop (item_size (item_type s.payload) * c.args.count) s.bytes.items = rw (← c.size.ensures.exact) c.give_up.ensures.items in
     (kept_fewer s.payload s.bytes.items s.len c.self.invariant new c.args.count h e).is ∙ ap (λ (w : Waiting). drop c.args.count w.items) c.self.view_is
