@@ -25,7 +25,8 @@ use Rattle.strm_machine.specs.declared.streams.Side.TheVariants.{Writing, Readin
 use Rattle.strm_machine.specs.declared.streams.Stream.{Stream}
 use Rattle.strm_machine.specs.declared.replies.Reply.{Reply}
 use Rattle.strm_machine.specs.declared.replies.Reply.TheVariants as replies
-use Rattle.strm_machine.proofs.ArrivalLemmas.{AreBytes, AreBytes-with_memory, IsBytes-stored_at, memory_bytes}
+use Rattle.strm_memory.proofs.KeptBytes.{IsBytes-stored_at}
+use Rattle.strm_machine.proofs.ArrivalLemmas.{AreBytes, AreBytes-with_memory, memory_bytes}
 use Rattle.strm_machine.proofs.Lawful.{StaysMade}
 use Rattle.strm_machine.proofs.MomentLemmas.{Seen, Untold, unnamed, untold}
 use Rattle.strm_machine.proofs.NamedEndLemmas.{names-unmade}
@@ -42,7 +43,7 @@ use Rattle.strm_host_laws.proofs.PartEffects.{passing_guests, passing_many, pass
 use Rattle.strm_machine.proofs.StreamSteps.{reaction_streams}
 use Rattle.strm_machine.proofs.SeenSteps.{same_seen, named_other, reaction_seen}
 use Rattle.strm_machine.proofs.ByteSteps.{reaction_bytes}
-use Rattle.strm_codes.specs.Layout.{scalars_of}
+use Rattle.strm_codes.specs.Layout.{item_type}
 use Rattle.strm_codes.specs.declared.payloads.Payload.{Payload}
 use Rattle.strm_host_laws.proofs.PartsSeen.{IsTaken, Parted, pipe_taken}
 use Rattle.strm_host_laws.proofs.TurnsStand.{Holds, Holds-reaction}
@@ -261,7 +262,7 @@ fills_bytes : (side : Side) (old : List Guest) (payload : Payload) (operation : 
 fills_bytes Writing old payload operation count new f b = subst AreBytes (sym f) b
 fills_bytes Reading old payload operation count new f b =
     subst AreBytes (sym f.is)
-    (AreBytes-with_memory old operation.guest _ (IsBytes-stored_at (scalars_of payload) (memory_in old operation.guest) operation.address f.items (memory_bytes old operation.guest b)) b)
+    (AreBytes-with_memory old operation.guest _ (IsBytes-stored_at (item_type payload) (memory_in old operation.guest) operation.address f.items (memory_bytes old operation.guest b)) b)
 
 turned_bytes : (side : Side) (old new : State) (s n : ℕ) (operation : Operation) → Turned side old new s n operation → AreBytes old.guests → AreBytes new.guests
 turned_bytes side old new s n operation t b =

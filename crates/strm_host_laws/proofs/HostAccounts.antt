@@ -4,9 +4,9 @@ use Rattle.std.specs.Prelude.{All, IsSome}
 use Rattle.std.proofs.lemmas.Bool.{cases_lt}
 use Rattle.std.proofs.lemmas.List.{map-append}
 use Rattle.std.proofs.lemmas.List.Elements.{All-nil, All-cons, All-head, All-tail}
-use Rattle.strm_codes.specs.Layout.{scalars_of, item_size}
+use Rattle.strm_codes.specs.Layout.{item_type}
+use Rattle.strm_codes.specs.ItemTypes.{item_size, ItemType}
 use Rattle.strm_codes.specs.declared.codes.TransmitKind.{TransmitKind}
-use Rattle.strm_codes.specs.declared.scalars.Scalar.{Scalar}
 use Rattle.strm_machine.specs.Moments.{Moment, decoded, k_of, rise, got_in}
 use Rattle.strm_machine.specs.State.{State, is_host}
 use Rattle.strm_machine.specs.declared.streams.Owner.{Owner}
@@ -68,7 +68,7 @@ all_back P [] ys h = h
 all_back P (x ∷ xs) ys h = all_back P xs ys (All-tail P x (xs ++ ys) h)
 
 -- as many items as are asked for
-length-decoded : (ss : List Scalar) (bytes : List ℕ) (n : ℕ) → length (decoded ss bytes n) ≡ n
+length-decoded : (ss : ItemType) (bytes : List ℕ) (n : ℕ) → length (decoded ss bytes n) ≡ n
 unfolding decoded
 length-decoded ss bytes zero = refl
 length-decoded ss bytes (suc n) = ap suc (length-decoded ss (drop (item_size ss) bytes) n)
@@ -172,7 +172,7 @@ module _ (s : ℕ) (m : HostMoment) (unhosted : is_host (stream_in m.before s).w
   taken_as : (owner : Owner) → owner ≡ (stream_in m.before s).reader.owner → length (taken_by s m owner) ≡ rise s (plain m)
   taken_as (Host r) e =
       ap length (from_guest r (stream_in m.before s).writer.owner unhosted)
-      ∙ length-decoded (scalars_of (stream_in m.before s).payload) _ (rise s (plain m))
+      ∙ length-decoded (item_type (stream_in m.before s).payload) _ (rise s (plain m))
   taken_as _ e = let same = x.still (ap is_host (sym e)) in omega (arith, same)
 
   pub taken_is : length (host_taken_in s m) ≡ rise s (plain m)

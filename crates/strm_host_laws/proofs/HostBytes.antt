@@ -1,15 +1,15 @@
 -- Memories in a run with host ends: the bytes that are put lie there, and those that are not touched stay; what
 -- a host writer hands over touches those where its items are received, and a host reader touches none.
-use Rattle.std.proofs.Common.{◌≡◌, ◌≢◌, ℕ, zero, suc, ◌+◌, ◌-◌, ◌*◌, ◌^◌, ◌<◌, ◌≤◌, ◌==◌, true, cond, List, [], ◌∷◌, ◌++◌, length, take, drop, get_or, Some, None, refl, sym, ap, subst, ◌∙◌, ◌⊎◌, inl, inr, arith, length-set}
+use Rattle.std.proofs.Common.{◌≡◌, ◌≢◌, ℕ, zero, suc, ◌+◌, ◌-◌, ◌*◌, ◌^◌, ◌<◌, ◌≤◌, ◌==◌, true, cond, List, [], ◌∷◌, length, get_or, Some, None, refl, sym, ap, subst, ◌∙◌, ◌⊎◌, inl, inr, arith, length-set}
 use Rattle.std.specs.Prelude.{All}
 use Rattle.std.proofs.lemmas.Bool.{cases_eq, cases_lt, eq-eqb, ne_eqb, true≢false}
-use Rattle.std.proofs.lemmas.List.{length-map, take-append-drop}
+use Rattle.std.proofs.lemmas.List.{length-map}
 use Rattle.std.proofs.lemmas.List.Elements.{All-nil, All-cons}
-use Rattle.strm_codes.specs.Layout.{scalars_of, item_size}
+use Rattle.strm_codes.specs.Layout.{item_type}
+use Rattle.strm_codes.specs.ItemTypes.{item_size, ItemType}
 use Rattle.strm_codes.specs.declared.payloads.Payload.{Payload}
-use Rattle.strm_codes.specs.declared.scalars.Scalar.{Scalar}
 use Rattle.strm_memory.specs.Bytes.{IsApart, bytes_at}
-use Rattle.strm_memory.specs.Items.{stored, stored_at, encode_from}
+use Rattle.strm_memory.specs.Items.{stored_at}
 use Rattle.strm_memory.proofs.RegionLemmas.{bytes_at-stored_at, stored_at-nil}
 use Rattle.strm_buffers.specs.Listing.{Item}
 use Rattle.strm_buffers.specs.Tells.{Tells}
@@ -34,7 +34,7 @@ use Rattle.strm_machine.specs.declared.streams.Operation.{Operation}
 use Rattle.strm_machine.specs.declared.streams.Side.{Side}
 use Rattle.strm_machine.specs.declared.streams.Side.TheVariants.{Writing, Reading}
 use Rattle.strm_machine.proofs.BoundLemmas.{within}
-use Rattle.strm_machine.proofs.CarryLemmas.{no_scalars}
+use Rattle.strm_memory.proofs.NoByteLemmas.{stored_at-no_bytes}
 use Rattle.strm_machine.proofs.Lawful.{as_moment}
 use Rattle.strm_machine.proofs.NamedEndLemmas.{named_itself}
 use Rattle.strm_machine.proofs.PutLemmas.{reaction-there}
@@ -60,17 +60,11 @@ use Rattle.strm_host_laws.proofs.HostCounts.{turned_count, placed_small, told_co
 
 -- ## Memories
 
--- all memories are as they were
-stored-nothing : (bytes : List ℕ) (xs : List Item) → stored [] bytes xs ≡ bytes
-unfolding stored encode_from
-stored-nothing bytes [] = refl
-stored-nothing bytes (x ∷ xs) = stored-nothing bytes xs
-
 positive : (a b : ℕ) → 0 < a → 0 < b → 0 < a * b
 positive a b h k = grind arith
 
 -- bytes apart from those where items are stored
-module _ (ss : List Scalar) (memory : List ℕ) (address other : ℕ) (some : 0 < item_size ss) where
+module _ (ss : ItemType) (memory : List ℕ) (address other : ℕ) (some : 0 < item_size ss) where
   abbrev taken : List Item → ℕ
   taken xs = item_size ss * length xs
 
@@ -82,11 +76,11 @@ module _ (ss : List Scalar) (memory : List ℕ) (address other : ℕ) (some : 0 
 
 -- where a read gets so many items
 abbrev region_of : Payload → Operation → ℕ → Region
-region_of payload read n = record { place = place_of (Some read); size = item_size (scalars_of payload) * n }
+region_of payload read n = record { place = place_of (Some read); size = item_size (item_type payload) * n }
 
 module _ (guests : List Guest) (payload : Payload) (read : Operation) (items : List Item) (placed : IsPlaced (sizes_of guests) payload read) (fit : length items ≤ read.left) where
-  abbrev ss : List Scalar
-  ss = scalars_of payload
+  abbrev ss : ItemType
+  ss = item_type payload
 
   abbrev memory : List ℕ
   memory = memory_in guests read.guest
@@ -105,12 +99,7 @@ module _ (guests : List Guest) (payload : Payload) (read : Operation) (items : L
             stored_stays ss memory read.address r.place.address some items r.size
             (λ p. within (length memory) ss read.address (length items) (front_inside guests payload read (length items) fit placed) p some) (apart e)
         | inr none ↦
-            let empty : ss ≡ [] = no_scalars ss (omega (arith, none)) in
-            let same : filled ≡ memory =
-            ap (λ rs. stored_at rs memory read.address items) empty
-            ∙ ap (λ bytes. take read.address memory ++ bytes) (stored-nothing (drop read.address memory) items)
-            ∙ take-append-drop read.address memory in
-            ap (λ bytes. bytes_at bytes r.place.address r.size) same
+            ap (λ bytes. bytes_at bytes r.place.address r.size) (stored_at-no_bytes ss memory read.address items (omega (arith, none)))
       ]
 
   pub lowered_stays : (r : Region) → LiesApart r (region_of payload read (length items)) → bytes_of (lowered_items guests payload read items) r ≡ bytes_of guests r
@@ -170,7 +159,7 @@ module _ (old new : State) (reply : Reply) (h : Holds old) where
       let items = t.fills.items in
       let rises : rise k m ≡ length items = rise_is (received k new) (received k old) (length items) (turned_count Reading old new k d.host d.operation t (placed_small (sizes_of old.guests) payload d.operation placed) room made ∙ ap (λ n. received k old + n) t.fills.long) in
       received_aside m k payload d.operation items (record { guests = ap (λ (x : State). x.guests) t.is ∙ t.fills.is; placed = placed; few = omega (arith, t.few, t.fills.long) })
-      (region_same (target k m) (place_of (Some d.operation)) _ _ (ap place_of d.waits) (ap (λ n. item_size (scalars_of payload) * n) rises))
+      (region_same (target k m) (place_of (Some d.operation)) _ _ (ap place_of d.waits) (ap (λ n. item_size (item_type payload) * n) rises))
 
   call_aside : (side : Side) (end : NamedEnd) (address count : ℕ) → ReadOrRoomy old (stream_named (named old end)) → Calls side old end address count reply new → StaysAside (moment_in old (Acts (OnEnd side end (Operate address count))) reply new)
   call_aside Writing end address count room r =
@@ -199,7 +188,7 @@ module _ (old new : State) (reply : Reply) (h : Holds old) where
       let named_here : is_named k Reading m ≡ true = named_itself old act reply k Reading Reading (b.found.named reply) in
       let waiting = place_of (stream_at old k).reader.operation in
       received_aside m k payload read items (record { guests = guests; placed = b.placed; few = omega (arith, t.few, t.fills.long) })
-      (region_same (target k m) (place_of (Some read)) _ _ (ap (λ x. cond x (read_place act waiting) waiting) named_here) (ap (λ n. item_size (scalars_of payload) * n) rises))
+      (region_same (target k m) (place_of (Some read)) _ _ (ap (λ x. cond x (read_place act waiting) waiting) named_here) (ap (λ n. item_size (item_type payload) * n) rises))
 
   forsaken_aside : (act : Act) → StaysAside (as_moment old act (reaction old act)) → Forsakes old act reply new → StaysAside (moment_in old (Acts act) reply new)
   forsaken_aside act a f =
@@ -214,7 +203,7 @@ module _ (old new : State) (reply : Reply) (h : Holds old) where
         size = λ g l. ap (λ gs. length (memory_in gs g)) guests ∙ a.size g l;
         bytes = λ x l u. ap (λ gs. bytes_of gs x) guests ∙ a.bytes x l (record {
           put = u.put;
-          got = λ s. subst (λ n. LiesApart x (record { place = target s before; size = item_size (scalars_of (stream_at old s).payload) * (n - received s old) })) (same s) (u.got s);
+          got = λ s. subst (λ n. LiesApart x (record { place = target s before; size = item_size (item_type (stream_at old s).payload) * (n - received s old) })) (same s) (u.got s);
         });
       } in
       subst (λ (y : State). StaysAside (moment_in old (Acts act) reply y)) (sym f.is)

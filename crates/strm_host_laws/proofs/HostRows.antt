@@ -7,7 +7,8 @@ use Rattle.strm_codes.specs.declared.codes.TransmitIndex.{TransmitIndex}
 use Rattle.strm_codes.specs.declared.codes.TransmitIndex.TheVariants as index
 use Rattle.strm_codes.specs.declared.payloads.Payload.TheVariants.{One}
 use Rattle.strm_codes.specs.declared.scalars.Scalar.TheVariants.{U8}
-use Rattle.strm_memory.specs.Items.{decode_from, encode_from, items, stored}
+use Rattle.strm_memory.specs.Items.{items, stored}
+use Rattle.strm_memory.specs.Loads.{decode, encode}
 use Rattle.strm_buffers.specs.declared.answers.Answer.{Answer}
 use Rattle.strm_buffers.specs.declared.answers.Answer.TheVariants as answers
 use Rattle.strm_buffers.specs.Listing.{Item}
@@ -143,7 +144,7 @@ account-served : account (writer (7 ∷ []) records) served ≡ record {
   closed = false;
   heard = Some ((2, 65 ∷ []) ∷ []);
 }
-unfolding outcome performs_in refusal_in hosts_new writer_turn drive_turn with_stream_in moved_on reaction refusal performs operate delivered dropped decode_from encode_from items stored decoded
+unfolding outcome performs_in refusal_in hosts_new writer_turn drive_turn with_stream_in moved_on reaction refusal performs operate delivered dropped decode encode items stored decoded
 account-served = refl
 
 -- the same, and then the read end goes: what is held is given up, and the host writer closed
@@ -177,7 +178,7 @@ account-given_up : account (writer (7 ∷ []) (said 2 (1 ∷ 2 ∷ 3 ∷ []) ans
       closed = true;
       heard = Some ((1, 66 ∷ []) ∷ []);
     }
-unfolding outcome performs_in refusal_in hosts_new writer_turn drive_turn with_stream_in moved_on reaction refusal performs operate delivered dropped decode_from encode_from items stored decoded
+unfolding outcome performs_in refusal_in hosts_new writer_turn drive_turn with_stream_in moved_on reaction refusal performs operate delivered dropped decode encode items stored decoded
 account-given_up = refl
 
 -- a host writer that has no more to come: its last item is received first, and then its end is gone
@@ -209,5 +210,5 @@ account-over : account (writer [] (said 1 (5 ∷ 6 ∷ []) answers.Dropped ∷ [
       closed = true;
       heard = Some [];
     }
-unfolding outcome performs_in refusal_in hosts_new writer_turn drive_turn with_stream_in moved_on reaction refusal performs operate delivered dropped decode_from encode_from items stored decoded
+unfolding outcome performs_in refusal_in hosts_new writer_turn drive_turn with_stream_in moved_on reaction refusal performs operate delivered dropped decode encode items stored decoded
 account-over = refl

@@ -10,7 +10,8 @@ use Rattle.strm_codes.specs.declared.codes.TransmitKind.{TransmitKind}
 use Rattle.strm_codes.specs.declared.codes.TransmitKind.TheVariants.{Stream as AStream, Future}
 use Rattle.strm_codes.specs.declared.payloads.Payload.TheVariants.{One}
 use Rattle.strm_codes.specs.declared.scalars.Scalar.TheVariants.{U8}
-use Rattle.strm_memory.specs.Items.{decode_from, encode_from, items, stored}
+use Rattle.strm_memory.specs.Items.{items, stored}
+use Rattle.strm_memory.specs.Loads.{decode, encode}
 use Rattle.strm_buffers.specs.declared.answers.Answer.{Answer}
 use Rattle.strm_buffers.specs.declared.answers.Answer.TheVariants as answers
 use Rattle.strm_buffers.specs.Listing.{Item}
@@ -115,7 +116,7 @@ told_parts : row 0 (among [] [])
     ∷ Some (codes.Dropped 2)
     ∷ None
     ∷ [])
-unfolding course_by outcome performs_in refusal_in hosts_new writer_turn drive_turn with_stream_in moved_on reaction refusal performs operate delivered dropped cancelled with_stream ready_member decode_from encode_from items stored decoded
+unfolding course_by outcome performs_in refusal_in hosts_new writer_turn drive_turn with_stream_in moved_on reaction refusal performs operate delivered dropped cancelled with_stream ready_member decode encode items stored decoded
 told_parts = refl
 
 -- a future: cancels before its value passes, a drop that is refused, and a cancel that comes too late
@@ -156,7 +157,7 @@ future_value : row 0 (among [] [])
     ∷ Some (codes.Completed 0)
     ∷ None
     ∷ [])
-unfolding course_by outcome performs_in refusal_in hosts_new writer_turn drive_turn with_stream_in moved_on reaction refusal performs operate delivered dropped cancelled with_stream ready_member decode_from encode_from items stored decoded
+unfolding course_by outcome performs_in refusal_in hosts_new writer_turn drive_turn with_stream_in moved_on reaction refusal performs operate delivered dropped cancelled with_stream ready_member decode encode items stored decoded
 future_value = refl
 
 -- a host writer that held an item, whose polls leave items over, and which is driven
@@ -188,7 +189,7 @@ host_served : row 0 (among (7 ∷ []) (said 2 false (1 ∷ 2 ∷ 3 ∷ []) answe
     ∷ Some codes.Blocked
     ∷ Some (codes.Completed 1)
     ∷ [])
-unfolding course_by outcome performs_in refusal_in hosts_new writer_turn drive_turn with_stream_in moved_on reaction refusal performs operate delivered dropped cancelled with_stream ready_member decode_from encode_from items stored decoded
+unfolding course_by outcome performs_in refusal_in hosts_new writer_turn drive_turn with_stream_in moved_on reaction refusal performs operate delivered dropped cancelled with_stream ready_member decode encode items stored decoded
 host_served = refl
 
 -- a host writer that has no more to come, and then is gone
@@ -214,7 +215,7 @@ host_over : row 0 (among [] (said 1 false (5 ∷ 6 ∷ []) answers.Dropped ∷ [
     ∷ Some (codes.Completed 1)
     ∷ Some (codes.Dropped 0)
     ∷ [])
-unfolding course_by outcome performs_in refusal_in hosts_new writer_turn drive_turn with_stream_in moved_on reaction refusal performs operate delivered dropped cancelled with_stream ready_member decode_from encode_from items stored decoded
+unfolding course_by outcome performs_in refusal_in hosts_new writer_turn drive_turn with_stream_in moved_on reaction refusal performs operate delivered dropped cancelled with_stream ready_member decode encode items stored decoded
 host_over = refl
 
 -- a read that is cancelled while its host writer has to finish first
@@ -242,7 +243,7 @@ host_asked : row 0 (among [] (said 4 false [] answers.Pending ∷ said 4 true []
     ∷ Some codes.Blocked
     ∷ Some (codes.Cancelled 0)
     ∷ [])
-unfolding course_by outcome performs_in refusal_in hosts_new writer_turn drive_turn with_stream_in moved_on reaction refusal performs operate delivered dropped cancelled with_stream ready_member decode_from encode_from items stored decoded
+unfolding course_by outcome performs_in refusal_in hosts_new writer_turn drive_turn with_stream_in moved_on reaction refusal performs operate delivered dropped cancelled with_stream ready_member decode encode items stored decoded
 host_asked = refl
 
 -- a stream of a host writer beside one of guests, with refused steps between
@@ -277,7 +278,7 @@ beside_guests : row 0 (among [] (said 4 false [] answers.Pending ∷ said 4 fals
     ∷ Some codes.Blocked
     ∷ Some (codes.Cancelled 0)
     ∷ [])
-unfolding course_by outcome performs_in refusal_in hosts_new writer_turn drive_turn with_stream_in moved_on reaction refusal performs operate delivered dropped cancelled with_stream ready_member decode_from encode_from items stored decoded
+unfolding course_by outcome performs_in refusal_in hosts_new writer_turn drive_turn with_stream_in moved_on reaction refusal performs operate delivered dropped cancelled with_stream ready_member decode encode items stored decoded
 beside_guests = refl
 
 -- and the other stream of the same run
@@ -313,7 +314,7 @@ beside_host : row 1 (among [] (said 4 false [] answers.Pending ∷ said 4 false 
     ∷ Some (codes.Completed 2)
     ∷ Some (codes.Dropped 0)
     ∷ [])
-unfolding course_by outcome performs_in refusal_in hosts_new writer_turn drive_turn with_stream_in moved_on reaction refusal performs operate delivered dropped cancelled with_stream ready_member decode_from encode_from items stored decoded
+unfolding course_by outcome performs_in refusal_in hosts_new writer_turn drive_turn with_stream_in moved_on reaction refusal performs operate delivered dropped cancelled with_stream ready_member decode encode items stored decoded
 beside_host = refl
 
 -- a read of nothing and a write of nothing, then each beside one that waits
@@ -355,7 +356,7 @@ empty_both : row 0 (among [] [])
     ∷ None
     ∷ Some (codes.Cancelled 0)
     ∷ [])
-unfolding course_by outcome performs_in refusal_in hosts_new writer_turn drive_turn with_stream_in moved_on reaction refusal performs operate delivered dropped cancelled with_stream ready_member decode_from encode_from items stored decoded
+unfolding course_by outcome performs_in refusal_in hosts_new writer_turn drive_turn with_stream_in moved_on reaction refusal performs operate delivered dropped cancelled with_stream ready_member decode encode items stored decoded
 empty_both = refl
 
 -- a read that two writes serve, and that is cancelled with an item left
@@ -385,5 +386,5 @@ partly_served : row 0 (among [] [])
     ∷ Some (codes.Cancelled 4)
     ∷ Some (codes.Dropped 0)
     ∷ [])
-unfolding course_by outcome performs_in refusal_in hosts_new writer_turn drive_turn with_stream_in moved_on reaction refusal performs operate delivered dropped cancelled with_stream ready_member decode_from encode_from items stored decoded
+unfolding course_by outcome performs_in refusal_in hosts_new writer_turn drive_turn with_stream_in moved_on reaction refusal performs operate delivered dropped cancelled with_stream ready_member decode encode items stored decoded
 partly_served = refl

@@ -3,8 +3,8 @@
 use Rattle.std.proofs.Common.{◌≡◌, ℕ, ◌<◌, true, List, ◌∷◌, length, Option, Some, None, refl, sym, ap, subst, ◌∙◌}
 use Rattle.std.specs.Prelude.{All}
 use Rattle.std.proofs.lemmas.List.Elements.{All-head, All-tail}
-use Rattle.strm_codes.specs.Layout.{scalars_of}
-use Rattle.strm_codes.specs.declared.scalars.Scalar.{Scalar}
+use Rattle.strm_codes.specs.Layout.{item_type}
+use Rattle.strm_codes.specs.ItemTypes.{ItemType}
 use Rattle.strm_memory.specs.Items.{AreItems}
 use Rattle.strm_memory.proofs.AppendLemmas.{AreItems-drop}
 use Rattle.strm_buffers.specs.Said.{WriterSaid, past_room}
@@ -46,7 +46,7 @@ use Rattle.strm_host_laws.proofs.WrittenBack.{back-guests, back-here, back-lengt
 abbrev Feeding : Writer → Writer → Type 0
 Feeding a b = Supplies a → Supplies b
 
-past_items : (ss : List Scalar) (room : Option ℕ) (items : List Item) → AreItems ss items → AreItems ss (past_room room items)
+past_items : (ss : ItemType) (room : Option ℕ) (items : List Item) → AreItems ss items → AreItems ss (past_room room items)
 past_items ss None items h = tt
 past_items ss (Some n) items h = AreItems-drop ss n items h
 
@@ -54,7 +54,7 @@ polled_supplies : (a : Writer) (room : Option ℕ) (said : WriterSaid) (more : L
 polled_supplies a room said more e h =
     let all : All (SaidFits a.payload) (said ∷ more) = subst (All (SaidFits a.payload)) e h.coming in
     record {
-      holds = past_items (scalars_of a.payload) room said.items (All-head (SaidFits a.payload) said more all);
+      holds = past_items (item_type a.payload) room said.items (All-head (SaidFits a.payload) said more all);
       coming = All-tail (SaidFits a.payload) said more all;
     }
 
@@ -63,7 +63,7 @@ of_supplies = record {
   same = λ a h. h;
   joined = λ a b c f g h. g (f h);
   polled = polled_supplies;
-  given = λ a k h. record { holds = AreItems-drop (scalars_of a.payload) k a.holds h.holds; coming = h.coming };
+  given = λ a k h. record { holds = AreItems-drop (item_type a.payload) k a.holds h.holds; coming = h.coming };
   closed = λ a h. record { holds = tt; coming = h.coming };
 }
 

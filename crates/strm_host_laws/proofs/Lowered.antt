@@ -1,10 +1,11 @@
 -- Items that were lowered where a read's next ones are to lie do lie there.
-use Rattle.std.proofs.Common.{◌≡◌, ℕ, ◌+◌, ◌*◌, ◌<◌, ◌≤◌, ℤ, List, [], ◌∷◌, length, map, drop, Some, refl, ap, ◌∙◌, subst, inl, inr, arith}
+use Rattle.std.proofs.Common.{◌≡◌, ℕ, ◌+◌, ◌*◌, ◌<◌, ◌≤◌, ℤ, List, [], ◌∷◌, length, map, drop, Some, refl, ap, ◌∙◌, inl, inr, arith}
 use Rattle.std.proofs.lemmas.Bool.{cases_lt}
-use Rattle.strm_codes.specs.Layout.{scalars_of, item_size}
+use Rattle.strm_codes.specs.Layout.{item_type}
+use Rattle.strm_codes.specs.ItemTypes.{item_size, ItemType}
 use Rattle.strm_codes.specs.declared.payloads.Payload.{Payload}
-use Rattle.strm_codes.specs.declared.scalars.Scalar.{Scalar}
-use Rattle.strm_memory.specs.Items.{decode_from, stored_at, AreItems}
+use Rattle.strm_memory.specs.Items.{stored_at, AreItems}
+use Rattle.strm_memory.proofs.NoByteLemmas.{decode-no_bytes, no_numbers}
 use Rattle.strm_memory.proofs.RegionLemmas.{items_at-stored_at}
 use Rattle.strm_buffers.specs.Listing.{Item}
 use Rattle.strm_machine.specs.Moments.{decoded, items_in_memory}
@@ -13,43 +14,40 @@ use Rattle.strm_machine.specs.State.{Guest, memory_in}
 use Rattle.strm_machine.specs.declared.streams.Operation.{Operation}
 use Rattle.strm_machine.proofs.ArrivalLemmas.{decoded-items}
 use Rattle.strm_machine.proofs.BoundLemmas.{within}
-use Rattle.strm_machine.proofs.CarryLemmas.{no_scalars}
 use Rattle.strm_machine.proofs.StateLemmas.{memory_in-with_memory}
 use Rattle.strm_machine.proofs.TurnLemmas.{front_inside}
 use Rattle.strm_machine.proofs.TurnChangeLemmas.{there}
 use Rattle.strm_host_machine.specs.WriterTurn.{lowered_items}
 
--- items of no scalars are all alike, and lie everywhere
-nothing_decoded : (bytes : List ℕ) (xs : List (List ℤ)) → AreItems [] xs → decoded [] bytes (length xs) ≡ map Some xs
-unfolding decoded decode_from
-nothing_decoded bytes [] h = refl
-nothing_decoded bytes ([] ∷ xs) h = ap (λ l. Some [] ∷ l) (nothing_decoded (drop (item_size []) bytes) xs h.1)
-nothing_decoded bytes ((x ∷ y) ∷ xs) h = absurd h.0
+-- items of no bytes are all alike, and lie everywhere
+nothing_decoded : (ss : ItemType) (bytes : List ℕ) (xs : List (List ℤ)) → item_size ss ≡ 0 → AreItems ss xs → decoded ss bytes (length xs) ≡ map Some xs
+unfolding decoded
+nothing_decoded ss bytes [] e h = refl
+nothing_decoded ss bytes (x ∷ xs) e h =
+    rw (decode-no_bytes ss bytes e, no_numbers ss x e h.0) (ap (λ l. Some [] ∷ l) (nothing_decoded ss (drop (item_size ss) bytes) xs e h.1))
 
-none_decoded : (ss : List Scalar) (bytes : List ℕ) (xs : List (List ℤ)) → length xs ≡ 0 → decoded ss bytes (length xs) ≡ map Some xs
+none_decoded : (ss : ItemType) (bytes : List ℕ) (xs : List (List ℤ)) → length xs ≡ 0 → decoded ss bytes (length xs) ≡ map Some xs
 unfolding decoded
 none_decoded ss bytes [] e = refl
 none_decoded ss bytes (x ∷ xs) e = absurd (omega (arith, e))
 
-stored_decoded : (ss : List Scalar) (memory : List ℕ) (to : ℕ) (xs : List (List ℤ)) → AreItems ss xs → (0 < length xs → 0 < item_size ss → to + item_size ss * length xs ≤ length memory)
+stored_decoded : (ss : ItemType) (memory : List ℕ) (to : ℕ) (xs : List (List ℤ)) → AreItems ss xs → (0 < length xs → 0 < item_size ss → to + item_size ss * length xs ≤ length memory)
     → decoded ss (drop to (stored_at ss memory to xs)) (length xs) ≡ map Some xs
 stored_decoded ss memory to xs h room =
     elim (cases_lt 0 (length xs)) [
       | inr none ↦ none_decoded ss (drop to (stored_at ss memory to xs)) xs (omega (arith, none))
       | inl some ↦ elim (cases_lt 0 (item_size ss)) [
         | inr none ↦
-            let empty : ss ≡ [] = no_scalars ss (omega (arith, none)) in
-            ap (λ rs. decoded rs (drop to (stored_at ss memory to xs)) (length xs)) empty
-            ∙ nothing_decoded (drop to (stored_at ss memory to xs)) xs (subst (λ rs. AreItems rs xs) empty h)
+            nothing_decoded ss (drop to (stored_at ss memory to xs)) xs (omega (arith, none)) h
         | inl size ↦ decoded-items ss (drop to (stored_at ss memory to xs)) (length xs) xs (items_at-stored_at ss memory to xs h (room some size))
       ]
     ]
 
 -- the items of a turn
-pub lowered_lie : (guests : List Guest) (ty : Payload) (read : Operation) (xs : List Item) → IsPlaced (sizes_of guests) ty read → length xs ≤ read.left → AreItems (scalars_of ty) xs
+pub lowered_lie : (guests : List Guest) (ty : Payload) (read : Operation) (xs : List Item) → IsPlaced (sizes_of guests) ty read → length xs ≤ read.left → AreItems (item_type ty) xs
     → items_in_memory ty (lowered_items guests ty read xs) read.guest read.address (length xs) ≡ map Some xs
 lowered_lie guests payload read xs placed fit h =
-    let ss = scalars_of payload in
+    let ss = item_type payload in
     let memory = memory_in guests read.guest in
     let new = stored_at ss memory read.address xs in
     ap (λ m. decoded ss (drop read.address m) (length xs)) (memory_in-with_memory guests read.guest new (there guests payload read placed))

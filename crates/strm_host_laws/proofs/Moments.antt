@@ -5,10 +5,10 @@ use Rattle.std.proofs.lemmas.Bool.{eqb-true, true≢false}
 use Rattle.std.proofs.lemmas.List.{map-append, length-map}
 use Rattle.std.proofs.lemmas.List.Elements.{All-head, All-tail}
 use Rattle.std.specs.Prelude.{All}
-use Rattle.strm_codes.specs.Layout.{scalars_of}
+use Rattle.strm_codes.specs.Layout.{item_type}
+use Rattle.strm_codes.specs.ItemTypes.{ItemType}
 use Rattle.strm_buffers.specs.declared.answers.ReaderSaid.{ReaderSaid}
 use Rattle.strm_codes.specs.declared.payloads.Payload.{Payload}
-use Rattle.strm_codes.specs.declared.scalars.Scalar.{Scalar}
 use Rattle.strm_memory.specs.Items.{AreItems}
 use Rattle.strm_memory.proofs.AppendLemmas.{AreItems-append}
 use Rattle.strm_buffers.specs.Listing.{Item}
@@ -55,24 +55,24 @@ use Rattle.strm_host_laws.proofs.WrittenBack.{round_received, round_coming, roun
 
 -- ITEMS OF RECORDS
 
-front_items : (ss : List Scalar) (xs ys : List Item) → AreItems ss (xs ++ ys) → AreItems ss xs
+front_items : (ss : ItemType) (xs ys : List Item) → AreItems ss (xs ++ ys) → AreItems ss xs
 front_items ss [] ys h = tt
 front_items ss (x ∷ xs) ys h = (h.0, front_items ss xs ys h.1)
 
-said_items : (payload : Payload) (said more : List WriterSaid) → All (SaidFits payload) (said ++ more) → AreItems (scalars_of payload) (items_of_records said)
+said_items : (payload : Payload) (said more : List WriterSaid) → All (SaidFits payload) (said ++ more) → AreItems (item_type payload) (items_of_records said)
 said_items payload [] more h = tt
 said_items payload (x ∷ xs) more h =
-    AreItems-append (scalars_of payload) x.items (items_of_records xs) (All-head (SaidFits payload) x (xs ++ more) h)
+    AreItems-append (item_type payload) x.items (items_of_records xs) (All-head (SaidFits payload) x (xs ++ more) h)
     (said_items payload xs more (All-tail (SaidFits payload) x (xs ++ more) h))
 
 -- what a turn hands over are items
-turned_items : (w : World) (s n : ℕ) (read : Operation) (v : World) → Supplies (writer_at w n) → (t : Turned w s n read v) → AreItems (scalars_of (writer_at w n).payload) t.items
+turned_items : (w : World) (s n : ℕ) (read : Operation) (v : World) → Supplies (writer_at w n) → (t : Turned w s n read v) → AreItems (item_type (writer_at w n).payload) t.items
 turned_items w s n read v h t =
     let payload = (writer_at w n).payload in
-    let all : AreItems (scalars_of payload) ((writer_at w n).holds ++ items_of_records t.said) =
-    AreItems-append (scalars_of payload) (writer_at w n).holds (items_of_records t.said) h.holds
+    let all : AreItems (item_type payload) ((writer_at w n).holds ++ items_of_records t.said) =
+    AreItems-append (item_type payload) (writer_at w n).holds (items_of_records t.said) h.holds
     (said_items payload t.said t.writer.coming (subst (All (SaidFits payload)) t.coming h.coming)) in
-    front_items (scalars_of payload) t.items t.writer.holds (subst (AreItems (scalars_of payload)) t.balance all)
+    front_items (item_type payload) t.items t.writer.holds (subst (AreItems (item_type payload)) t.balance all)
 
 -- WHAT A MOMENT DELIVERS
 
@@ -263,7 +263,7 @@ module _ (w : World) (s n : ℕ) (read : Operation) (v : World) (t : Turned w s 
   turned_lie : Supplies (writer_at w n) → (writer_at w n).payload ≡ (stream_in w s).payload → items_in_memory (stream_in w s).payload v.state.guests read.guest read.address (length t.items) ≡ map Some t.items
   turned_lie h e =
       let payload = (stream_in w s).payload in
-      let all : AreItems (scalars_of payload) t.items = subst (λ p. AreItems (scalars_of p) t.items) e (turned_items w s n read v h t) in
+      let all : AreItems (item_type payload) t.items = subst (λ p. AreItems (item_type p) t.items) e (turned_items w s n read v h t) in
       ap (λ gs. items_in_memory payload gs read.guest read.address (length t.items)) (turned-guests w s n read v t c)
       ∙ lowered_lie w.state.guests payload read t.items c.placed t.fits all
 

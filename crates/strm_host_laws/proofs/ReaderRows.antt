@@ -9,7 +9,8 @@ use Rattle.strm_codes.specs.declared.codes.TransmitKind.TheVariants.{Future}
 use Rattle.strm_codes.specs.declared.refusals.Refusal.TheVariants as refusals
 use Rattle.strm_codes.specs.declared.payloads.Payload.TheVariants.{One}
 use Rattle.strm_codes.specs.declared.scalars.Scalar.TheVariants.{U8}
-use Rattle.strm_memory.specs.Items.{decode_from, encode_from, items, stored}
+use Rattle.strm_memory.specs.Items.{items, stored}
+use Rattle.strm_memory.specs.Loads.{decode, encode}
 use Rattle.strm_buffers.specs.declared.answers.Answer.{Answer}
 use Rattle.strm_buffers.specs.declared.answers.Answer.TheVariants as answers
 use Rattle.strm_buffers.specs.declared.answers.ReaderSaid.{ReaderSaid}
@@ -179,7 +180,7 @@ account-part_read : account (reader (took 3 0 false 3 answers.Completed ∷ []))
       closed = false;
       heard = Some ((0, 9) ∷ []);
     }
-unfolding outcome performs_in refusal_in pipes reader_turn drive_turn with_stream_in moved_on reaction refusal performs with_stream operate delivered dropped decode_from encode_from items stored decoded handed all_handed
+unfolding outcome performs_in refusal_in pipes reader_turn drive_turn with_stream_in moved_on reaction refusal performs with_stream operate delivered dropped decode encode items stored decoded handed all_handed
 account-part_read = refl
 
 -- the same with the event before the lift: nothing is left for the host reader
@@ -228,7 +229,7 @@ account-told_before : account (reader [])
       closed = false;
       heard = Some ((0, 9) ∷ []);
     }
-unfolding outcome performs_in refusal_in pipes reader_turn drive_turn with_stream_in moved_on reaction refusal performs with_stream operate delivered dropped decode_from encode_from items stored decoded handed all_handed
+unfolding outcome performs_in refusal_in pipes reader_turn drive_turn with_stream_in moved_on reaction refusal performs with_stream operate delivered dropped decode encode items stored decoded handed all_handed
 account-told_before = refl
 
 -- a host reader that is done with items offered and takes none breaks its rules: the write is not called, and
@@ -257,7 +258,7 @@ account-broke : account (reader (took 3 0 false 0 answers.Completed ∷ []))
       closed = false;
       heard = Some [];
     }
-unfolding outcome performs_in refusal_in pipes reader_turn drive_turn with_stream_in moved_on reaction refusal performs with_stream operate delivered dropped decode_from encode_from items stored decoded handed all_handed
+unfolding outcome performs_in refusal_in pipes reader_turn drive_turn with_stream_in moved_on reaction refusal performs with_stream operate delivered dropped decode encode items stored decoded handed all_handed
 account-broke = refl
 
 -- a write is taken in two polls, the second in a drive round; then the host reader takes one more item and goes
@@ -304,7 +305,7 @@ account-goes : account (reader (took 3 0 false 2 answers.Pending ∷ took 1 2 fa
       closed = true;
       heard = Some ((0, 1) ∷ (2, 7) ∷ (3, 5) ∷ []);
     }
-unfolding outcome performs_in refusal_in pipes reader_turn drive_turn with_stream_in moved_on reaction refusal performs with_stream operate delivered dropped decode_from encode_from items stored decoded handed all_handed
+unfolding outcome performs_in refusal_in pipes reader_turn drive_turn with_stream_in moved_on reaction refusal performs with_stream operate delivered dropped decode encode items stored decoded handed all_handed
 account-goes = refl
 
 -- a future's value that a host reader took, and said so in a later poll: the write is done then, and no other
@@ -345,7 +346,7 @@ account-value : account (future_reader (took 1 0 false 1 answers.Pending ∷ too
       closed = true;
       heard = Some [];
     }
-unfolding outcome performs_in refusal_in pipes reader_turn drive_turn with_stream_in moved_on reaction refusal performs with_stream operate delivered dropped decode_from encode_from items stored decoded handed all_handed
+unfolding outcome performs_in refusal_in pipes reader_turn drive_turn with_stream_in moved_on reaction refusal performs with_stream operate delivered dropped decode encode items stored decoded handed all_handed
 account-value = refl
 
 -- a cancel of a write that a guest read in part, and that is piped then, asks the host reader, and tells what
@@ -387,5 +388,5 @@ account-cancelled : account (reader (took 1 0 true 0 answers.Cancelled ∷ []))
       closed = false;
       heard = Some [];
     }
-unfolding outcome performs_in refusal_in pipes reader_turn drive_turn with_stream_in moved_on reaction refusal performs with_stream operate delivered dropped cancelled decode_from encode_from items stored decoded handed all_handed
+unfolding outcome performs_in refusal_in pipes reader_turn drive_turn with_stream_in moved_on reaction refusal performs with_stream operate delivered dropped cancelled decode encode items stored decoded handed all_handed
 account-cancelled = refl

@@ -2,8 +2,8 @@
 use Rattle.std.proofs.Common.{◌≡◌, ℕ, false, List, [], ◌∷◌, length, map, drop, Option, Some, None, refl, sym, ap, subst, ◌∙◌, ◌⊎◌, inl, inr, arith}
 use Rattle.std.specs.Prelude.{All, IsSome}
 use Rattle.std.proofs.lemmas.List.Elements.{All-nil, All-cons, All-append}
-use Rattle.strm_codes.specs.Layout.{scalars_of}
-use Rattle.strm_codes.specs.declared.scalars.Scalar.{Scalar}
+use Rattle.strm_codes.specs.Layout.{item_type}
+use Rattle.strm_codes.specs.ItemTypes.{ItemType}
 use Rattle.strm_memory.specs.Items.{items}
 use Rattle.strm_buffers.specs.Listing.{Item, listed}
 use Rattle.strm_buffers.specs.Tells.{Tells}
@@ -43,12 +43,12 @@ all_some : (xs : List Item) → All IsSome (map Some xs)
 all_some [] = All-nil IsSome
 all_some (x ∷ xs) = All-cons IsSome (Some x) (map Some xs) refl (all_some xs)
 
-none_lie : (ss : List Scalar) (bytes : List ℕ) → All IsSome (decoded ss bytes 0)
+none_lie : (ss : ItemType) (bytes : List ℕ) → All IsSome (decoded ss bytes 0)
 unfolding decoded
 none_lie ss bytes = All-nil IsSome
 
 -- where as many are lifted as were asked for, each of them is one
-decoded_some : (ss : List Scalar) (bytes : List ℕ) (n : ℕ) → length (listed (items ss bytes n)) ≡ n → All IsSome (decoded ss bytes n)
+decoded_some : (ss : ItemType) (bytes : List ℕ) (n : ℕ) → length (listed (items ss bytes n)) ≡ n → All IsSome (decoded ss bytes n)
 decoded_some ss bytes n l = by (items ss bytes n) refl l
   where
     by : (o : Option (List Item)) → items ss bytes n ≡ o → length (listed o) ≡ n → All IsSome (decoded ss bytes n)
@@ -79,9 +79,9 @@ module _ (s : ℕ) (m : HostMoment) (h : Holds m.before.state) (form : Form m.be
     takes x room =
         let payload = (stream_in m.before s).payload in
         let memory = drop x.operation.address (memory_in m.before.state.guests x.operation.guest) in
-        let is : host_taken_in s m ≡ decoded (scalars_of payload) memory x.count =
+        let is : host_taken_in s m ≡ decoded (item_type payload) memory x.count =
         ap (taken_by s m) owner ∙ from_guest (stream_in m.before s).writer.owner x.unhosted ∙ taken_at s (plain m) x.operation.guest x.operation.address x.count x.place (x.counts room) in
-        subst (All IsSome) (sym is) (decoded_some (scalars_of payload) memory x.count x.good)
+        subst (All IsSome) (sym is) (decoded_some (item_type payload) memory x.count x.good)
 
     passes : (n : ℕ) → IsRound m.before m.part m.after s n r → AreTaken
     passes n i = subst (All IsSome) (sym (round_got s n r m i.passed i.read i.wrote).taken) (all_some i.passed.items)

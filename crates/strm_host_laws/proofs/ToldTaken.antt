@@ -5,9 +5,10 @@ use Rattle.std.specs.Option.{option_map}
 use Rattle.std.proofs.lemmas.Bool.{and_parts, eqb-true, true≢false}
 use Rattle.std.proofs.lemmas.List.{map-append}
 use Rattle.std.proofs.lemmas.List.Elements.{All-head, All-tail}
-use Rattle.strm_codes.specs.Layout.{scalars_of, item_size}
-use Rattle.strm_codes.specs.declared.scalars.Scalar.{Scalar}
-use Rattle.strm_memory.specs.Items.{decode, items}
+use Rattle.strm_codes.specs.Layout.{item_type}
+use Rattle.strm_codes.specs.ItemTypes.{item_size, ItemType}
+use Rattle.strm_memory.specs.Items.{items}
+use Rattle.strm_memory.specs.Loads.{decode}
 use Rattle.strm_buffers.specs.declared.answers.ReaderSaid.{ReaderSaid}
 use Rattle.strm_buffers.specs.Listing.{Item, listed}
 use Rattle.strm_buffers.specs.Tells.{Tells}
@@ -56,11 +57,11 @@ use Rattle.strm_host_laws.proofs.Took.{TakesOn, Took, Rests, Takes, Passes, form
 -- ## Items
 
 -- items that lie there are a list
-record IsList (ss : List Scalar) (bytes : List ℕ) (n : ℕ) : Type 0 where
+record IsList (ss : ItemType) (bytes : List ℕ) (n : ℕ) : Type 0 where
   list : List Item
   is : items ss bytes n ≡ Some list
 
-items_some : (ss : List Scalar) (bytes : List ℕ) (n : ℕ) → All IsSome (decoded ss bytes n) → IsList ss bytes n
+items_some : (ss : ItemType) (bytes : List ℕ) (n : ℕ) → All IsSome (decoded ss bytes n) → IsList ss bytes n
 unfolding decoded items
 items_some ss bytes zero a = record { list = []; is = refl }
 items_some ss bytes (suc n) a =
@@ -71,7 +72,7 @@ items_some ss bytes (suc n) a =
     by None e s rest = cc
     by (Some x) e s rest = record { list = x ∷ rest.list; is = rw (e, rest.is) refl }
 
-listed_items : (ss : List Scalar) (bytes : List ℕ) (n : ℕ) → All IsSome (decoded ss bytes n) → map Some (listed (items ss bytes n)) ≡ decoded ss bytes n
+listed_items : (ss : ItemType) (bytes : List ℕ) (n : ℕ) → All IsSome (decoded ss bytes n) → map Some (listed (items ss bytes n)) ≡ decoded ss bytes n
 listed_items ss bytes n a =
     let l = items_some ss bytes n a in
     ap (λ o. map Some (listed o)) l.is ∙ sym (decoded-items ss bytes n l.list l.is)
@@ -252,10 +253,10 @@ module _ (s r : ℕ) (m : HostMoment) (h : Holds m.before.state) (took : Took s 
   takes_told x room good =
       let payload = (stream_in m.before s).payload in
       let memory = drop x.operation.address (memory_in m.before.state.guests x.operation.guest) in
-      let is : host_taken_in s m ≡ decoded (scalars_of payload) memory x.count =
+      let is : host_taken_in s m ≡ decoded (item_type payload) memory x.count =
       ap (taken_by s m) x.owner ∙ from_guest (stream_in m.before s).writer.owner x.unhosted ∙ taken_at s (plain m) x.operation.guest x.operation.address x.count x.place (x.counts room) in
-      let list = listed (items (scalars_of payload) memory x.count) in
-      let same : map Some list ≡ host_taken_in s m = listed_items (scalars_of payload) memory x.count (subst (All IsSome) is good) ∙ sym is in
+      let list = listed (items (item_type payload) memory x.count) in
+      let same : map Some list ≡ host_taken_in s m = listed_items (item_type payload) memory x.count (subst (All IsSome) is good) ∙ sym is in
       subst (Told (reader_at m.before r) (reader_at m.after r)) same (told_more (reader_at m.before r).holds (reader_at m.after r).holds list x.holds)
 
   -- it serves it, or did

@@ -1,7 +1,7 @@
 -- What holds of every run with host ends. Ours.
 use Rattle.std.specs.Prelude.{◌≡◌, ℕ, ◌+◌, ◌-◌, ◌^◌, ◌≤◌, min, ◌==◌, Bool, true, false, ◌&&◌, ◌||◌, if◌then◌else◌, List, [], ◌∷◌, ◌++◌, length, map, take, All, Option, Some, IsSome}
 use Rattle.std.specs.Option.{option_map}
-use Rattle.strm_codes.specs.Layout.{scalars_of}
+use Rattle.strm_codes.specs.Layout.{item_type}
 use Rattle.strm_codes.specs.declared.codes.TransmitKind.TheVariants.{Future}
 use Rattle.strm_memory.specs.Items.{AreItems}
 use Rattle.strm_buffers.specs.Listing.{Item}
@@ -232,7 +232,7 @@ held_for_owner world owner = []
 
 -- what a host writer holds and what its records produce are items of its payload
 pub record Supplies (writer : Writer) : Type 0 where
-  pub holds : AreItems (scalars_of writer.payload) writer.holds
+  pub holds : AreItems (item_type writer.payload) writer.holds
   pub coming : All (SaidFits writer.payload) writer.coming
 
 -- what the host writer of stream s produced is, in order, what was received and what is held, while it is

@@ -4,7 +4,7 @@ use Rattle.std.proofs.Common.{◌≡◌, ℕ, ◌+◌, ◌-◌, ◌<◌, ◌==�
 use Rattle.std.specs.Prelude.{nat_lt}
 use Rattle.std.proofs.lemmas.Bool.{cond_both, and_parts, eq-eqb, eqb-true}
 use Rattle.std.proofs.lemmas.Bool.Decides.{nat_tests}
-use Rattle.strm_codes.specs.Layout.{scalars_of}
+use Rattle.strm_codes.specs.Layout.{item_type}
 use Rattle.strm_memory.specs.Items.{items}
 use Rattle.strm_memory.proofs.RegionLemmas.{length-items}
 use Rattle.strm_buffers.specs.Listing.{Item, listed}
@@ -39,7 +39,7 @@ none_by (Some xs) n h e = absurd (let wrong = sym e ∙ eq-eqb (length xs) n (h 
 next_none : (state : State) (s : ℕ) (write : Operation) (n : ℕ) → are_items (lifted_items state.guests (stream_at state s).payload write) n ≡ false → items_next state s write n ≡ None
 next_none state s write n e =
     none_by (items_next state s write n) n
-    (length-items (scalars_of (stream_at state s).payload) (drop write.address (memory_in state.guests write.guest)) n) e
+    (length-items (item_type (stream_at state s).payload) (drop write.address (memory_in state.guests write.guest)) n) e
 
 -- a record that tells truly of a bad item
 bad_within : (offered : ℕ) (first : ℕ → List Item) (said : ReaderSaid) → tells_truly offered first said ≡ true → said.bad ≡ true → (said.taken < offered) × (are_items first (said.taken + 1) ≡ false)

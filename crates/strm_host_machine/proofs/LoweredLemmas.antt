@@ -1,6 +1,6 @@
 -- What the turn of a host writer leaves: the lengths of all memories, and its read in one of them.
 use Rattle.std.proofs.Common.{ℕ, ◌≤◌, List, length, Option, Some, None}
-use Rattle.strm_codes.specs.Layout.{scalars_of}
+use Rattle.strm_codes.specs.Layout.{item_type}
 use Rattle.strm_codes.specs.declared.codes.StreamResult.{StreamResult}
 use Rattle.strm_codes.specs.declared.payloads.Payload.{Payload}
 use Rattle.strm_buffers.specs.Listing.{Item}
@@ -17,7 +17,7 @@ pub lowered_items-keeps : (guests : List Guest) (payload : Payload) (read : Oper
 lowered_items-keeps guests payload read items p l =
     let inside = p.inside in
     with_memory-keeps guests read.guest _
-    (length-stored_front (scalars_of payload) (memory_in guests read.guest) read.address read.left items l (rw (size_in guests read.guest) at inside))
+    (length-stored_front (item_type payload) (memory_in guests read.guest) read.address read.left items l (rw (size_in guests read.guest) at inside))
 
 pub went-placed : (sizes : List ℕ) (payload : Payload) (read : Operation) (n : ℕ) → n ≤ read.left → IsPlaced sizes payload read → IsPlaced sizes payload (went payload read n)
 went-placed sizes payload read n l p =

@@ -1,6 +1,6 @@
 -- How code over a store and its host ends meets the machine, whatever records are yet to come. Ours.
 use Rattle.std.specs.Prelude.{◌≡◌, ℕ, ◌<◌, ◌≤◌, Bool, true, false, List, [], ◌∷◌, ◌++◌, length, drop, map, All, Option, Some, None, Result, Ok, Err}
-use Rattle.strm_codes.specs.Layout.{scalars_of}
+use Rattle.strm_codes.specs.Layout.{item_type}
 use Rattle.strm_codes.specs.declared.payloads.Payload.{Payload}
 use Rattle.strm_memory.specs.Items.{AreItems}
 use Rattle.strm_buffers.specs.declared.answers.ReaderSaid.{ReaderSaid}
@@ -163,7 +163,7 @@ Caused result old new = Unit {0}
 
 -- the items of a writer's record are items of its payload
 abbrev pub SaidFits : Payload → WriterSaid → Type 0
-SaidFits payload said = AreItems (scalars_of payload) said.items
+SaidFits payload said = AreItems (item_type payload) said.items
 
 -- the items of all records are that a writer added since it told this
 abbrev pub IsSuppliedSince : WriterTells → WriterTells → Type 0

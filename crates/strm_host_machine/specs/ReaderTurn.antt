@@ -2,7 +2,7 @@
 -- wasmtime, futures_and_streams.rs, `guest_write` with `ReadState::HostReady`, and what `set_consumer`
 -- makes of it.
 use Rattle.std.specs.Prelude.{ℕ, List}
-use Rattle.strm_codes.specs.Layout.{scalars_of}
+use Rattle.strm_codes.specs.Layout.{item_type}
 use Rattle.strm_codes.specs.declared.payloads.Payload.{Payload}
 use Rattle.strm_buffers.specs.declared.answers.Answer.{Answer}
 use Rattle.strm_buffers.specs.Listing.{Item, items_in}
@@ -16,7 +16,7 @@ use Rattle.strm_host_machine.specs.Settling.{result_of, moved_on, since_after}
 
 -- the first so many items of those that a write has left, as they lie in its guest's memory
 abbrev pub lifted_items : List Guest → Payload → Operation → ℕ → List Item
-lifted_items guests payload write n = items_in (scalars_of payload) (memory_in guests write.guest) write.address n
+lifted_items guests payload write n = items_in (item_type payload) (memory_in guests write.guest) write.address n
 
 -- host reader r answered so, and took so many items
 abbrev pub reader_with_taken : World → ℕ → Answer → ℕ → World

@@ -2,7 +2,8 @@
 -- wasmtime, futures_and_streams.rs, `poll_produce` with what it does to `ReadState`, and `poll_consume`
 -- with what it does to `WriteState`; Canonical ABI, the events of `canon stream.{read,write}`.
 use Rattle.std.specs.Prelude.{ℕ, ◌+◌, ◌-◌, ◌*◌, ◌^◌, ◌==◌, min, true, false, if◌then◌else◌, Option, Some, None}
-use Rattle.strm_codes.specs.Layout.{scalars_of, item_size}
+use Rattle.strm_codes.specs.Layout.{item_type}
+use Rattle.strm_codes.specs.ItemTypes.{item_size}
 use Rattle.strm_codes.specs.declared.payloads.Payload.{Payload}
 use Rattle.strm_codes.specs.declared.codes.ReturnCode.{ReturnCode}
 use Rattle.strm_codes.specs.declared.codes.ReturnCode.TheVariants.{Blocked}
@@ -33,7 +34,7 @@ result_of Failed = None
 -- an operation after n of its items came from a host end, or went to it
 abbrev pub went : Payload → Operation → ℕ → Operation
 went payload operation n = record operation {
-  address = operation.address + item_size (scalars_of payload) * n;
+  address = operation.address + item_size (item_type payload) * n;
   left = operation.left - n;
   moved = operation.moved + n;
 }

@@ -2,7 +2,7 @@
 -- wasmtime, futures_and_streams.rs, `guest_read` with `WriteState::HostReady`, and what `set_producer`
 -- makes of it.
 use Rattle.std.specs.Prelude.{ℕ, Bool, true, false, ◌||◌, if◌then◌else◌, List, [], ◌∷◌, length, take, drop, Option, Some}
-use Rattle.strm_codes.specs.Layout.{scalars_of}
+use Rattle.strm_codes.specs.Layout.{item_type}
 use Rattle.strm_codes.specs.declared.payloads.Payload.{Payload}
 use Rattle.strm_codes.specs.declared.codes.StreamResult.{StreamResult}
 use Rattle.strm_codes.specs.declared.codes.StreamResult.TheVariants as results
@@ -24,7 +24,7 @@ use Rattle.strm_host_machine.specs.Settling.{result_of, moved_on}
 abbrev pub lowered_items : List Guest → Payload → Operation → List Item → List Guest
 lowered_items guests payload read items =
     with_memory guests read.guest
-    (stored_at (scalars_of payload) (memory_in guests read.guest) read.address items)
+    (stored_at (item_type payload) (memory_in guests read.guest) read.address items)
 
 -- a read on stream s receives these items, and is settled so, if it is
 abbrev pub receives : World → ℕ → Operation → List Item → Option StreamResult → World

@@ -11,7 +11,8 @@ use Rattle.strm_machine.specs.Operating.{operate}
 use Rattle.strm_machine.specs.Endings.{delivered, dropped}
 use Rattle.strm_machine.specs.Making.{with_stream}
 use Rattle.strm_machine.specs.Reactions.{performs}
-use Rattle.strm_memory.specs.Items.{decode_from, encode_from, items, stored}
+use Rattle.strm_memory.specs.Items.{items, stored}
+use Rattle.strm_memory.specs.Loads.{decode, encode}
 use Rattle.strm_machine.proofs.MessageLemmas.{no_text}
 use Rattle.strm_laws.proofs.Answered.{Answered, AllGive, steps_of}
 use Rattle.strm_laws.proofs.Rows.{start, replies_to, replies-by}
@@ -53,7 +54,7 @@ is_text = is_utf8-from_IsUtf8 _ (IsUtf8-from_ascii (0x6f ∷ 0x6f ∷ 0x70 ∷ [
     ascii (suc (suc (suc k))) = omega arith
 
 gives-told : AllGive start told
-unfolding performs with_stream operate delivered dropped decode_from encode_from items stored
+unfolding performs with_stream operate delivered dropped decode encode items stored
 gives-told = (is_text, (no_text 0xff _ (omega arith), (no_text 0xff _ (omega arith), (no_text 0xff _ (omega arith), tt))))
 
 -- its replies
@@ -76,5 +77,5 @@ told_replies =
     ∷ []
 
 replies_to-told : replies_to (steps_of told) ≡ told_replies
-unfolding performs with_stream operate delivered dropped decode_from encode_from items stored
+unfolding performs with_stream operate delivered dropped decode encode items stored
 replies_to-told = replies-by told gives-told

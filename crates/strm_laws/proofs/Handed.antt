@@ -3,8 +3,8 @@ use Rattle.std.proofs.Common.{◌≡◌, ℕ, zero, suc, ◌+◌, ◌*◌, ◌�
 use Rattle.std.proofs.lemmas.List.{append-nil, drop-drop}
 use Rattle.std.proofs.lemmas.Bool.{lt-ltb, le-ltb, cond-true, cond-false}
 use Rattle.std.specs.Prelude.{is_some, nat_lt, ◌||◌}
-use Rattle.strm_machine.specs.Words.{scalars_of, item_size, ReturnCode, TransmitKind, Payload, Scalar, memory_in, stream_at, Moment, Call, k_of, items_in_memory, received}
-use Rattle.strm_memory.specs.Items.{decode}
+use Rattle.strm_machine.specs.Words.{item_type, item_size, ReturnCode, TransmitKind, Payload, memory_in, stream_at, Moment, Call, k_of, items_in_memory, received, ItemType}
+use Rattle.strm_memory.specs.Loads.{decode}
 use Rattle.strm_machine.specs.Moments.{decoded}
 use Rattle.strm_machine.proofs.RefusalLemmas.{neither}
 use Rattle.strm_laws.specs.Conservation.{before_passing, item_handed, handed, all_handed}
@@ -51,30 +51,30 @@ next_place : (a size i : ℕ) → a + size * i + size ≡ a + size * (i + 1)
 next_place a size i = omega arith
 
 -- the next item, behind the one at a place
-decoded-next : (ss : List Scalar) (bytes : List ℕ) (a i n : ℕ) → decoded ss (drop (a + item_size ss * i) bytes) (suc n) ≡ decode ss (drop (a + item_size ss * i) bytes) ∷ decoded ss (drop (a + item_size ss * (i + 1)) bytes) n
+decoded-next : (ss : ItemType) (bytes : List ℕ) (a i n : ℕ) → decoded ss (drop (a + item_size ss * i) bytes) (suc n) ≡ decode ss (drop (a + item_size ss * i) bytes) ∷ decoded ss (drop (a + item_size ss * (i + 1)) bytes) n
 unfolding decoded
 decoded-next ss bytes a i n = ap (λ l. decode ss (drop (a + item_size ss * i) bytes) ∷ decoded ss l n) (drop-drop (item_size ss) (a + item_size ss * i) bytes ∙ ap (λ k. drop k bytes) (next_place a (item_size ss) i))
 
-pub decoded-none : (ss : List Scalar) (bytes : List ℕ) → decoded ss bytes 0 ≡ []
+pub decoded-none : (ss : ItemType) (bytes : List ℕ) → decoded ss bytes 0 ≡ []
 unfolding decoded
 decoded-none ss bytes = refl
 
 -- an item that is handed over in the last moment
 module _ (s : ℕ) (all : List Moment) (m : Moment) (e : ℕ) (w : Call) (i : ℕ) (payload : Payload) where
-  item_handed-new : payload ≡ (stream_at m.before s).payload → before_passing s all (e + i) ≡ m.before → item_handed s all e w i ≡ decode (scalars_of payload) (drop (w.address + item_size (scalars_of payload) * i) (memory_in m.before.guests w.guest))
+  item_handed-new : payload ≡ (stream_at m.before s).payload → before_passing s all (e + i) ≡ m.before → item_handed s all e w i ≡ decode (item_type payload) (drop (w.address + item_size (item_type payload) * i) (memory_in m.before.guests w.guest))
   item_handed-new q h = rw (h, q) refl
 
 module _ (s : ℕ) (all : List Moment) (m : Moment) (e : ℕ) (w : Call) (r : ℕ) (payload : Payload) (h : IsReached s all r) (q : payload ≡ (stream_at m.before s).payload) where
-  pub handed-new : (i n : ℕ) → r ≤ e + i → e + i + n ≤ received s m.after → handed s (all ++ m ∷ []) e w i n ≡ items_in_memory payload m.before.guests w.guest (w.address + item_size (scalars_of payload) * i) n
+  pub handed-new : (i n : ℕ) → r ≤ e + i → e + i + n ≤ received s m.after → handed s (all ++ m ∷ []) e w i n ≡ items_in_memory payload m.before.guests w.guest (w.address + item_size (item_type payload) * i) n
   unfolding handed
-  handed-new i zero le ge = sym (decoded-none (scalars_of payload) _)
+  handed-new i zero le ge = sym (decoded-none (item_type payload) _)
   handed-new i (suc n) le ge =
       let here : before_passing s (all ++ m ∷ []) (e + i) ≡ m.before = before_passing-new s all m (e + i) (h (e + i) ∙ le-ltb (e + i) r le) (lt-ltb (e + i) _ (omega arith)) in
       let item = item_handed-new s (all ++ m ∷ []) m e w i payload q here in
       let more = handed-new (i + 1) n (omega arith) (omega arith) in
       ap (λ x. x ∷ handed s (all ++ m ∷ []) e w (i + 1) n) item
-      ∙ ap (λ l. decode (scalars_of payload) (drop (w.address + item_size (scalars_of payload) * i) (memory_in m.before.guests w.guest)) ∷ l) more
-      ∙ sym (decoded-next (scalars_of payload) (memory_in m.before.guests w.guest) w.address i n)
+      ∙ ap (λ l. decode (item_type payload) (drop (w.address + item_size (item_type payload) * i) (memory_in m.before.guests w.guest)) ∷ l) more
+      ∙ sym (decoded-next (item_type payload) (memory_in m.before.guests w.guest) w.address i n)
 
 pub handed-add : (s : ℕ) (all : List Moment) (e : ℕ) (w : Call) (i n r k : ℕ) → k ≡ n + r → handed s all e w i k ≡ handed s all e w i n ++ handed s all e w (i + n) r
 unfolding handed

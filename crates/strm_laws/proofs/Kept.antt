@@ -5,7 +5,7 @@ use Rattle.std.proofs.lemmas.List.{append-nil}
 use Rattle.std.proofs.lemmas.Bool.{lt-ltb, le-ltb, cases_lt}
 use Rattle.std.proofs.lemmas.List.Elements.{All-nil, All-cons, All-head, All-tail, All-push}
 use Rattle.std.specs.Prelude.{All, nat_lt, ◌||◌}
-use Rattle.strm_machine.specs.Words.{scalars_of, item_size, ReturnCode, TransmitKind, Payload, State, stream_at, Moment, Call, k_of, items_in_memory, received, report_in, accepted_in}
+use Rattle.strm_machine.specs.Words.{item_type, item_size, ReturnCode, TransmitKind, Payload, State, stream_at, Moment, Call, k_of, items_in_memory, received, report_in, accepted_in}
 use Rattle.strm_machine.specs.declared.streams.Side.{Side}
 use Rattle.strm_machine.specs.declared.streams.Side.TheVariants.{Writing}
 use Rattle.strm_machine.specs.declared.streams.Operation.{Operation}
@@ -98,7 +98,7 @@ handed_before kind s all moved earlier w x = all_handed kind s all moved 0 earli
 
 -- the next n items of a call, as they lie before a moment
 abbrev pub items_next : ℕ → Moment → Call → ℕ → ℕ → List (Option (List ℤ))
-items_next s m w x n = items_in_memory (payload_at s m.before) m.before.guests w.guest (w.address + item_size (scalars_of (payload_at s m.before)) * x) n
+items_next s m w x n = items_in_memory (payload_at s m.before) m.before.guests w.guest (w.address + item_size (item_type (payload_at s m.before)) * x) n
 
 -- in a moment the last call moves n items after x others
 pub record Moves (kind : TransmitKind) (s : ℕ) (side : Side) (all : List Moment) (m : Moment) (had : Received) (taken : ℕ) (now_got : Received) (earlier : List Call) (w : Call) (moved r x n : ℕ) : Type 0 where
@@ -125,12 +125,12 @@ module _ (kind : TransmitKind) (s : ℕ) (side : Side) (all : List Moment) (m : 
       let payload = payload_at s m.before in
       let a : all_handed kind s (all ++ m ∷ []) moved 0 earlier ≡ all_handed kind s all moved 0 earlier = all_handed-old kind s all m moved 0 r earlier h.reached (omega (arith, h.counted)) in
       let b : handed s (all ++ m ∷ []) t w 0 x ≡ handed s all t w 0 x = handed-old s all m t w r 0 x h.reached (omega (arith, h.counted)) in
-      let c : handed s (all ++ m ∷ []) t w (0 + x) n ≡ items_in_memory payload m.before.guests w.guest (w.address + item_size (scalars_of payload) * (0 + x)) n = handed-new s all m t w r payload h.reached refl (0 + x) n (omega (arith, h.counted, none)) (omega (arith, h.counted, h.more, none)) in
+      let c : handed s (all ++ m ∷ []) t w (0 + x) n ≡ items_in_memory payload m.before.guests w.guest (w.address + item_size (item_type payload) * (0 + x)) n = handed-new s all m t w r payload h.reached refl (0 + x) n (omega (arith, h.counted, none)) (omega (arith, h.counted, h.more, none)) in
       let k = h.counts in
       let z : 0 + x ≡ x = omega arith in
       let y : 0 + t ≡ t = omega arith in
       rw (all_handed-append kind s (all ++ m ∷ []) moved 0 earlier (w ∷ []), y, all_handed-one kind s (all ++ m ∷ []) moved t w, k, handed-add s (all ++ m ∷ []) t w 0 x n (x + n) refl, a, b, c, z)
-      (sym (append_assoc (all_handed kind s all moved 0 earlier) (handed s all t w 0 x) (items_in_memory payload m.before.guests w.guest (w.address + item_size (scalars_of payload) * x) n)))
+      (sym (append_assoc (all_handed kind s all moved 0 earlier) (handed s all t w 0 x) (items_in_memory payload m.before.guests w.guest (w.address + item_size (item_type payload) * x) n)))
 
   -- the account is kept
   pub kept_from : Kept kind s side (all ++ m ∷ []) (had ++ now_got) taken m.after

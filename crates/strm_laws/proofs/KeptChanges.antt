@@ -2,7 +2,7 @@
 use Rattle.std.proofs.Common.{◌≡◌, ◌≢◌, ℕ, ◌+◌, ◌*◌, true, List, [], ◌∷◌, ◌++◌, Option, None, Some, refl, sym, subst, ap, ◌∙◌, arith}
 use Rattle.std.proofs.lemmas.List.{append-nil}
 use Rattle.std.specs.Prelude.{All, is_some}
-use Rattle.strm_machine.specs.Words.{Guest, scalars_of, item_size, ReturnCode, TransmitKind, Payload, State, Moment, Call, report_in, accepted_in, count_reported, k_of, items_in_memory, received}
+use Rattle.strm_machine.specs.Words.{Guest, item_type, item_size, ReturnCode, TransmitKind, Payload, State, Moment, Call, report_in, accepted_in, count_reported, k_of, items_in_memory, received}
 use Rattle.strm_machine.specs.declared.streams.Side.{Side}
 use Rattle.strm_machine.specs.declared.streams.Side.TheVariants.{Writing}
 use Rattle.strm_machine.specs.declared.streams.Operation.{Operation}
@@ -21,7 +21,7 @@ moved_some : (o : Option Operation) (p : Operation) → o ≡ Some p → moved_o
 moved_some o p e = ap moved_of e
 
 items_in_memory-none : (payload : Payload) (guests : List Guest) (g address : ℕ) → items_in_memory payload guests g address 0 ≡ []
-items_in_memory-none payload guests g address = decoded-none (scalars_of payload) _
+items_in_memory-none payload guests g address = decoded-none (item_type payload) _
 
 AreReported-push : (ws : List Call) (v : Call) → AreReported ws → is_some v.report ≡ true → AreReported (ws ++ v ∷ [])
 AreReported-push [] v h e = (e, tt)
@@ -31,12 +31,12 @@ place_sum : (a b w size n x y : ℕ) → a ≡ b + size * n → b ≡ w + size *
 place_sum a b w size n x y e f g = rw (e, f, g) (omega arith)
 
 -- the place of an operation that went on
-place_more : (a b w n x y : ℕ) (before after : Payload) → a ≡ b + item_size (scalars_of before) * n → b ≡ w + item_size (scalars_of before) * x → y ≡ x + n → after ≡ before → a ≡ w + item_size (scalars_of after) * y
-place_more a b w n x y before after e f g h = place_sum a b w (item_size (scalars_of before)) n x y e f g ∙ ap (λ p. w + item_size (scalars_of p) * y) (sym h)
+place_more : (a b w n x y : ℕ) (before after : Payload) → a ≡ b + item_size (item_type before) * n → b ≡ w + item_size (item_type before) * x → y ≡ x + n → after ≡ before → a ≡ w + item_size (item_type after) * y
+place_more a b w n x y before after e f g h = place_sum a b w (item_size (item_type before)) n x y e f g ∙ ap (λ p. w + item_size (item_type p) * y) (sym h)
 
 -- the place of an operation that a moment began
-place_opened : (a w n y : ℕ) (before after : Payload) → a ≡ w + item_size (scalars_of before) * n → y ≡ n → after ≡ before → a ≡ w + item_size (scalars_of after) * y
-place_opened a w n y before after e g h = e ∙ ap (λ k. w + item_size (scalars_of before) * k) (sym g) ∙ ap (λ p. w + item_size (scalars_of p) * y) (sym h)
+place_opened : (a w n y : ℕ) (before after : Payload) → a ≡ w + item_size (item_type before) * n → y ≡ n → after ≡ before → a ≡ w + item_size (item_type after) * y
+place_opened a w n y before after e g h = e ∙ ap (λ k. w + item_size (item_type before) * k) (sym g) ∙ ap (λ p. w + item_size (item_type p) * y) (sym h)
 
 place_first : (a size : ℕ) → a ≡ a + size * 0
 place_first a size = omega arith
@@ -92,7 +92,7 @@ module _ (s : ℕ) (side : Side) (all : List Moment) (m : Moment) (had : Receive
   kind = kind_at s m.before
 
   abbrev size : ℕ
-  size = item_size (scalars_of (payload_at s m.before))
+  size = item_size (item_type (payload_at s m.before))
 
   carries : (o : Operation) → waiting s side m.before ≡ Some o → CarriesLastCall (payload_at s m.before) o (calls s side all)
   carries o e = some_carries (payload_at s m.before) (waiting s side m.before) o (calls s side all) e k.stands

@@ -14,7 +14,8 @@ use Rattle.strm_codes.specs.declared.refusals.Refusal.TheVariants as refusals
 use Rattle.strm_codes.specs.declared.codes.TransmitIndex.TheVariants as index
 use Rattle.strm_codes.specs.declared.payloads.Payload.TheVariants.{One}
 use Rattle.strm_codes.specs.declared.scalars.Scalar.TheVariants.{U8, U16}
-use Rattle.strm_memory.specs.Items.{decode_from, encode_from, items, stored}
+use Rattle.strm_memory.specs.Items.{items, stored}
+use Rattle.strm_memory.specs.Loads.{decode, encode}
 use Rattle.strm_machine.specs.Operating.{operate}
 use Rattle.strm_machine.specs.Endings.{delivered, dropped, cancelled}
 use Rattle.strm_machine.specs.Refusals.{refusal}
@@ -102,7 +103,7 @@ replies_to-parts : replies_to parts ≡
     ∷ replies.Done
     ∷ replies.Event (Some (Dropped 1))
     ∷ []
-unfolding reaction refusal performs with_stream operate delivered dropped decode_from encode_from items stored
+unfolding reaction refusal performs with_stream operate delivered dropped decode encode items stored
 replies_to-parts = refl
 
 account-parts : account 0 parts ≡ record {
@@ -112,7 +113,7 @@ account-parts : account 0 parts ≡ record {
   taken = item 1 ∷ item 2 ∷ item 33 ∷ item 5 ∷ [];
   given = item 1 ∷ item 2 ∷ item 33 ∷ item 5 ∷ [];
 }
-unfolding reaction refusal performs with_stream operate delivered dropped decode_from encode_from items stored decoded handed all_handed
+unfolding reaction refusal performs with_stream operate delivered dropped decode encode items stored decoded handed all_handed
 account-parts = refl
 
 -- a read that waits, meets a write of no items, is filled by two writes, and is told; a read of no
@@ -151,7 +152,7 @@ replies_to-filled : replies_to filled ≡
     ∷ replies.Code (Completed 1)
     ∷ replies.Bytes (11 ∷ 12 ∷ 21 ∷ 13 ∷ [])
     ∷ []
-unfolding reaction refusal performs with_stream operate delivered dropped decode_from encode_from items stored
+unfolding reaction refusal performs with_stream operate delivered dropped decode encode items stored
 replies_to-filled = refl
 
 account-filled : account 0 filled ≡ record {
@@ -161,7 +162,7 @@ account-filled : account 0 filled ≡ record {
   taken = item 11 ∷ item 12 ∷ item 21 ∷ item 13 ∷ [];
   given = item 11 ∷ item 12 ∷ item 21 ∷ item 13 ∷ [];
 }
-unfolding reaction refusal performs with_stream operate delivered dropped decode_from encode_from items stored decoded handed all_handed
+unfolding reaction refusal performs with_stream operate delivered dropped decode encode items stored decoded handed all_handed
 account-filled = refl
 
 -- two streams in opposite directions: an item of one is put into the region of a write that waits on
@@ -209,7 +210,7 @@ replies_to-crossed : replies_to crossed ≡
     ∷ replies.Event (Some (Dropped 2))
     ∷ replies.Event None
     ∷ []
-unfolding reaction refusal performs with_stream operate delivered dropped decode_from encode_from items stored
+unfolding reaction refusal performs with_stream operate delivered dropped decode encode items stored
 replies_to-crossed = refl
 
 -- the words are 1 + 256 * 2, 77 + 256 * 4 and 5 + 256 * 6
@@ -220,7 +221,7 @@ account-crossed : account 0 crossed ≡ record {
   taken = item 513 ∷ item 1101 ∷ item 1541 ∷ [];
   given = item 513 ∷ item 1101 ∷ item 1541 ∷ [];
 }
-unfolding reaction refusal performs with_stream operate delivered dropped decode_from encode_from items stored decoded handed all_handed
+unfolding reaction refusal performs with_stream operate delivered dropped decode encode items stored decoded handed all_handed
 account-crossed = refl
 
 account-crossed_back : account 1 crossed ≡ record {
@@ -230,7 +231,7 @@ account-crossed_back : account 1 crossed ≡ record {
   taken = item 77 ∷ [];
   given = item 77 ∷ [];
 }
-unfolding reaction refusal performs with_stream operate delivered dropped decode_from encode_from items stored decoded handed all_handed
+unfolding reaction refusal performs with_stream operate delivered dropped decode encode items stored decoded handed all_handed
 account-crossed_back = refl
 
 -- ## Ends that move
@@ -282,7 +283,7 @@ passed_on =
     ∷ []
 
 gives-passed_on : AllGive start (apart passed_on)
-unfolding performs with_stream operate delivered dropped decode_from encode_from items stored
+unfolding performs with_stream operate delivered dropped decode encode items stored
 gives-passed_on = (in_none 1, (in_none 1, tt))
 
 replies_to-passed_on : replies_to passed_on ≡
@@ -300,7 +301,7 @@ replies_to-passed_on : replies_to passed_on ≡
     ∷ replies.Code (Completed 1)
     ∷ replies.Event (Some (Completed 4))
     ∷ []
-unfolding performs with_stream operate delivered dropped decode_from encode_from items stored
+unfolding performs with_stream operate delivered dropped decode encode items stored
 replies_to-passed_on = replies-by (apart passed_on) gives-passed_on
 
 account-passed_on : account 0 passed_on ≡ record {
@@ -310,7 +311,7 @@ account-passed_on : account 0 passed_on ≡ record {
   taken = item 1 ∷ item 2 ∷ item 3 ∷ item 4 ∷ [];
   given = item 1 ∷ item 2 ∷ item 3 ∷ item 4 ∷ [];
 }
-unfolding performs with_stream operate delivered dropped decode_from encode_from items stored decoded handed all_handed
+unfolding performs with_stream operate delivered dropped decode encode items stored decoded handed all_handed
 account-passed_on = account-by 0 (apart passed_on) gives-passed_on
 
 -- a read end that is lifted while a write is partly read, that is refused as one of another type and as
@@ -338,7 +339,7 @@ lifted =
     ∷ []
 
 gives-lifted : AllGive start (apart lifted)
-unfolding performs with_stream operate delivered dropped decode_from encode_from items stored
+unfolding performs with_stream operate delivered dropped decode encode items stored
 gives-lifted = (in_none 1, (in_no_more _ 1 1 (in_none 1), tt))
 
 replies_to-lifted : replies_to lifted ≡
@@ -361,7 +362,7 @@ replies_to-lifted : replies_to lifted ≡
     ∷ replies.Done
     ∷ replies.Bytes (10 ∷ 0 ∷ 0 ∷ 0 ∷ 11 ∷ 12 ∷ [])
     ∷ []
-unfolding performs with_stream operate delivered dropped decode_from encode_from items stored
+unfolding performs with_stream operate delivered dropped decode encode items stored
 replies_to-lifted = replies-by (apart lifted) gives-lifted
 
 account-lifted : account 0 lifted ≡ record {
@@ -371,7 +372,7 @@ account-lifted : account 0 lifted ≡ record {
   taken = item 10 ∷ item 11 ∷ item 12 ∷ [];
   given = item 10 ∷ item 11 ∷ item 12 ∷ [];
 }
-unfolding performs with_stream operate delivered dropped decode_from encode_from items stored decoded handed all_handed
+unfolding performs with_stream operate delivered dropped decode encode items stored decoded handed all_handed
 account-lifted = account-by 0 (apart lifted) gives-lifted
 
 -- both ends go to their own guest, and each gets the number that was just freed and none freed before; and
@@ -394,7 +395,7 @@ staying =
     ∷ []
 
 gives-staying : AllGive start (apart staying)
-unfolding performs with_stream operate delivered dropped decode_from encode_from items stored cancelled
+unfolding performs with_stream operate delivered dropped decode encode items stored cancelled
 gives-staying =
     let first = in_no_more _ 3 1 (in_none 1) in
     let later = in_no_more _ 2 1 (in_no_more _ 1 1 first) in
@@ -415,5 +416,5 @@ replies_to-staying : replies_to staying ≡
     ∷ replies.Event (Some (Dropped 0))
     ∷ replies.Refused refusals.LiftDropped
     ∷ []
-unfolding performs with_stream operate delivered dropped decode_from encode_from items stored cancelled
+unfolding performs with_stream operate delivered dropped decode encode items stored cancelled
 replies_to-staying = replies-by (apart staying) gives-staying

@@ -19,7 +19,8 @@ use Rattle.strm_machine.specs.Reactions.{performs, reaction}
 use Rattle.strm_machine.specs.Refusals.{refusal}
 use Rattle.strm_machine.specs.Moments.{decoded}
 use Rattle.strm_machine.specs.WaitableSets.{is_in_set, has_member, is_ready, ready_member}
-use Rattle.strm_memory.specs.Items.{decode_from, encode_from, items, stored}
+use Rattle.strm_memory.specs.Items.{items, stored}
+use Rattle.strm_memory.specs.Loads.{decode, encode}
 use Rattle.strm_waitable_sets.specs.Sets.{Sets, no_sets, set_of, is_member, with_new_set, handle_joined, handle_left}
 use Rattle.strm_codes.specs.OptionalNumbers.{is_number}
 use Rattle.strm_waitable_sets.proofs.SetLemmas.{is_member-left_same, is_member-left_other, is_member-joined_same, is_member-joined_other}
@@ -127,7 +128,7 @@ abbrev after_steps : ℕ → State
 after_steps n = last_state start (take n polled)
 
 gives-polled : AllGive start polled
-unfolding performs with_stream operate delivered dropped decode_from encode_from items stored
+unfolding performs with_stream operate delivered dropped decode encode items stored
 gives-polled = (
   none_ready (after_steps 5) refl refl refl,
   (
@@ -158,7 +159,7 @@ replies_to-polled : replies_to (steps_of polled) ≡
     ∷ replies.Done
     ∷ replies.Done
     ∷ []
-unfolding performs with_stream operate delivered dropped decode_from encode_from items stored
+unfolding performs with_stream operate delivered dropped decode encode items stored
 replies_to-polled = replies-by polled gives-polled
 
 -- the write's report is what the poll told
@@ -169,7 +170,7 @@ account-polled : account 0 (steps_of polled) ≡ record {
   taken = item 0 ∷ [];
   given = item 0 ∷ [];
 }
-unfolding performs with_stream operate delivered dropped decode_from encode_from items stored decoded handed all_handed
+unfolding performs with_stream operate delivered dropped decode encode items stored decoded handed all_handed
 account-polled = account-by 0 polled gives-polled
 
 -- ## An end that goes from set to set
@@ -221,7 +222,7 @@ abbrev regrouped_steps : ℕ → State
 regrouped_steps n = last_state start (take n regrouped)
 
 gives-regrouped : AllGive start regrouped
-unfolding performs with_stream operate delivered dropped decode_from encode_from items stored
+unfolding performs with_stream operate delivered dropped decode encode items stored
 gives-regrouped = (
   has_member-none (regrouped_steps 6) 0 0 moved,
   (
@@ -247,7 +248,7 @@ replies_to-regrouped : replies_to (steps_of regrouped) ≡
     ∷ replies.Done
     ∷ replies.Done
     ∷ []
-unfolding performs with_stream operate delivered dropped decode_from encode_from items stored
+unfolding performs with_stream operate delivered dropped decode encode items stored
 replies_to-regrouped = replies-by regrouped gives-regrouped
 
 -- ## Numbers and limits

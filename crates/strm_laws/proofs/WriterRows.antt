@@ -9,7 +9,8 @@ use Rattle.strm_codes.specs.declared.codes.TransmitIndex.TheVariants as index
 use Rattle.strm_codes.specs.declared.payloads.Payload.TheVariants.{One}
 use Rattle.strm_codes.specs.declared.scalars.Scalar.TheVariants.{Bool}
 use Rattle.strm_codes.specs.declared.refusals.Refusal.TheVariants as refusals
-use Rattle.strm_memory.specs.Items.{decode_from, encode_from, items, stored}
+use Rattle.strm_memory.specs.Items.{items, stored}
+use Rattle.strm_memory.specs.Loads.{decode, encode}
 use Rattle.strm_machine.specs.Operating.{operate}
 use Rattle.strm_machine.specs.Endings.{delivered, dropped, cancelled}
 use Rattle.strm_machine.specs.Making.{with_stream}
@@ -43,7 +44,7 @@ written_on =
     ∷ []
 
 gives-written_on : AllGive start (apart written_on)
-unfolding performs with_stream operate delivered dropped decode_from encode_from items stored
+unfolding performs with_stream operate delivered dropped decode encode items stored
 gives-written_on = (in_none 1, (in_none 1, (in_none 1, tt)))
 
 replies_to-written_on : replies_to written_on ≡
@@ -63,7 +64,7 @@ replies_to-written_on : replies_to written_on ≡
     ∷ replies.Code (Completed 2)
     ∷ replies.Bytes (1 ∷ 2 ∷ 3 ∷ 4 ∷ [])
     ∷ []
-unfolding performs with_stream operate delivered dropped decode_from encode_from items stored
+unfolding performs with_stream operate delivered dropped decode encode items stored
 replies_to-written_on = replies-by (apart written_on) gives-written_on
 
 account-written_on : account 0 written_on ≡ record {
@@ -73,7 +74,7 @@ account-written_on : account 0 written_on ≡ record {
   taken = item 1 ∷ item 2 ∷ item 3 ∷ item 4 ∷ [];
   given = item 1 ∷ item 2 ∷ item 3 ∷ item 4 ∷ [];
 }
-unfolding performs with_stream operate delivered dropped decode_from encode_from items stored decoded handed all_handed
+unfolding performs with_stream operate delivered dropped decode encode items stored decoded handed all_handed
 account-written_on = account-by 0 (apart written_on) gives-written_on
 
 -- ## Beside a read that is open
@@ -99,7 +100,7 @@ joined_and_left =
     ∷ []
 
 gives-joined_and_left : AllGive start (apart joined_and_left)
-unfolding performs with_stream operate delivered dropped decode_from encode_from items stored cancelled
+unfolding performs with_stream operate delivered dropped decode encode items stored cancelled
 gives-joined_and_left = (in_none 1, (in_no_more _ 1 2 (in_none 2), (in_no_more _ 1 1 (in_none 1), tt)))
 
 replies_to-joined_and_left : replies_to joined_and_left ≡
@@ -115,5 +116,5 @@ replies_to-joined_and_left : replies_to joined_and_left ≡
     ∷ replies.Event (Some (Dropped 0))
     ∷ replies.Refused refusals.LiftDropped
     ∷ []
-unfolding performs with_stream operate delivered dropped decode_from encode_from items stored cancelled
+unfolding performs with_stream operate delivered dropped decode encode items stored cancelled
 replies_to-joined_and_left = replies-by (apart joined_and_left) gives-joined_and_left

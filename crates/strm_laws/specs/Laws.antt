@@ -1,7 +1,8 @@
 -- What holds of every run. Ours.
 use Rattle.std.specs.Prelude.{◌≡◌, ℕ, ◌+◌, ◌*◌, ◌<◌, ◌≤◌, true, false, List, [], ◌∷◌, ◌++◌, length, All, is_some, is_ok, IsSome, Ok, Option, Some, None}
 use Rattle.strm_codes.specs.Counts.{count_limit}
-use Rattle.strm_codes.specs.Layout.{scalars_of, item_size}
+use Rattle.strm_codes.specs.Layout.{item_type}
+use Rattle.strm_codes.specs.ItemTypes.{item_size}
 use Rattle.strm_codes.specs.declared.codes.TransmitKind.{TransmitKind}
 use Rattle.strm_codes.specs.declared.payloads.Payload.{Payload}
 use Rattle.strm_waitable_sets.specs.Sets.{is_set_there, is_member}
@@ -81,7 +82,7 @@ pub record CarriesLastCall (payload : Payload) (operation : Operation) (cs : Lis
   pub reported : AreReported earlier
   pub unreported : last.report ≡ None
   pub guest : operation.guest ≡ last.guest
-  pub address : operation.address ≡ last.address + item_size (scalars_of payload) * operation.moved
+  pub address : operation.address ≡ last.address + item_size (item_type payload) * operation.moved
   pub asked : operation.moved + operation.left ≡ last.asked
 
 -- where an end has no operation, all its calls have their report

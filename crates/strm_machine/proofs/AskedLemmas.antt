@@ -6,7 +6,7 @@ use Rattle.std.proofs.lemmas.Bool.Decides.{eqb_tells}
 use Rattle.std.proofs.lemmas.List.{set-get_or}
 use Rattle.std.specs.Option.{option_map}
 use Rattle.strm_codes.specs.declared.codes.ReturnCode.{ReturnCode}
-use Rattle.strm_machine.specs.Words.{Guest, Payload, scalars_of, items_at, memory_in, with_memory, stored_at, no_stream, act_of, State, stream_at, end_of, opposite, same_side, carried, Operated, named, stream_named, Reaction, goes, operates, react, NamedEnd, Operate, OnEnd, Side, Writing, Reading, Operation, Stream, Step}
+use Rattle.strm_machine.specs.Words.{Guest, Payload, item_type, items_at, memory_in, with_memory, stored_at, no_stream, act_of, State, stream_at, end_of, opposite, same_side, carried, Operated, named, stream_named, Reaction, goes, operates, react, NamedEnd, Operate, OnEnd, Side, Writing, Reading, Operation, Stream, Step}
 use Rattle.strm_machine.specs.State.{is_gone}
 use Rattle.strm_machine.specs.Sides.{write_of, read_of}
 use Rattle.strm_machine.specs.Meetings.{meeting_of, begun}
@@ -61,16 +61,16 @@ record MeetsBad (side : Side) (guests : List Guest) (stream : Stream) (mine : Op
   opened : theirs.is_open ≡ true
   asks : 0 < mine.left
   left : 0 < theirs.left
-  bad : items_at (scalars_of stream.payload) (memory_in guests (write_of side mine theirs).guest) (write_of side mine theirs).address (min mine.left theirs.left) ≡ None
+  bad : items_at (item_type stream.payload) (memory_in guests (write_of side mine theirs).guest) (write_of side mine theirs).address (min mine.left theirs.left) ≡ None
 
 -- then there is no code, and guests and stream stay
 abbrev no_code : List Guest → Stream → Operated
 no_code guests stream = record { code = None; guests = guests; stream = stream }
 
-not_lifted : (guests : List Guest) (payload : Payload) (write read : Operation) (n : ℕ) → carried guests payload write read n ≡ None → items_at (scalars_of payload) (memory_in guests write.guest) write.address n ≡ None
-not_lifted guests payload write read n = only_none (items_at (scalars_of payload) (memory_in guests write.guest) write.address n)
+not_lifted : (guests : List Guest) (payload : Payload) (write read : Operation) (n : ℕ) → carried guests payload write read n ≡ None → items_at (item_type payload) (memory_in guests write.guest) write.address n ≡ None
+not_lifted guests payload write read n = only_none (items_at (item_type payload) (memory_in guests write.guest) write.address n)
   where
-    only_none : (o : Option (List (List ℤ))) → option_map (λ xs. with_memory guests read.guest (stored_at (scalars_of payload) (memory_in guests read.guest) read.address xs)) o ≡ None → o ≡ None
+    only_none : (o : Option (List (List ℤ))) → option_map (λ xs. with_memory guests read.guest (stored_at (item_type payload) (memory_in guests read.guest) read.address xs)) o ≡ None → o ≡ None
     only_none None e = refl
     only_none (Some xs) e = cc
 

@@ -8,7 +8,7 @@ use Rattle.std.proofs.lemmas.Bool.{cond_both}
 use Rattle.std.proofs.lemmas.List.{get_or-set_other}
 use Rattle.strm_handles.specs.Handles.{inserted}
 use Rattle.strm_waitable_sets.specs.Sets.{handle_left}
-use Rattle.strm_machine.specs.Words.{Guest, Handles, Sets, no_handles, no_sets, Entry, removed, ReturnCode, TransmitIndex, Reaction, written_back, end_of, opposite, same_side, IsSound, State, guest_in, no_guest, sets_in, with_handles, with_memory, with_table, memory_in, scalars_of, stored_at, items_at, named, stream_named, Operated, Operation, Side, Reading, Writing, Stream, Act}
+use Rattle.strm_machine.specs.Words.{Guest, Handles, Sets, no_handles, no_sets, Entry, removed, ReturnCode, TransmitIndex, Reaction, written_back, end_of, opposite, same_side, IsSound, State, guest_in, no_guest, sets_in, with_handles, with_memory, with_table, memory_in, item_type, stored_at, items_at, named, stream_named, Operated, Operation, Side, Reading, Writing, Stream, Act}
 use Rattle.std.specs.Ptr.{Ptr}
 use Rattle.strm_memory.specs.Linear.{Base, told_at, own_part}
 use Rattle.strm_machine.specs.Bases.{base_in, with_base, BasesStay}
@@ -67,7 +67,7 @@ module _ (side : Side) (guests : List Guest) (stream : Stream) (mine : Operation
 
   -- the guests with items that were lifted stored where a read is to have them
   abbrev stored_for : Operation → List (List ℤ) → List Guest
-  stored_for read xs = with_memory guests read.guest (stored_at (scalars_of stream.payload) (memory_in guests read.guest) read.address xs)
+  stored_for read xs = with_memory guests read.guest (stored_at (item_type stream.payload) (memory_in guests read.guest) read.address xs)
 
   moved_stay : (theirs : Operation) (n : ℕ) (o : Option (List (List ℤ))) → Stay (moves side guests stream mine theirs n (option_map (stored_for (read_of side mine theirs)) o))
   moved_stay theirs n None = λ k. refl
@@ -80,7 +80,7 @@ module _ (side : Side) (guests : List Guest) (stream : Stream) (mine : Operation
   meets_stay BothComplete theirs =
       let n = min mine.left theirs.left in
       let write = write_of side mine theirs in
-      moved_stay theirs n (items_at (scalars_of stream.payload) (memory_in guests write.guest) write.address n)
+      moved_stay theirs n (items_at (item_type stream.payload) (memory_in guests write.guest) write.address n)
   meets_stay WriteCompletes theirs = alone_stay Writing theirs
   meets_stay ReadCompletes theirs = alone_stay Reading theirs
 

@@ -1,6 +1,6 @@
 -- What one moment may do to an end of a stream: five changes, by which the law of conservation goes.
 use Rattle.std.proofs.Common.{◌≡◌, ℕ, ◌+◌, ◌*◌, ◌≤◌, ℤ, List, [], ◌∷◌, Option, None, Some}
-use Rattle.strm_machine.specs.Words.{Guest, scalars_of, item_size, ReturnCode, stream_at, end_of, Side, Writing, Stream, Operation, Moment, Call, report_in, accepted_in, count_reported, k_of, items_in_memory, got_in}
+use Rattle.strm_machine.specs.Words.{Guest, item_type, item_size, ReturnCode, stream_at, end_of, Side, Writing, Stream, Operation, Moment, Call, report_in, accepted_in, count_reported, k_of, items_in_memory, got_in}
 
 -- what the law sees of one moment on one end of a stream
 pub record Scene : Type 0 where
@@ -44,7 +44,7 @@ pub record GoesOn (side : Side) (v : Scene) (o p : Operation) (n : ℕ) : Type 0
   pub takes : v.taken ≡ []
   pub unreported : v.report ≡ None
   pub guest : p.guest ≡ o.guest
-  pub address : p.address ≡ o.address + item_size (scalars_of v.before.payload) * n
+  pub address : p.address ≡ o.address + item_size (item_type v.before.payload) * n
   pub moved : p.moved ≡ o.moved + n
   pub left : p.left + n ≡ o.left
   pub payload : v.after.payload ≡ v.before.payload
@@ -68,7 +68,7 @@ pub record Opens (side : Side) (v : Scene) (g address asked : ℕ) (p : Operatio
   pub takes : v.taken ≡ record { guest = g; address = address; asked = asked; report = v.report } ∷ []
   pub unreported : v.report ≡ None
   pub guest : p.guest ≡ g
-  pub place : p.address ≡ address + item_size (scalars_of v.before.payload) * n
+  pub place : p.address ≡ address + item_size (item_type v.before.payload) * n
   pub moved : p.moved ≡ n
   pub left : n + p.left ≡ asked
   pub payload : v.after.payload ≡ v.before.payload

@@ -5,7 +5,7 @@ use Rattle.std.specs.Ptr.{Ptr}
 use Rattle.std.proofs.lemmas.List.{take-append-drop, take-append-le, drop-append-le, length-map, length-set}
 use Rattle.std.proofs.lemmas.List.Elements.{All-weaker}
 use Rattle.std.proofs.Math.Seq.{map-set_same}
-use Rattle.strm_machine.specs.Words.{Guest, Payload, scalars_of, State, no_guest, guest_in, memory_in, with_memory, sizes_of, IsPlaced, OperationIsPlaced, StreamIsPlaced, IsSound, Operation, Stream}
+use Rattle.strm_machine.specs.Words.{Guest, Payload, item_type, State, no_guest, guest_in, memory_in, with_memory, sizes_of, IsPlaced, OperationIsPlaced, StreamIsPlaced, IsSound, Operation, Stream}
 use Rattle.strm_memory.specs.Bytes.{bytes_at}
 use Rattle.strm_memory.specs.Linear.{Base, is_lent_base, own_part}
 use Rattle.strm_machine.specs.State.{size_limit, guest_limit, own_size}
@@ -33,7 +33,7 @@ pub record Longer (old new : List ℕ) : Type 0 where
 pub IsPlaced-longer : (old new : List ℕ) (payload : Payload) (operation : Operation) → Longer old new → IsPlaced old payload operation → IsPlaced new payload operation
 IsPlaced-longer old new payload operation l p =
     let g = operation.guest in
-    let ss = scalars_of payload in
+    let ss = item_type payload in
     record {
       there = omega (arith, p.there, l.count);
       inside = not_out (get_or new g 0) ss operation.address operation.left (λ some wide. omega (arith, within (get_or old g 0) ss operation.address operation.left p.inside some wide, l.more g));

@@ -1,6 +1,6 @@
 -- A stream after a change on one side: its type and owners stay, and its operations lie in memory.
 use Rattle.std.proofs.Common.{true, ◌≡◌, ℕ, ◌≤◌, List, Some, refl, ◌∙◌, arith}
-use Rattle.strm_machine.specs.Words.{Payload, scalars_of, same_side, end_of, with_end, with_operation, advanced, IsPlaced, OperationIsPlaced, StreamIsPlaced, Side, Writing, Reading, Operation, End, Stream}
+use Rattle.strm_machine.specs.Words.{Payload, item_type, same_side, end_of, with_end, with_operation, advanced, IsPlaced, OperationIsPlaced, StreamIsPlaced, Side, Writing, Reading, Operation, End, Stream}
 use Rattle.strm_machine.specs.Sides.{read_of}
 use Rattle.strm_machine.proofs.BoundLemmas.{not_out-rest}
 
@@ -53,7 +53,7 @@ with_operation-keeps side sizes stream operation h p =
 pub IsPlaced-advanced : (sizes : List ℕ) (payload : Payload) (operation : Operation) (n : ℕ) → n ≤ operation.left → IsPlaced sizes payload operation → IsPlaced sizes payload (advanced payload operation n)
 IsPlaced-advanced sizes payload operation n h p = record {
   there = p.there;
-  inside = not_out-rest _ (scalars_of payload) operation.address operation.left n h p.inside;
+  inside = not_out-rest _ (item_type payload) operation.address operation.left n h p.inside;
   counted = omega (arith, p.counted);
 }
 

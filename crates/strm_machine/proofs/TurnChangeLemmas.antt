@@ -5,7 +5,7 @@ use Rattle.std.proofs.lemmas.Bool.{cond_both, eqb-true, le-ltb}
 use Rattle.std.proofs.lemmas.List.{length-map}
 use Rattle.std.proofs.lemmas.List.Elements.{All-nil}
 use Rattle.strm_codes.specs.Codes.{completed_code}
-use Rattle.strm_machine.specs.Words.{Guest, scalars_of, ReturnCode, TransmitKind, AStream, Future, Payload, opposite, same_side, end_of, with_end, with_operation, advanced, carried, Operated, with_received, sizes_of, IsPlaced, OperationIsPlaced, Side, Writing, Reading, Operation, Stream, Call, as_report, count_reported, k_of, items_in_memory, both_open}
+use Rattle.strm_machine.specs.Words.{Guest, item_type, ReturnCode, TransmitKind, AStream, Future, Payload, opposite, same_side, end_of, with_end, with_operation, advanced, carried, Operated, with_received, sizes_of, IsPlaced, OperationIsPlaced, Side, Writing, Reading, Operation, Stream, Call, as_report, count_reported, k_of, items_in_memory, both_open}
 use Rattle.strm_codes.specs.declared.codes.ReturnCode.TheVariants as codes
 use Rattle.strm_machine.specs.Endings.{asked_to_finish}
 use Rattle.strm_machine.specs.State.{is_gone}
@@ -81,14 +81,14 @@ taken-theirs Reading mine code = refl
 -- ## Where the count stays
 
 pub none_got : (payload : Payload) (guests : List Guest) (g address a b : ℕ) → a ≡ b → items_in_memory payload guests g address (a - b) ≡ []
-none_got payload guests g address a b e = decoded-zero (scalars_of payload) _ (a - b) (omega arith)
+none_got payload guests g address a b e = decoded-zero (item_type payload) _ (a - b) (omega arith)
 
 pub none_whole : (payload : Payload) (guests : List Guest) (g address a b : ℕ) → a ≡ b → All IsSome (items_in_memory payload guests g address (a - b))
 none_whole payload guests g address a b e = subst (All IsSome) (sym (none_got payload guests g address a b e)) (All-nil IsSome)
 
 -- as many were received as none
 none_brought : (payload : Payload) (guests others : List Guest) (g address h place a b n : ℕ) → a ≡ b → n ≡ 0 → items_in_memory payload guests g address (a - b) ≡ items_in_memory payload others h place n
-none_brought payload guests others g address h place a b n e f = none_got payload guests g address a b e ∙ sym (decoded-zero (scalars_of payload) _ n f)
+none_brought payload guests others g address h place a b n e f = none_got payload guests g address a b e ∙ sym (decoded-zero (item_type payload) _ n f)
 
 module _ (side : Side) (v : Scene) (taken : v.taken ≡ []) (report : v.report ≡ None) (nothing : v.got ≡ []) (payload : v.after.payload ≡ v.before.payload) (same : v.after.received ≡ v.before.received) where
   -- an operation that has the items left that it had
@@ -106,7 +106,7 @@ module _ (side : Side) (v : Scene) (taken : v.taken ≡ []) (report : v.report �
         left = omega (arith, left);
         payload = payload;
         more = omega (arith, same);
-        brings = λ e. nothing ∙ sym (decoded-zero (scalars_of v.before.payload) _ 0 refl);
+        brings = λ e. nothing ∙ sym (decoded-zero (item_type v.before.payload) _ 0 refl);
       })
 
   still_at : (o : Option Operation) → (end_of side v.before).operation ≡ o → (end_of side v.after).operation ≡ o → Change side v

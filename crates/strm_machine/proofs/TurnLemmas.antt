@@ -5,7 +5,7 @@ use Rattle.std.proofs.Math.Seq.{map-set_same}
 use Rattle.std.proofs.Math.ListN.{get_or-map}
 use Rattle.std.proofs.lemmas.Bool.{cond_both}
 use Rattle.std.specs.Option.{option_map}
-use Rattle.strm_machine.specs.Words.{Guest, Sets, Payload, Scalar, scalars_of, items_at, stored_at, no_guest, guest_in, memory_in, with_memory, opposite, same_side, end_of, with_operation, advanced, carried, Operated, with_received, sizes_of, IsPlaced, OperationIsPlaced, StreamIsPlaced, Side, Writing, Reading, Operation, Stream}
+use Rattle.strm_machine.specs.Words.{Guest, Sets, Payload, item_type, items_at, stored_at, no_guest, guest_in, memory_in, with_memory, opposite, same_side, end_of, with_operation, advanced, carried, Operated, with_received, sizes_of, IsPlaced, OperationIsPlaced, StreamIsPlaced, Side, Writing, Reading, Operation, Stream, ItemType}
 use Rattle.strm_memory.specs.Region.{is_out_of_bounds}
 use Rattle.strm_memory.specs.Linear.{own_part}
 use Rattle.strm_machine.specs.State.{is_gone, own_size}
@@ -47,10 +47,10 @@ pub size_in : (guests : List Guest) (g : ℕ) → get_or (sizes_of guests) g 0 �
 size_in guests g = get_or-map (λ h. length h.memory) guests g no_guest
 
 -- the guests with items stored where a read is to have them
-abbrev filled_with : List Scalar → List Guest → Operation → List (List ℤ) → List Guest
+abbrev filled_with : ItemType → List Guest → Operation → List (List ℤ) → List Guest
 filled_with ss guests read xs = with_memory guests read.guest (stored_at ss (memory_in guests read.guest) read.address xs)
 
-module _ (guests : List Guest) (ss : List Scalar) (write read : Operation) (n : ℕ) (after : List Guest) (inside : is_out_of_bounds (length (memory_in guests read.guest)) ss read.address n ≡ false) where
+module _ (guests : List Guest) (ss : ItemType) (write read : Operation) (n : ℕ) (after : List Guest) (inside : is_out_of_bounds (length (memory_in guests read.guest)) ss read.address n ≡ false) where
   carried_from : (o : Option (List (List ℤ))) → items_at ss (memory_in guests write.guest) write.address n ≡ o → option_map (filled_with ss guests read) o ≡ Some after → GuestsKeep guests after
   carried_from None i f = cc
   carried_from (Some xs) i f =
@@ -60,7 +60,7 @@ module _ (guests : List Guest) (ss : List Scalar) (write read : Operation) (n : 
 -- the guests after items were carried
 pub carried-keeps : (guests : List Guest) (payload : Payload) (write read : Operation) (n : ℕ) (after : List Guest) → n ≤ read.left → IsPlaced (sizes_of guests) payload read → carried guests payload write read n ≡ Some after → GuestsKeep guests after
 carried-keeps guests payload write read n after k q e =
-    let ss = scalars_of payload in
+    let ss = item_type payload in
     let inside = not_out-front _ ss read.address read.left n k q.inside in
     carried_from guests ss write read n after (rw (size_in guests read.guest) at inside) (items_at ss (memory_in guests write.guest) write.address n) refl e
 
@@ -134,6 +134,6 @@ operated-keeps side guests stream mine h p =
     (λ e. finds-keeps side guests stream mine h p _ (end_placed (opposite side) (sizes_of guests) stream h))
 
 -- the first n items that an operation has left lie in its guest's memory
-pub front_inside : (guests : List Guest) (payload : Payload) (operation : Operation) (n : ℕ) → n ≤ operation.left → IsPlaced (sizes_of guests) payload operation → is_out_of_bounds (length (memory_in guests operation.guest)) (scalars_of payload) operation.address n ≡ false
+pub front_inside : (guests : List Guest) (payload : Payload) (operation : Operation) (n : ℕ) → n ≤ operation.left → IsPlaced (sizes_of guests) payload operation → is_out_of_bounds (length (memory_in guests operation.guest)) (item_type payload) operation.address n ≡ false
 front_inside guests payload operation n h p =
-    rw (size_in guests operation.guest) at (not_out-front _ (scalars_of payload) operation.address operation.left n h p.inside)
+    rw (size_in guests operation.guest) at (not_out-front _ (item_type payload) operation.address operation.left n h p.inside)

@@ -2,7 +2,7 @@
 use Rattle.std.proofs.Common.{Bool, List, None, Option, Some, [], ap, arith, cond, drop, false, get_or, inl, inr, length, length-append, length-set, min, refl, set, subst, suc, sym, take, zero, ℕ, ℤ, ◌*◌, ◌++◌, ◌+◌, ◌-◌, ◌<◌, ◌^◌, ◌∙◌, ◌∷◌, ◌≡◌, ◌≤◌, ◌⊎◌}
 use Rattle.std.proofs.lemmas.Bool.{cases_eq, cases_lt, cond_both}
 use Rattle.std.proofs.lemmas.List.{append_assoc, get_or-set_same, get_or_append_left, length-map, take-append-drop}
-use Rattle.strm_machine.specs.Words.{Guest, item_size, scalars_of, ReturnCode, TransmitIndex, Payload, Scalar, Handles, Sets, no_handles, no_sets, Moment, names, received, advanced, carried, Reaction, goes, operates, written_back, end_of, opposite, same_side, with_operation, IsPlaced, IsSound, OperationIsPlaced, sizes_of, State, guest_in, memory_in, no_guest, no_stream, sets_in, stream_at, with_handles, with_memory, with_table, named, stream_named, Operated, with_received, Operation, Side, Reading, Writing, Stream, put_at, items_at, stored_at, NamedEnd, Act, Make, Reply}
+use Rattle.strm_machine.specs.Words.{Guest, item_size, item_type, ReturnCode, TransmitIndex, Payload, Handles, Sets, no_handles, no_sets, Moment, names, received, advanced, carried, Reaction, goes, operates, written_back, end_of, opposite, same_side, with_operation, IsPlaced, IsSound, OperationIsPlaced, sizes_of, State, guest_in, memory_in, no_guest, no_stream, sets_in, stream_at, with_handles, with_memory, with_table, named, stream_named, Operated, with_received, Operation, Side, Reading, Writing, Stream, put_at, items_at, stored_at, NamedEnd, Act, Make, Reply, ItemType}
 use Rattle.strm_handles.specs.Handles.{inserted}
 use Rattle.strm_machine.proofs.EndLemmas.{read_fits, with_operation-count}
 use Rattle.strm_machine.proofs.Lawful.{HasRoom, as_moment}
@@ -26,7 +26,7 @@ use Rattle.strm_machine.specs.State.{is_gone, with_bytes}
 use Rattle.strm_machine.specs.Operating.{completes_alone, finds, rendezvous_by, moves, operate}
 use Rattle.strm_machine.specs.declared.streams.Meeting.{Meeting}
 use Rattle.strm_machine.specs.declared.streams.Meeting.TheVariants.{BothComplete, ReadCompletes, WriteCompletes}
-use Rattle.strm_memory.proofs.CopyLemmas.{option_map_some}
+use Rattle.strm_memory.proofs.LoadLemmas.{option_map_some}
 use Rattle.strm_memory.proofs.RegionLemmas.{bytes_at-put_at_apart, bytes_at-stored_at, length-items, stored_at-nil}
 use Rattle.strm_memory.specs.Bytes.{IsApart, bytes_at}
 use Rattle.strm_memory.specs.Region.{bytes_out_of_bounds}
@@ -93,7 +93,7 @@ positive : (a b : ℕ) → 0 < a → 0 < b → 0 < a * b
 positive a b h k = grind arith
 
 -- items of some bytes that are stored in a region
-module _ (ss : List Scalar) (memory : List ℕ) (address other : ℕ) (some : 0 < item_size ss) where
+module _ (ss : ItemType) (memory : List ℕ) (address other : ℕ) (some : 0 < item_size ss) where
   -- a region of n items is apart from so many other bytes
   abbrev LiesBeside : ℕ → ℕ → Type 0
   LiesBeside n size = 0 < size → 0 < item_size ss * n → IsApart address (item_size ss * n) other size
@@ -107,11 +107,11 @@ module _ (ss : List Scalar) (memory : List ℕ) (address other : ℕ) (some : 0 
 
 -- where n items of a read that waits or is called are received
 abbrev region_of : Payload → Operation → ℕ → Region
-region_of payload read n = record { place = place_of (Some read); size = item_size (scalars_of payload) * n }
+region_of payload read n = record { place = place_of (Some read); size = item_size (item_type payload) * n }
 
 carried_stays : (guests after : List Guest) (payload : Payload) (write read : Operation) (n : ℕ) → read.guest < length guests → n ≤ read.left → IsPlaced (sizes_of guests) payload read → carried guests payload write read n ≡ Some after → BytesStay guests after (region_of payload read n)
 carried_stays guests after payload write read n there fit placed e r l apart =
-    let ss = scalars_of payload in
+    let ss = item_type payload in
     let memory = memory_in guests read.guest in
     elim (cases_lt 0 (item_size ss)) [
       | inr none ↦ ap (λ gs. bytes_of gs r) (option_same after guests (sym e ∙ carried-nothing guests payload write read n (omega (arith, none))))
@@ -133,7 +133,7 @@ region_same p q a b e f = rw (e, f) refl
 
 -- where items are received in the turn of a call
 abbrev region_by : Side → Stream → Operation → Operated → Region
-region_by side stream mine t = record { place = place_by side stream mine; size = item_size (scalars_of stream.payload) * (t.stream.received - stream.received) }
+region_by side stream mine t = record { place = place_by side stream mine; size = item_size (item_type stream.payload) * (t.stream.received - stream.received) }
 
 place_by-read : (side : Side) (stream : Stream) (mine theirs : Operation) → (end_of (opposite side) stream).operation ≡ Some theirs → place_by side stream mine ≡ place_of (Some (read_of side mine theirs))
 place_by-read Writing stream mine theirs e = ap place_of e
@@ -156,7 +156,7 @@ module _ (side : Side) (guests : List Guest) (stream : Stream) (mine : Operation
       let new = with_operation (opposite side) (with_received stream n) (advanced stream.payload theirs n) in
       let rise : new.received - stream.received ≡ n = omega (arith, more, with_operation-count (opposite side) (with_received stream n) (advanced stream.payload theirs n)) in
       let here : region_by side stream mine (moves side guests stream mine theirs n (Some after)) ≡ region_of stream.payload read n =
-      region_same (place_by side stream mine) (place_of (Some read)) _ _ (place_by-read side stream mine theirs is) (ap (λ k. item_size (scalars_of stream.payload) * k) rise) in
+      region_same (place_by side stream mine) (place_of (Some read)) _ _ (place_by-read side stream mine theirs is) (ap (λ k. item_size (item_type stream.payload) * k) rise) in
       carried_stays guests after stream.payload (write_of side mine theirs) read n (there guests stream.payload read laid) (read_fits mine theirs side n fit fits) laid e r l (subst (LiesApart r) here apart)
 
   alone_stays : (who : Side) (theirs : Operation) → Stays (completes_alone who side guests stream mine theirs)
@@ -226,7 +226,7 @@ operates_stays state side end address count room o =
     let guests : m.after.guests ≡ t.guests = back_guests state s t t.code in
     let rises : received s m.after ≡ t.stream.received = ap (λ (st : Stream). st.received) (back_stream state s t t.code o.found.made) in
     let place : target s m ≡ place_by side stream mine = target_by side (names s Reading state act m.reply) end address count stream (named_itself state act m.reply s side Reading (o.found.named m.reply)) in
-    let here : received_by s m ≡ region_by side stream mine t = region_same (target s m) (place_by side stream mine) _ _ place (ap (λ k. item_size (scalars_of stream.payload) * (k - stream.received)) rises) in
+    let here : received_by s m ≡ region_by side stream mine t = region_same (target s m) (place_by side stream mine) _ _ place (ap (λ k. item_size (item_type stream.payload) * (k - stream.received)) rises) in
     let stay = turn_stays side state.guests stream mine room o.placed (end_placed (opposite side) (sizes_of state.guests) stream o.streams) in
     stays_received s m
     (subst (SizesStay state.guests) (sym guests) (SizesStay-kept state.guests t.guests (operate-keeps state side end address count o).guests.sizes))

@@ -4,7 +4,7 @@
 -- Canonical ABI, `canon stream.{read,write}` and `canon future.{read,write}`: items are lifted from
 -- the writer's memory and lowered into the reader's; a char that is no Unicode scalar value traps.
 use Rattle.std.specs.Prelude.{◌≡◌, ℕ, ◌<◌, ℤ, true, false, List, min, Option, Some, None}
-use Rattle.strm_codes.specs.Layout.{scalars_of}
+use Rattle.strm_codes.specs.Layout.{item_type}
 use Rattle.strm_memory.specs.Items.{items_at}
 use Rattle.strm_machine.specs.State.{State, memory_in, stream_at, is_gone}
 use Rattle.strm_machine.specs.Sides.{opposite, end_of, write_of}
@@ -46,7 +46,7 @@ pub record AsksToMove (state : State) (step : Step) (s : ℕ) : Type 0 where
 -- of them is none
 abbrev pub items_next : State → ℕ → Operation → ℕ → Option (List (List ℤ))
 items_next state s write n =
-    items_at (scalars_of (stream_at state s).payload) (memory_in state.guests write.guest) write.address n
+    items_at (item_type (stream_at state s).payload) (memory_in state.guests write.guest) write.address n
 
 -- one of the items that a step asks to move on stream s, the next ones of the write, is none
 pub record HasBadItem (state : State) (step : Step) (s : ℕ) : Type 0 where

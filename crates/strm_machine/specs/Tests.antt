@@ -5,7 +5,7 @@ use Rattle.strm_codes.specs.declared.codes.TransmitIndex.{TransmitIndex}
 use Rattle.strm_codes.specs.declared.codes.TransmitIndex.TheVariants as index
 use Rattle.strm_codes.specs.declared.codes.TransmitKind.{TransmitKind}
 use Rattle.strm_codes.specs.declared.codes.TransmitKind.TheVariants.{Stream as AStream, Future}
-use Rattle.strm_codes.specs.Layout.{scalars_of}
+use Rattle.strm_codes.specs.Layout.{item_type}
 use Rattle.strm_codes.specs.Counts.{count_limit}
 use Rattle.strm_codes.specs.Types.{kind_of, payload_of}
 use Rattle.strm_codes.specs.Sameness.{same_payload}
@@ -66,11 +66,11 @@ items_asked (index.Future payload) count = 1
 -- the items' region passes the end of the guest's memory
 abbrev pub names_out_of_bounds : State → ℕ → TransmitIndex → ℕ → ℕ → Bool
 names_out_of_bounds state g ty address count =
-    region.is_out_of_bounds (length (memory_in state.guests g)) (scalars_of (payload_of ty)) address (items_asked ty count)
+    region.is_out_of_bounds (length (memory_in state.guests g)) (item_type (payload_of ty)) address (items_asked ty count)
 
 -- the address is no multiple of the alignment
 abbrev pub names_misaligned : TransmitIndex → ℕ → ℕ → Bool
-names_misaligned ty address count = region.is_misaligned (scalars_of (payload_of ty)) address (items_asked ty count)
+names_misaligned ty address count = region.is_misaligned (item_type (payload_of ty)) address (items_asked ty count)
 
 -- bytes pass the end of the guest's memory
 abbrev pub are_bytes_out_of_bounds : State → ℕ → ℕ → ℕ → Bool

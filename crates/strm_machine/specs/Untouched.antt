@@ -1,7 +1,8 @@
 -- The memories of guests in a moment: which bytes it touches, what is put there, and that all others
 -- stay. Ours.
 use Rattle.std.specs.Prelude.{◌≡◌, ℕ, ◌*◌, ◌<◌, ◌≤◌, List, [], length}
-use Rattle.strm_codes.specs.Layout.{scalars_of, item_size}
+use Rattle.strm_codes.specs.Layout.{item_type}
+use Rattle.strm_codes.specs.ItemTypes.{item_size}
 use Rattle.strm_memory.specs.Bytes.{bytes_at, IsApart}
 use Rattle.strm_machine.specs.State.{State, Guest, memory_in, stream_at}
 use Rattle.strm_machine.specs.ErrorContexts.{message_named}
@@ -51,7 +52,7 @@ LieThere m = bytes_of m.after.guests (put_by m.act m.reply) ≡ bytes_put m.befo
 abbrev pub received_by : ℕ → Moment → Region
 received_by s m = record {
   place = target s m;
-  size = item_size (scalars_of (stream_at m.before s).payload) * rise s m;
+  size = item_size (item_type (stream_at m.before s).payload) * rise s m;
 }
 
 -- in a moment no byte is put into the region by a poke or as a message, and on no stream an item is

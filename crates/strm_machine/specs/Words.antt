@@ -1,12 +1,12 @@
 -- The words that most proofs of this crate and of the laws use, from one place. Ours.
-pub use Rattle.strm_codes.specs.Layout.{item_size, scalars_of}
+pub use Rattle.strm_codes.specs.Layout.{item_type}
+pub use Rattle.strm_codes.specs.ItemTypes.{ItemType, item_size}
 pub use Rattle.strm_codes.specs.Types.{kind_of, payload_of}
 pub use Rattle.strm_codes.specs.declared.codes.ReturnCode.{ReturnCode}
 pub use Rattle.strm_codes.specs.declared.codes.TransmitIndex.{TransmitIndex}
 pub use Rattle.strm_codes.specs.declared.codes.TransmitKind.{TransmitKind}
 pub use Rattle.strm_codes.specs.declared.codes.TransmitKind.TheVariants.{Future, Stream as AStream}
 pub use Rattle.strm_codes.specs.declared.payloads.Payload.{Payload}
-pub use Rattle.strm_codes.specs.declared.scalars.Scalar.{Scalar}
 pub use Rattle.strm_handles.specs.Handles.{Handles, no_handles, removed}
 pub use Rattle.strm_handles.specs.declared.entries.Entry.{Entry}
 pub use Rattle.strm_machine.specs.Acts.{act_of}

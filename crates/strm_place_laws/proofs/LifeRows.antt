@@ -7,7 +7,8 @@ use Rattle.strm_codes.specs.declared.codes.TransmitIndex.{TransmitIndex}
 use Rattle.strm_codes.specs.declared.codes.TransmitIndex.TheVariants as index
 use Rattle.strm_codes.specs.declared.payloads.Payload.TheVariants.{One}
 use Rattle.strm_codes.specs.declared.scalars.Scalar.TheVariants.{U8}
-use Rattle.strm_memory.specs.Items.{decode_from, encode_from, items, stored}
+use Rattle.strm_memory.specs.Items.{items, stored}
+use Rattle.strm_memory.specs.Loads.{decode, encode}
 use Rattle.strm_machine.specs.State.{stream_at}
 use Rattle.strm_machine.specs.Operating.{operate}
 use Rattle.strm_machine.specs.Endings.{delivered, dropped, cancelled}
@@ -90,5 +91,5 @@ expected = record {
 }
 
 given_again : found ≡ expected
-unfolding course_by reaction_at performs_at with_pair_at put refusal performs operate delivered dropped cancelled decode_from encode_from items stored decoded
+unfolding course_by reaction_at performs_at with_pair_at put refusal performs operate delivered dropped cancelled decode encode items stored decoded
 given_again = refl

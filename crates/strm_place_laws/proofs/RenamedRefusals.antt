@@ -8,7 +8,7 @@ use Rattle.std.specs.Str.{is_utf8}
 use Rattle.strm_codes.specs.declared.codes.TransmitIndex.{TransmitIndex}
 use Rattle.strm_codes.specs.declared.refusals.Refusal.{Refusal}
 use Rattle.strm_codes.specs.declared.refusals.Refusal.TheVariants as refusals
-use Rattle.strm_codes.specs.Layout.{scalars_of}
+use Rattle.strm_codes.specs.Layout.{item_type}
 use Rattle.strm_memory.specs.Region as region
 use Rattle.strm_handles.specs.declared.errors.HandleError.TheVariants as errors
 use Rattle.strm_memory.specs.Bytes.{bytes_at}
@@ -84,7 +84,7 @@ module _ (f : ℕ → ℕ) (state : State) (streams : List Stream) where
   region-as g ty address count =
       first_and refusals.UnknownGuest _ _ (unknown g)
       (ap (λ b. where_ (is_too_big ty count) refusals.StreamOpTooBig ∷ where_ b refusals.OutOfBounds ∷ where_ (names_misaligned ty address count) refusals.NotAligned ∷ [])
-      (ap (λ (m : List ℕ). region.is_out_of_bounds (length m) (scalars_of (payload_of ty)) address (items_asked ty count)) (memory-as g)))
+      (ap (λ (m : List ℕ). region.is_out_of_bounds (length m) (item_type (payload_of ty)) address (items_asked ty count)) (memory-as g)))
 
   front-as : (end : NamedEnd) (act : EndAct) → front_reasons (other f state streams) end act ≡ front_reasons state end act
   front-as end (Operate address count) = region-as end.guest end.ty address count

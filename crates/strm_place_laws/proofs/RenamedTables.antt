@@ -6,7 +6,7 @@ use Rattle.std.proofs.Math.ListN.{get_or-map}
 use Rattle.std.proofs.lemmas.List.{map-set, map-append, length-map}
 use Rattle.std.proofs.lemmas.List.Sums.{sum-map}
 use Rattle.std.proofs.lemmas.Simd.{map-map}
-use Rattle.strm_codes.specs.Layout.{scalars_of}
+use Rattle.strm_codes.specs.Layout.{item_type}
 use Rattle.strm_codes.specs.Sameness.{same_payload}
 use Rattle.strm_codes.specs.declared.codes.TransmitIndex.TheVariants as index
 use Rattle.strm_memory.specs.Items.{items_at, stored_at}
@@ -42,7 +42,7 @@ turn_as f t = record { code = t.code; guests = guests_as f t.guests; stream = t.
 -- the guests with items where a read's next ones are to lie
 abbrev lowered : List Guest → Payload → Operation → List (List ℤ) → List Guest
 lowered guests payload read xs =
-    with_memory guests read.guest (stored_at (scalars_of payload) (memory_in guests read.guest) read.address xs)
+    with_memory guests read.guest (stored_at (item_type payload) (memory_in guests read.guest) read.address xs)
 
 module _ (f : ℕ → ℕ) where
   -- ## Entries
@@ -195,12 +195,12 @@ module _ (f : ℕ → ℕ) where
   lowered-as guests payload read (Some xs) = ap Some (changed-as stored stored (λ k. refl) guests read.guest)
     where
       stored : Guest → Guest
-      stored k = record k { memory = stored_at (scalars_of payload) k.memory read.address xs }
+      stored k = record k { memory = stored_at (item_type payload) k.memory read.address xs }
 
   carried-as : (guests : List Guest) (payload : Payload) (write read : Operation) (n : ℕ) → carried (guests_as f guests) payload write read n ≡ option_map (guests_as f) (carried guests payload write read n)
   carried-as guests payload write read n =
-      ap (λ (m : List ℕ). option_map (lowered (guests_as f guests) payload read) (items_at (scalars_of payload) m write.address n)) (memory_in-as guests write.guest)
-      ∙ lowered-as guests payload read (items_at (scalars_of payload) (memory_in guests write.guest) write.address n)
+      ap (λ (m : List ℕ). option_map (lowered (guests_as f guests) payload read) (items_at (item_type payload) m write.address n)) (memory_in-as guests write.guest)
+      ∙ lowered-as guests payload read (items_at (item_type payload) (memory_in guests write.guest) write.address n)
 
   moves-as : (side : Side) (guests : List Guest) (stream : Stream) (mine theirs : Operation) (n : ℕ) (o : Option (List Guest)) → moves side (guests_as f guests) stream mine theirs n (option_map (guests_as f) o) ≡ turn_as f (moves side guests stream mine theirs n o)
   moves-as side guests stream mine theirs n None = refl
