@@ -4,7 +4,7 @@ use Rattle.std.specs.Prelude.{IsSomeAnd, ◌↔◌}
 use Rattle.std.proofs.lemmas.Result.{on_ok_weaker}
 use Rattle.std.proofs.lemmas.List.{get_or_append_left, get_or-append_right, set-append_left, set-append_right, length-append}
 use Rattle.strm_codes.specs.declared.payloads.Payload.{Payload}
-use Rattle.strm_codes.specs.Layout.{scalars_of}
+use Rattle.strm_codes.specs.Layout.{item_type}
 use Rattle.strm_memory.specs.Items.{items_at, stored_at}
 use Rattle.strm_memory.specs.declared.copies.BadItem.{BadItem}
 use Rattle.strm_machine.specs.State.{memory_in, with_memory}
@@ -17,9 +17,9 @@ use Rattle.strm_channels.proofs.GuestLemmas.{guests_of-with_linear, linear_in-se
 module _ (payload : Payload) (count source target : ℕ) (w x : Guest) (filled : LinearMemory) (result : Result (Unit {0}) BadItem) where
   -- the memory of x has the items of that of w
   pub record Fills : Type 0 where
-    pub ok : OnOk result (IsSomeAnd (items_at (scalars_of payload) w.memory.bytes source count)
-        (λ xs. filled ≡ with_contents x.memory (stored_at (scalars_of payload) x.memory.bytes target xs)))
-    pub bad : IsErr result ↔ IsNone (items_at (scalars_of payload) w.memory.bytes source count)
+    pub ok : OnOk result (IsSomeAnd (items_at (item_type payload) w.memory.bytes source count)
+        (λ xs. filled ≡ with_contents x.memory (stored_at (item_type payload) x.memory.bytes target xs)))
+    pub bad : IsErr result ↔ IsNone (items_at (item_type payload) w.memory.bytes source count)
     pub err : OnErr result (filled ≡ x.memory)
 
 -- guest x is the one of this number
@@ -35,9 +35,9 @@ module _ (payload : Payload) (count source target : ℕ) (guests : List Guest) (
   pub receives : (result : Result (Unit {0}) BadItem) → Fills payload count source target w x filled result → Receives payload count (guests_of guests) (guests_of (set guests to (record x { memory = filled }))) from source to target result
   receives result k = record {
     ok = on_ok_weaker result
-        (λ h. subst (λ m. IsSomeAnd (items_at (scalars_of payload) m source count) (λ xs. guests_of (set guests to (record x { memory = filled })) ≡ with_memory (guests_of guests) to (stored_at (scalars_of payload) (memory_in (guests_of guests) to) target xs))) (sym read)
-        (some_map (items_at (scalars_of payload) w.memory.bytes source count)
-        (λ xs e. now ∙ ap (with_linear (guests_of guests) to) (e ∙ ap (λ (m : LinearMemory). with_contents m (stored_at (scalars_of payload) m.bytes target xs)) (sym was))) h))
+        (λ h. subst (λ m. IsSomeAnd (items_at (item_type payload) m source count) (λ xs. guests_of (set guests to (record x { memory = filled })) ≡ with_memory (guests_of guests) to (stored_at (item_type payload) (memory_in (guests_of guests) to) target xs))) (sym read)
+        (some_map (items_at (item_type payload) w.memory.bytes source count)
+        (λ xs e. now ∙ ap (with_linear (guests_of guests) to) (e ∙ ap (λ (m : LinearMemory). with_contents m (stored_at (item_type payload) m.bytes target xs)) (sym was))) h))
         k.ok;
     bad = rw read k.bad;
     err = err_of result k.err;

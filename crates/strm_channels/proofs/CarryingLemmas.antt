@@ -2,7 +2,7 @@
 use Rattle.std.proofs.Common.{◌≡◌, ℕ, ℤ, List, [], Option, Some, None, Result, Ok, Err, refl, sym, ap, subst, ◌∙◌, IsNone, OnOk, OnErr}
 use Rattle.std.specs.Prelude.{IsSomeAnd}
 use Rattle.strm_codes.specs.declared.payloads.Payload.{Payload}
-use Rattle.strm_codes.specs.Layout.{scalars_of}
+use Rattle.strm_codes.specs.Layout.{item_type}
 use Rattle.strm_memory.specs.Items.{items_at, stored_at}
 use Rattle.strm_memory.specs.declared.copies.BadItem.{BadItem}
 use Rattle.strm_machine.specs.State.{Guest, memory_in}
@@ -33,8 +33,8 @@ swapped before between after g taken put k =
 -- the memory with so many items of itself
 abbrev pub Copies : Payload → Operation → Operation → ℕ → LinearMemory → LinearMemory → Type 0
 Copies payload write read n target filled =
-    IsSomeAnd (items_at (scalars_of payload) target.bytes write.address n)
-    (λ xs. filled ≡ with_contents target (stored_at (scalars_of payload) target.bytes read.address xs))
+    IsSomeAnd (items_at (item_type payload) target.bytes write.address n)
+    (λ xs. filled ≡ with_contents target (stored_at (item_type payload) target.bytes read.address xs))
 
 some_case : {A C : Type 0} {P : A → Type 0} (o : Option A) → ((x : A) → o ≡ Some x → P x → C) → IsSomeAnd o P → C
 some_case None f h = absurd h
@@ -48,8 +48,8 @@ module _ (before after : List Guest) (payload : Payload) (write read : Operation
   pub received_ok : (result : Result (Unit {0}) BadItem) → Received result → OnOk result (carried before payload write read n ≡ Some after)
   received_ok (Err e) k = tt
   received_ok (Ok v) k =
-      let filled = stored_at (scalars_of payload) (memory_in before read.guest) read.address in
-      some_case (items_at (scalars_of payload) (memory_in before write.guest) write.address n)
+      let filled = stored_at (item_type payload) (memory_in before read.guest) read.address in
+      some_case (items_at (item_type payload) (memory_in before write.guest) write.address n)
       (λ xs e h.
       carried_some before payload write read n (filled xs) (subst (λ o. IsSomeAnd o (λ ys. filled xs ≡ filled ys)) (sym e) refl)
       ∙ ap Some (sym h))
@@ -63,10 +63,10 @@ module _ (before between after : List Guest) (payload : Payload) (write read : O
   -- the same within one memory
   pub within_ok : write.guest ≡ read.guest → Swaps before between after read.guest target filled → Copies payload write read n target filled → carried before payload write read n ≡ Some after
   within_ok same k ok =
-      let stored : List (List ℤ) → List ℕ = stored_at (scalars_of payload) (memory_in before read.guest) read.address in
+      let stored : List (List ℤ) → List ℕ = stored_at (item_type payload) (memory_in before read.guest) read.address in
       let here : Copies payload write read n (linear_in before read.guest) filled = subst (λ m. Copies payload write read n m filled) k.was ok in
-      let whole : IsSomeAnd (items_at (scalars_of payload) (memory_in before write.guest) write.address n) (λ xs. filled ≡ with_contents (linear_in before read.guest) (stored xs)) = rw same here in
-      some_case (items_at (scalars_of payload) (memory_in before write.guest) write.address n)
+      let whole : IsSomeAnd (items_at (item_type payload) (memory_in before write.guest) write.address n) (λ xs. filled ≡ with_contents (linear_in before read.guest) (stored xs)) = rw same here in
+      some_case (items_at (item_type payload) (memory_in before write.guest) write.address n)
       (λ xs e h.
       carried_some before payload write read n (stored xs) (subst (λ o. IsSomeAnd o (λ ys. stored xs ≡ stored ys)) (sym e) refl)
       ∙ ap Some (ap (with_linear before read.guest) (sym h) ∙ swapped before between after read.guest target filled k))

@@ -2,7 +2,8 @@
 -- its cell; and the machine's stream that it stands for. Ours.
 use Rattle.std.specs.Prelude.{◌≡◌, ℕ, ◌+◌, ◌-◌, ◌*◌, true, false}
 use Rattle.std.specs.Option.{option_map}
-use Rattle.strm_codes.specs.Layout.{scalars_of, item_size}
+use Rattle.strm_codes.specs.Layout.{item_type}
+use Rattle.strm_codes.specs.ItemTypes.{item_size}
 use Rattle.strm_codes.specs.declared.codes.StreamResult.{StreamResult}
 use Rattle.strm_codes.specs.declared.payloads.Payload.{Payload}
 use Rattle.strm_events.specs.declared.reports.Pending.{Pending}
@@ -76,7 +77,7 @@ pub record IsKeptIn (before after : Part) : Type 0 where
 -- an operation of which so many items more were moved
 abbrev pub operation_gone_on : Payload → Operation → ℕ → Operation
 operation_gone_on payload operation n = record operation {
-  address = operation.address + item_size (scalars_of payload) * n;
+  address = operation.address + item_size (item_type payload) * n;
   left = operation.left - n;
   moved = operation.moved + n;
 }

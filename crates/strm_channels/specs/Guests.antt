@@ -1,6 +1,6 @@
 -- The store's guests, seen as the machine's: the room of their tables is no part of them. Ours.
 use Rattle.std.specs.Prelude.{◌≡◌, ◌↔◌, ℕ, List, map, sum_by, count_by, slice_index_or, slice_set, Result, OnOk, OnErr, IsErr, IsNone, IsSomeAnd}
-use Rattle.strm_codes.specs.Layout.{scalars_of}
+use Rattle.strm_codes.specs.Layout.{item_type}
 use Rattle.strm_codes.specs.declared.payloads.Payload.{Payload}
 use Rattle.strm_memory.specs.Items.{items_at, stored_at}
 use Rattle.strm_memory.specs.Linear.{LinearMemory}
@@ -91,7 +91,7 @@ removable Reading (index.Future payload) handles handle = without_value (future_
 
 -- so many items of a guest's memory are in another guest's, or one of them is bad and nothing has changed
 pub record Receives (payload : Payload) (count : ℕ) (before after : List machine.Guest) (from source to target : ℕ) (result : Result (Unit {0}) BadItem) : Type 0 where
-  pub ok : OnOk result (IsSomeAnd (items_at (scalars_of payload) (memory_in before from) source count)
-      (λ xs. after ≡ with_memory before to (stored_at (scalars_of payload) (memory_in before to) target xs)))
-  pub bad : IsErr result ↔ IsNone (items_at (scalars_of payload) (memory_in before from) source count)
+  pub ok : OnOk result (IsSomeAnd (items_at (item_type payload) (memory_in before from) source count)
+      (λ xs. after ≡ with_memory before to (stored_at (item_type payload) (memory_in before to) target xs)))
+  pub bad : IsErr result ↔ IsNone (items_at (item_type payload) (memory_in before from) source count)
   pub err : OnErr result (after ≡ before)

@@ -8,7 +8,8 @@
 ghost use Rattle.std.specs.Prelude.{◌≡◌, ◌+◌, ◌-◌, ◌*◌, ◌^◌, ◌<◌, ◌≤◌, ◌||◌, true, false, None, Some, is_some, IsSomeAnd};
 ghost use Rattle.std.specs.Option.{option_map};
 ghost use Rattle.strm_codes.specs.Counts.{count_limit};
-ghost use Rattle.strm_codes.specs.Layout.{scalars_of, item_size};
+ghost use Rattle.strm_codes.specs.Layout.{item_type};
+ghost use Rattle.strm_codes.specs.ItemTypes.{item_size};
 ghost use Rattle.strm_machine.specs.State.{is_gone, idle_end};
 ghost use Rattle.strm_machine.specs.Sides.{end_of, with_end, with_operation};
 ghost use Rattle.strm_machine.specs.Meetings.{begun, advanced};
@@ -122,9 +123,9 @@ fn begin_in(part: &mut Part, guest: u32, address: u32, count: ItemCount)
 #[inline(always)]
 fn advance_place(place: &mut Place, payload: Payload, count: ItemCount)
     requires left { count ≤ place.old.left }
-    requires room { place.old.address + item_size (scalars_of payload) * count < 2 ^ 32 }
+    requires room { place.old.address + item_size (item_type payload) * count < 2 ^ 32 }
     ensures { place.new ≡ record place.old {
-      address = place.old.address + item_size (scalars_of payload) * count;
+      address = place.old.address + item_size (item_type payload) * count;
       left = place.old.left - count;
     } }
 {
@@ -138,7 +139,7 @@ fn advance_in(part: &mut Part, payload: Payload, count: ItemCount)
     requires open { may_meet part.old.cell.pending ≡ true }
     requires left { count ≤ part.old.place.left }
     requires counted { moved_so_far part.old.cell.pending + count < count_limit }
-    requires room { part.old.place.address + item_size (scalars_of payload) * count < 2 ^ 32 }
+    requires room { part.old.place.address + item_size (item_type payload) * count < 2 ^ 32 }
     ensures end { end_of_part part.new ≡ record (end_of_part part.old) {
       operation = option_map (λ operation. advanced payload operation count)
           (end_of_part part.old).operation;
@@ -156,7 +157,7 @@ fn progress_in(part: &mut Part, payload: Payload, count: ItemCount)
     requires open { may_meet part.old.cell.pending ≡ true }
     requires left { count ≤ part.old.place.left }
     requires counted { moved_so_far part.old.cell.pending + count < count_limit }
-    requires room { part.old.place.address + item_size (scalars_of payload) * count < 2 ^ 32 }
+    requires room { part.old.place.address + item_size (item_type payload) * count < 2 ^ 32 }
     ensures end { end_of_part part.new ≡ record (end_of_part part.old) {
       operation = option_map (λ operation. operation_gone_on payload operation count)
           (end_of_part part.old).operation;
@@ -320,7 +321,7 @@ impl Channel {
         requires counted { IsSomeAnd (end_of side self.old).operation (λ operation.
             operation.moved + count < count_limit) }
         requires room { IsSomeAnd (end_of side self.old).operation (λ operation.
-            operation.address + item_size (scalars_of self.old.payload) * count < 2 ^ 32) }
+            operation.address + item_size (item_type self.old.payload) * count < 2 ^ 32) }
         ensures { self.new ≡ with_end side self.old (record (end_of side self.old) {
           operation = option_map (λ operation. advanced self.old.payload operation count)
               (end_of side self.old).operation;
@@ -361,7 +362,7 @@ impl Channel {
         requires counted { IsSomeAnd (end_of side self.old).operation (λ operation.
             operation.moved + count < count_limit) }
         requires room { IsSomeAnd (end_of side self.old).operation (λ operation.
-            operation.address + item_size (scalars_of self.old.payload) * count < 2 ^ 32) }
+            operation.address + item_size (item_type self.old.payload) * count < 2 ^ 32) }
         ensures { self.new ≡ with_end side self.old (record (end_of side self.old) {
           operation = option_map (λ operation. operation_gone_on self.old.payload operation count)
               (end_of side self.old).operation;

@@ -5,7 +5,8 @@
 ghost use Rattle.std.specs.Prelude.{◌≡◌, ◌≢◌, ◌+◌, ◌*◌, ◌<◌, ◌≤◌, [], ◌++◌, length, take, drop, false, true, IfSome};
 ghost use denote.RawPtr.{◌+ₚ◌};
 ghost use Rattle.std.specs.Vec.{vec_ptr};
-ghost use Rattle.strm_codes.specs.Layout.{scalars_of, item_size};
+ghost use Rattle.strm_codes.specs.Layout.{item_type};
+ghost use Rattle.strm_codes.specs.ItemTypes.{item_size};
 ghost use Rattle.strm_memory.specs.Bytes.{put_at};
 ghost use Rattle.strm_memory.specs.Region.{bytes_out_of_bounds};
 ghost use Rattle.strm_machine.specs.State.{memory_in, with_memory};
@@ -76,9 +77,9 @@ fn receive_behind(
 ) -> Result<(), BadItem>
     requires behind { from < to }
     requires there { to < length guests.old }
-    requires source_holds { source + item_size (scalars_of payload) * count
+    requires source_holds { source + item_size (item_type payload) * count
         ≤ length (memory_in (guests_of guests.old) from) }
-    requires target_holds { target + item_size (scalars_of payload) * count
+    requires target_holds { target + item_size (item_type payload) * count
         ≤ length (memory_in (guests_of guests.old) to) }
     ensures received { Receives payload count (guests_of guests.old) (guests_of guests.new)
         from source to target result }
@@ -105,9 +106,9 @@ fn receive_before(
 ) -> Result<(), BadItem>
     requires before { to < from }
     requires there { from < length guests.old }
-    requires source_holds { source + item_size (scalars_of payload) * count
+    requires source_holds { source + item_size (item_type payload) * count
         ≤ length (memory_in (guests_of guests.old) from) }
-    requires target_holds { target + item_size (scalars_of payload) * count
+    requires target_holds { target + item_size (item_type payload) * count
         ≤ length (memory_in (guests_of guests.old) to) }
     ensures received { Receives payload count (guests_of guests.old) (guests_of guests.new)
         from source to target result }
@@ -135,9 +136,9 @@ pub fn receive_between(
     requires apart { from ≢ to }
     requires from_there { from < length guests.old.items }
     requires to_there { to < length guests.old.items }
-    requires source_holds { source + item_size (scalars_of payload) * count
+    requires source_holds { source + item_size (item_type payload) * count
         ≤ length (memory_in (guests_of guests.old.items) from) }
-    requires target_holds { target + item_size (scalars_of payload) * count
+    requires target_holds { target + item_size (item_type payload) * count
         ≤ length (memory_in (guests_of guests.old.items) to) }
     ensures received { Receives payload count (guests_of guests.old.items)
         (guests_of guests.new.items) from source to target result }

@@ -4,7 +4,8 @@
 //! Readiness"; wasmtime, `guest_write` and `guest_read`, which are one function here.
 
 ghost use Rattle.std.specs.Prelude.{◌≡◌, ◌≢◌, ◌+◌, ◌-◌, ◌*◌, ◌^◌, ◌<◌, ◌≤◌, List, true, length, min, Some, None, Ok, OnOk, OnErr};
-ghost use Rattle.strm_codes.specs.Layout.{scalars_of, item_size};
+ghost use Rattle.strm_codes.specs.Layout.{item_type};
+ghost use Rattle.strm_codes.specs.ItemTypes.{item_size};
 ghost use Rattle.strm_machine.specs.Sides.{opposite, end_of, with_end, with_operation, write_of, read_of};
 ghost use Rattle.strm_machine.specs.Tests.{is_open_of};
 ghost use Rattle.strm_machine.specs.State as machine;
@@ -120,9 +121,9 @@ fn carry_within(
     requires same { write.now.guest ≡ read.now.guest }
     requires there { read.now.guest < length guests.old.items }
     requires numbers { IsTrue (is_number_or_none payload) }
-    requires source { write.now.address + item_size (scalars_of payload) * count
+    requires source { write.now.address + item_size (item_type payload) * count
         ≤ length (memory_in (guests_of guests.old.items) read.now.guest) }
-    requires target { read.now.address + item_size (scalars_of payload) * count
+    requires target { read.now.address + item_size (item_type payload) * count
         ≤ length (memory_in (guests_of guests.old.items) read.now.guest) }
     ensures carried { carried (guests_of guests.old.items) payload write.now read.now count
         ≡ Some (guests_of guests.new.items) }
@@ -136,11 +137,11 @@ fn carry_within(
 
 fn move_within(memory: &mut GuestMemory, from: u32, to: u32, payload: Payload, count: ItemCount)
     requires numbers { IsTrue (is_number_or_none payload) }
-    requires source { from + item_size (scalars_of payload) * count ≤ length memory.old.bytes }
-    requires target { to + item_size (scalars_of payload) * count ≤ length memory.old.bytes }
-    ensures { IsSomeAnd (items_at (scalars_of payload) memory.old.bytes from count)
+    requires source { from + item_size (item_type payload) * count ≤ length memory.old.bytes }
+    requires target { to + item_size (item_type payload) * count ≤ length memory.old.bytes }
+    ensures { IsSomeAnd (items_at (item_type payload) memory.old.bytes from count)
         (λ xs. memory.new
-        ≡ with_contents memory.old (stored_at (scalars_of payload) memory.old.bytes to xs)) }
+        ≡ with_contents memory.old (stored_at (item_type payload) memory.old.bytes to xs)) }
 {
     copy_within_items(memory.bytes_mut(), from, to, payload, count);
 }
@@ -157,9 +158,9 @@ fn carry_between(
     requires apart { write.now.guest ≢ read.now.guest }
     requires writer { write.now.guest < length guests.old.items }
     requires reader { read.now.guest < length guests.old.items }
-    requires source { write.now.address + item_size (scalars_of payload) * count
+    requires source { write.now.address + item_size (item_type payload) * count
         ≤ length (memory_in (guests_of guests.old.items) write.now.guest) }
-    requires target { read.now.address + item_size (scalars_of payload) * count
+    requires target { read.now.address + item_size (item_type payload) * count
         ≤ length (memory_in (guests_of guests.old.items) read.now.guest) }
     ensures carries { Carries (guests_of guests.old.items) (guests_of guests.new.items)
         payload write.now read.now count result }
@@ -191,10 +192,10 @@ fn carry(
     requires reader { read.now.guest < length guests.old.items }
     requires numbers { write.now.guest ≡ read.now.guest → IsTrue (is_number_or_none payload) }
     requires source { is_out_of_bounds
-        (length (memory_in (guests_of guests.old.items) write.now.guest)) (scalars_of payload)
+        (length (memory_in (guests_of guests.old.items) write.now.guest)) (item_type payload)
         write.now.address count ≡ false }
     requires target { is_out_of_bounds
-        (length (memory_in (guests_of guests.old.items) read.now.guest)) (scalars_of payload)
+        (length (memory_in (guests_of guests.old.items) read.now.guest)) (item_type payload)
         read.now.address count ≡ false }
     requires some { 0 < count }
     ensures carries { Carries (guests_of guests.old.items) (guests_of guests.new.items)
@@ -256,7 +257,7 @@ fn exchange(
         → IsTrue (is_number_or_none stream.old.payload) }
     requires some { 0 < min mine.now.left theirs.now.left }
     requires room { theirs.now.address
-        + item_size (scalars_of stream.old.payload) * min mine.now.left theirs.now.left < 2 ^ 32 }
+        + item_size (item_type stream.old.payload) * min mine.now.left theirs.now.left < 2 ^ 32 }
     ensures { moves side (guests_of guests.old.items) stream.old mine.now theirs.now
         (min mine.now.left theirs.now.left)
         (carried (guests_of guests.old.items) stream.old.payload (write_of side mine.now theirs.now)

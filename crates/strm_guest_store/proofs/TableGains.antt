@@ -15,7 +15,7 @@ use Rattle.strm_handles.specs.declared.entries.Entry.{Entry}
 use Rattle.strm_codes.specs.declared.codes.ReturnCode.{ReturnCode}
 use Rattle.strm_codes.specs.declared.codes.TransmitIndex.{TransmitIndex}
 use Rattle.strm_codes.specs.declared.codes.TransmitIndex.TheVariants as index
-use Rattle.strm_codes.specs.Layout.{scalars_of}
+use Rattle.strm_codes.specs.Layout.{item_type}
 use Rattle.strm_memory.specs.Items.{items_at, stored_at}
 use Rattle.strm_machine.specs.State.{State, Guest, no_guest, is_gone, guest_in, memory_in, with_memory, with_table}
 use Rattle.strm_machine.specs.Making.{end_entry}
@@ -227,7 +227,7 @@ module _ (side : Side) (guests : List Guest) (stream : Stream) (mine : Operation
 
   -- the guests with items that were lifted stored where a read is to have them
   abbrev stored_for : Operation → List (List ℤ) → List Guest
-  stored_for read xs = with_memory guests read.guest (stored_at (scalars_of stream.payload) (memory_in guests read.guest) read.address xs)
+  stored_for read xs = with_memory guests read.guest (stored_at (item_type stream.payload) (memory_in guests read.guest) read.address xs)
 
   moved_stay : (theirs : Operation) (n : ℕ) (o : Option (List (List ℤ))) → Stay (moves side guests stream mine theirs n (option_map (stored_for (read_of side mine theirs)) o))
   moved_stay theirs n None = refl
@@ -240,7 +240,7 @@ module _ (side : Side) (guests : List Guest) (stream : Stream) (mine : Operation
   meets_stay BothComplete theirs =
       let n = min mine.left theirs.left in
       let write = write_of side mine theirs in
-      moved_stay theirs n (items_at (scalars_of stream.payload) (memory_in guests write.guest) write.address n)
+      moved_stay theirs n (items_at (item_type stream.payload) (memory_in guests write.guest) write.address n)
   meets_stay WriteCompletes theirs = alone_stay Writing theirs
   meets_stay ReadCompletes theirs = alone_stay Reading theirs
 

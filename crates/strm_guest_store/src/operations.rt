@@ -13,8 +13,8 @@ pub enum OperateError {
     /// What was asked may not be done now.
     #[error("refused: {0}")]
     Refused(Refusal),
-    /// An item that was to move is no Unicode scalar value. All other guests go on; this call answers the same
+    /// An item that was to move is none of its type. All other guests go on; this call answers the same
     /// again until the guest that writes the item, or the one that reads it, does something else.
-    #[error("an item is no Unicode scalar value")]
+    #[error("an item is none of its type")]
     BadItem(BadItem),
 }

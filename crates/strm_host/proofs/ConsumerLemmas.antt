@@ -4,7 +4,7 @@ use Rattle.std.proofs.Common.{◌≡◌, ℕ, ◌-◌, ◌<◌, ◌≤◌, Bool,
 use Rattle.std.specs.Prelude.{◌==◌, nat_lt, nat_le, not, ◌&&◌, if◌then◌else◌, IfSome}
 use Rattle.std.specs.Option.{option_map}
 use Rattle.std.proofs.lemmas.Bool.Decides.{nat_tests}
-use Rattle.strm_codes.specs.Layout.{scalars_of}
+use Rattle.strm_codes.specs.Layout.{item_type}
 use Rattle.strm_codes.specs.declared.codes.StreamResult.{StreamResult}
 use Rattle.strm_buffers.specs.declared.answers.Answer.{Answer}
 use Rattle.strm_buffers.specs.declared.answers.Answer.TheVariants as answer
@@ -19,13 +19,13 @@ use Rattle.strm_host.specs.FutureConsuming.{FutureConsumerPlan, KeepsTaking, is_
 
 -- what is known of an offer that came back, said of the one that was lent
 module _ (o p : Offered) (same : SameOffer o p) (s : IsOffer p.payload p.source p.taken p.bad) where
-  pub good_same : p.taken ≤ length (good_lent (scalars_of o.payload) o.source)
+  pub good_same : p.taken ≤ length (good_lent (item_type o.payload) o.source)
   good_same = rw (← same.payload, ← same.source) s.good
 
   pub most_same : p.taken ≤ items_lent o.source
   most_same = rw (← same.source) s.most
 
-  pub next_same : p.bad ≡ true → IsBadNext (scalars_of o.payload) o.source p.taken
+  pub next_same : p.bad ≡ true → IsBadNext (item_type o.payload) o.source p.taken
   next_same = rw (← same.payload, ← same.source) s.next
 
   -- A POLL
@@ -40,11 +40,11 @@ module _ (o p : Offered) (same : SameOffer o p) (s : IsOffer p.payload p.source 
     pub kind : new.kind ≡ old.kind
     pub payload : new.payload ≡ old.payload
 
-  pub consumed_poll : (old new : ReaderTells) (finish : Bool) (a : Answer) → Consumed old new finish a → PollsReader old new (reader_record o p finish a) (first_lent (scalars_of o.payload) o.source p.taken)
+  pub consumed_poll : (old new : ReaderTells) (finish : Bool) (a : Answer) → Consumed old new finish a → PollsReader old new (reader_record o p finish a) (first_lent (item_type o.payload) o.source p.taken)
   consumed_poll old new finish a d = record {
     said_more = d.said;
-    holds = d.took ∙ ap (λ ys. option_map (λ xs. xs ++ ys) old.holds) (sym (first_good (scalars_of o.payload) o.source p.taken good_same));
-    taken = sym (length-first_lent (scalars_of o.payload) o.source p.taken good_same);
+    holds = d.took ∙ ap (λ ys. option_map (λ xs. xs ++ ys) old.holds) (sym (first_good (item_type o.payload) o.source p.taken good_same));
+    taken = sym (length-first_lent (item_type o.payload) o.source p.taken good_same);
     most = most_same;
     faults = d.failed;
     closed = d.closed;
@@ -67,23 +67,23 @@ at_answer turn a P e p = answered_by a P (subst (λ t. IfAnswered t P) e p)
 -- FUTURES
 
 -- nothing is left where all that was offered is taken
-pub spent_left : (o : Offered) (n : ℕ) → n ≤ length (good_lent (scalars_of o.payload) o.source) → ((items_lent o.source - n) == 0) ≡ is_used_up (offering_of o) n
+pub spent_left : (o : Offered) (n : ℕ) → n ≤ length (good_lent (item_type o.payload) o.source) → ((items_lent o.source - n) == 0) ≡ is_used_up (offering_of o) n
 spent_left o n h =
-    let g : ℕ = length (good_lent (scalars_of o.payload) o.source) in
+    let g : ℕ = length (good_lent (item_type o.payload) o.source) in
     decided (nat_lt g (items_lent o.source)) refl (nat_le g n) refl
   where
-    decided : (cut : Bool) → nat_lt (length (good_lent (scalars_of o.payload) o.source)) (items_lent o.source) ≡ cut → (all : Bool) → nat_le (length (good_lent (scalars_of o.payload) o.source)) n ≡ all → ((items_lent o.source - n) == 0) ≡ (not cut && all)
+    decided : (cut : Bool) → nat_lt (length (good_lent (item_type o.payload) o.source)) (items_lent o.source) ≡ cut → (all : Bool) → nat_le (length (good_lent (item_type o.payload) o.source)) n ≡ all → ((items_lent o.source - n) == 0) ≡ (not cut && all)
     decided true p all q =
-        let less : length (good_lent (scalars_of o.payload) o.source) < items_lent o.source = grind (arith, nat_tests) in
+        let less : length (good_lent (item_type o.payload) o.source) < items_lent o.source = grind (arith, nat_tests) in
         grind (arith, nat_tests)
     decided false p true q =
-        let most = good_most (scalars_of o.payload) o.source in
-        let all : length (good_lent (scalars_of o.payload) o.source) ≤ n = grind (arith, nat_tests) in
-        let least : items_lent o.source ≤ length (good_lent (scalars_of o.payload) o.source) = grind (arith, nat_tests) in
+        let most = good_most (item_type o.payload) o.source in
+        let all : length (good_lent (item_type o.payload) o.source) ≤ n = grind (arith, nat_tests) in
+        let least : items_lent o.source ≤ length (good_lent (item_type o.payload) o.source) = grind (arith, nat_tests) in
         grind (arith, nat_tests)
     decided false p false q =
-        let most = good_most (scalars_of o.payload) o.source in
-        let few : n < length (good_lent (scalars_of o.payload) o.source) = grind (arith, nat_tests) in
+        let most = good_most (item_type o.payload) o.source in
+        let few : n < length (good_lent (item_type o.payload) o.source) = grind (arith, nat_tests) in
         grind (arith, nat_tests)
 
 -- a poll is what was planned

@@ -1,7 +1,7 @@
 -- A poll of a producer is one of a host writer.
 use Rattle.std.proofs.Common.{◌≡◌, ℕ, Bool, List, [], ◌∷◌, ◌++◌, Option, Some, None, append-nil}
 use Rattle.std.proofs.lemmas.List.{take-append-drop}
-use Rattle.strm_codes.specs.Layout.{scalars_of}
+use Rattle.strm_codes.specs.Layout.{item_type}
 use Rattle.strm_memory.specs.Items.{AreItems}
 use Rattle.strm_buffers.specs.Listing.{Item}
 use Rattle.strm_buffers.specs.Windows.{Lent, room_of}
@@ -28,7 +28,7 @@ pub record Did (old new : WriterTells) (window after : Lent) (finish : Bool) (it
   pub said : new.said ≡ old.said ++ said_of window finish items answer ∷ []
   pub marked : after.marked ≡ in_room (room_of window.place) items
   pub held : new.holds ≡ past_room (room_of window.place) items
-  pub fit : AreItems (scalars_of old.payload) items
+  pub fit : AreItems (item_type old.payload) items
   pub failed : RisesOnFailed answer old.faults new.faults
   pub closed : new.closed ≡ old.closed
   pub heard : new.heard ≡ old.heard

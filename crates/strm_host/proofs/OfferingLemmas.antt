@@ -1,6 +1,6 @@
 -- What a consumer takes of an offer, said of what it is offered.
 use Rattle.std.proofs.Common.{◌≡◌, ℕ, ◌-◌, ◌≤◌, length, min, refl, ap, arith}
-use Rattle.strm_codes.specs.Layout.{scalars_of}
+use Rattle.strm_codes.specs.Layout.{item_type}
 use Rattle.strm_buffers.specs.Offers.{Offered, items_lent, left_of, after_taking}
 use Rattle.strm_buffers.proofs.OfferLemmas.{good_most}
 use Rattle.strm_host.specs.Consuming.{offering_of}
@@ -15,4 +15,4 @@ taken_first o n e = omega (arith, e, ap length (all_left o e))
 
 -- and all of them, where no fewer are wanted
 pub taken_whole : (o : Offered) (n : ℕ) → o.taken ≡ 0 → items_lent o.source - o.taken ≤ n → (after_taking n o).taken ≡ length (offering_of o).items
-taken_whole o n e h = omega (arith, e, ap length (all_left o e), h, good_most (scalars_of o.payload) o.source)
+taken_whole o n e h = omega (arith, e, ap length (all_left o e), h, good_most (item_type o.payload) o.source)

@@ -3,7 +3,7 @@ use Rattle.std.proofs.Common.{◌≡◌, ℕ, zero, suc, ◌+◌, ◌-◌, ◌<�
 use Rattle.std.proofs.lemmas.Bool.Decides.{nat_tests}
 use Rattle.std.proofs.lemmas.List.{take_at, drop_at, take_min, length-take, length-map, map-append, take-map}
 use Rattle.std.specs.Prelude.{slice_get, nat_lt, ◌&&◌}
-use Rattle.strm_codes.specs.Layout.{scalars_of}
+use Rattle.strm_codes.specs.Layout.{item_type}
 use Rattle.strm_memory.specs.Items.{byte_items}
 use Rattle.strm_buffers.specs.Listing.{Item}
 use Rattle.strm_buffers.specs.Offers.{Offered, items_lent, item_behind, good_lent, left_of, is_cut, asks_bad}
@@ -39,27 +39,27 @@ slice_get-drop zero i xs = let e : 0 + i ≡ i = omega arith in rw e refl
 slice_get-drop (suc n) i [] = refl
 slice_get-drop (suc n) i (x ∷ xs) = let e : suc n + i ≡ suc (n + i) = omega arith in rw e (slice_get-drop n i xs)
 
-module _ (old : Offered) (i : ℕ) (within : i ≤ length (left_of old)) (most : old.taken ≤ length (good_lent (scalars_of old.payload) old.source)) where
-  there : old.taken + i ≤ length (good_lent (scalars_of old.payload) old.source)
-  there = omega (arith, within, most, length-drop old.taken (good_lent (scalars_of old.payload) old.source))
+module _ (old : Offered) (i : ℕ) (within : i ≤ length (left_of old)) (most : old.taken ≤ length (good_lent (item_type old.payload) old.source)) where
+  there : old.taken + i ≤ length (good_lent (item_type old.payload) old.source)
+  there = omega (arith, within, most, length-drop old.taken (good_lent (item_type old.payload) old.source))
 
   -- the items of a buffer are those of before, and behind them the first so many that are left
   abbrev AreMoved : {T : Type 0} → (T → Item) → List T → ℕ → List T → Type 0
   AreMoved item before n now = map item now ≡ map item before ++ take n (left_of old)
 
   -- the next item, moved behind those that were
-  pub moved_next : {T : Type 0} (item : T → Item) (before now new : List T) (x : T) → item_behind (scalars_of old.payload) old.source (old.taken + i) ≡ Some (item x)
+  pub moved_next : {T : Type 0} (item : T → Item) (before now new : List T) (x : T) → item_behind (item_type old.payload) old.source (old.taken + i) ≡ Some (item x)
       → AreMoved item before i now → new ≡ now ++ x ∷ [] → AreMoved item before (i + 1) new
   moved_next item before now new x e m p =
-      let g = good_lent (scalars_of old.payload) old.source in
-      let get : slice_get (left_of old) i ≡ Some (item x) = slice_get-drop old.taken i g ∙ sym (behind_lent (scalars_of old.payload) old.source (old.taken + i) there) ∙ e in
+      let g = good_lent (item_type old.payload) old.source in
+      let get : slice_get (left_of old) i ≡ Some (item x) = slice_get-drop old.taken i g ∙ sym (behind_lent (item_type old.payload) old.source (old.taken + i) there) ∙ e in
       ap (map item) p ∙ map-append item now (x ∷ []) ∙ ap (λ l. l ++ item x ∷ []) m
       ∙ append_assoc (map item before) (take i (left_of old)) (item x ∷ []) ∙ ap (λ l. map item before ++ l) (take_next (left_of old) i (item x) get)
 
   -- where the next is bad, all that are left were moved
-  pub stopped : (wanted : ℕ) → item_behind (scalars_of old.payload) old.source (old.taken + i) ≡ None → i < min wanted (items_lent old.source - old.taken) → (asks_bad wanted old ≡ true) × (take i (left_of old) ≡ take wanted (left_of old))
+  pub stopped : (wanted : ℕ) → item_behind (item_type old.payload) old.source (old.taken + i) ≡ None → i < min wanted (items_lent old.source - old.taken) → (asks_bad wanted old ≡ true) × (take i (left_of old) ≡ take wanted (left_of old))
   stopped wanted e l =
-      let ss = scalars_of old.payload in
+      let ss = item_type old.payload in
       let g = good_lent ss old.source in
       let all = all_good ss old.source (old.taken + i) there e in
       let size = length-drop old.taken g in
@@ -73,27 +73,27 @@ module _ (old : Offered) (i : ℕ) (within : i ≤ length (left_of old)) (most :
   -- where none was, as many as were wanted
   pub ended : (wanted : ℕ) → i ≡ min wanted (items_lent old.source - old.taken) → (asks_bad wanted old ≡ false) × (take i (left_of old) ≡ take wanted (left_of old))
   ended wanted e =
-      let ss = scalars_of old.payload in
+      let ss = item_type old.payload in
       let g = good_lent ss old.source in
       let size = length-drop old.taken g in
       let count : i ≡ min wanted (length (left_of old)) = omega (arith, e, within, size, most, good_most ss old.source) in
       (unasked (is_cut ss old.source) refl (nat_lt (length (left_of old)) wanted) refl, ap (λ k. take k (left_of old)) count ∙ take_min wanted (left_of old))
     where
-      unasked : (cut : Bool) → is_cut (scalars_of old.payload) old.source ≡ cut → (few : Bool) → nat_lt (length (left_of old)) wanted ≡ few → (cut && few) ≡ false
+      unasked : (cut : Bool) → is_cut (item_type old.payload) old.source ≡ cut → (few : Bool) → nat_lt (length (left_of old)) wanted ≡ few → (cut && few) ≡ false
       unasked false p few q = refl
       unasked true p false q = refl
       unasked true p true q =
-          let cut : length (good_lent (scalars_of old.payload) old.source) < items_lent old.source = grind (arith, nat_tests) in
+          let cut : length (good_lent (item_type old.payload) old.source) < items_lent old.source = grind (arith, nat_tests) in
           let few : length (left_of old) < wanted = grind (arith, nat_tests) in
-          absurd (omega (arith, cut, few, e, within, most, length-drop old.taken (good_lent (scalars_of old.payload) old.source)))
+          absurd (omega (arith, cut, few, e, within, most, length-drop old.taken (good_lent (item_type old.payload) old.source)))
 
 -- where fewer were taken than are wanted and left, a bad one was asked for, and else none
-pub asked : (old : Offered) (wanted taken : ℕ) → taken ≡ old.taken + min wanted (length (left_of old)) → old.taken ≤ length (good_lent (scalars_of old.payload) old.source) → taken - old.taken < min wanted (items_lent old.source - old.taken) → asks_bad wanted old ≡ true
+pub asked : (old : Offered) (wanted taken : ℕ) → taken ≡ old.taken + min wanted (length (left_of old)) → old.taken ≤ length (good_lent (item_type old.payload) old.source) → taken - old.taken < min wanted (items_lent old.source - old.taken) → asks_bad wanted old ≡ true
 asked old wanted taken e most l =
-    let g = good_lent (scalars_of old.payload) old.source in
+    let g = good_lent (item_type old.payload) old.source in
     let size = length-drop old.taken g in
     let few : length (left_of old) < wanted = omega (arith, e, l, size) in
     let cut : length g < items_lent old.source = omega (arith, e, l, size, most) in
-    let is_cut' : is_cut (scalars_of old.payload) old.source ≡ true = grind (arith, nat_tests) in
+    let is_cut' : is_cut (item_type old.payload) old.source ≡ true = grind (arith, nat_tests) in
     let is_few : nat_lt (length (left_of old)) wanted ≡ true = grind (arith, nat_tests) in
     rw (is_cut', is_few) refl

@@ -2,7 +2,7 @@
 -- wasmtime, `StreamProducer`; what is told is ours.
 use Rattle.std.specs.Prelude.{◌≡◌, ℕ, Bool, true, List, [], ◌++◌, map, length, drop, Option}
 use Rattle.strm_buffers.specs.declared.answers.Answer.{Answer}
-use Rattle.strm_codes.specs.Layout.{scalars_of}
+use Rattle.strm_codes.specs.Layout.{item_type}
 use Rattle.strm_codes.specs.declared.payloads.Payload.{Payload}
 use Rattle.strm_memory.specs.Items.{AreItems, byte_items}
 use Rattle.strm_buffers.specs.Listing.{Item, TypedItems}
@@ -19,7 +19,7 @@ pub record IsFreshWindow (item : Payload) (window : Lent) : Type 0 where
 -- are held
 pub record IsProducedInRoom (item : Payload) (room : Option ℕ) (marked : List Item) (items held : TypedItems) : Type 0 where
   pub of : items.payload ≡ item
-  pub fit : AreItems (scalars_of item) items.items
+  pub fit : AreItems (item_type item) items.items
   pub marked_is : marked ≡ in_room room items.items
   pub held_is : held.items ≡ past_room room items.items
   pub typed : held.payload ≡ item
@@ -42,7 +42,7 @@ polled item marked buffered answer = record { items = marked ++ map item buffere
 abbrev pub with_written : Lent → List ℕ → Lent
 with_written w bytes =
     record w {
-      place = stored_in (scalars_of w.payload) w.place (length w.marked) (byte_items bytes);
+      place = stored_in (item_type w.payload) w.place (length w.marked) (byte_items bytes);
       marked = w.marked ++ byte_items bytes;
       unmarked = drop (length bytes) w.unmarked;
     }

@@ -67,8 +67,8 @@ pub trait StreamConsumer: Drop {
     ///
     /// # A bad item
     ///
-    /// Where the next item is a char that is no Unicode scalar value, `Source::read` stops before it and
-    /// answers `BadItem`. The store is trapped by that, and not by what the consumer answers. A consumer
+    /// Where the next item is none of its type, as a char that is no Unicode scalar value, `Source::read`
+    /// stops before it and answers `BadItem`. The store is trapped by that, and not by what the consumer answers. A consumer
     /// that does not ask for the item does not meet it.
     ///
     /// # What a breach does

@@ -1,7 +1,7 @@
 -- What is done to a host end of a store between steps: a writer is fed and ended, a reader is granted items, its items
 -- are collected, and it wants no more. The machine's state stays, and so do all other host ends. Ours.
 use Rattle.std.specs.Prelude.{◌≡◌, ℕ, ◌<◌, ◌≤◌, min, Bool, true, List, length, take, Option, Some, None, Result, Ok, Err}
-use Rattle.strm_codes.specs.Layout.{scalars_of}
+use Rattle.strm_codes.specs.Layout.{item_type}
 use Rattle.strm_memory.specs.Items.{stored}
 use Rattle.strm_ready_ends.specs.SendQueues.{Feeds, with_end, is_future}
 use Rattle.strm_ready_ends.specs.ReceiveQueues.{Grants, collected, finished}
@@ -61,7 +61,7 @@ KeptOf host r None = length host.readers ≤ r
 pub record CollectsReader (old new : HostState) (r : ℕ) (bytes after : List ℕ) (most count : ℕ) : Type 0 where
   pub there : r < length old.readers
   pub most_there : count ≡ min most (length (reader_of old r).items)
-  pub written : after ≡ stored (scalars_of (reader_of old r).payload) bytes (take count (reader_of old r).items)
+  pub written : after ≡ stored (item_type (reader_of old r).payload) bytes (take count (reader_of old r).items)
   pub left : new ≡ with_reader old r (collected (reader_of old r) count)
 
 -- the same, or no host reader has the number

@@ -6,10 +6,11 @@ use Rattle.std.proofs.lemmas.Bool.{ne_eqb}
 use Rattle.std.proofs.lemmas.Bool.Decides.{nat_tests}
 use Rattle.std.proofs.lemmas.List.{drop-drop}
 use Rattle.strm_codes.specs.declared.codes.StreamResult.{StreamResult}
-use Rattle.strm_codes.specs.declared.scalars.Scalar.{Scalar}
-use Rattle.strm_codes.specs.Layout.{scalars_of, item_size}
+use Rattle.strm_codes.specs.Layout.{item_type}
+use Rattle.strm_codes.specs.ItemTypes.{item_size, ItemType}
 use Rattle.strm_codes.specs.declared.payloads.Payload.{Payload}
-use Rattle.strm_memory.specs.Items.{decode, decode_from, items, items_at}
+use Rattle.strm_memory.specs.Items.{items, items_at}
+use Rattle.strm_memory.specs.Loads.{decode}
 use Rattle.strm_buffers.specs.declared.answers.Answer.{Answer}
 use Rattle.strm_buffers.specs.declared.answers.ReaderSaid.{ReaderSaid}
 use Rattle.strm_buffers.specs.declared.answers.Turn.{Turn}
@@ -26,8 +27,8 @@ use Rattle.strm_channels.specs.Guests.{linear_in, with_linear}
 use Rattle.strm_channels.proofs.GuestLemmas.{with_linear-twice}
 use Rattle.strm_machine.specs.declared.streams.Operation.{Operation}
 use Rattle.strm_machine.proofs.StateLemmas.{with_memory-same}
-use Rattle.strm_machine.proofs.CarryLemmas.{no_scalars}
 use Rattle.strm_memory.proofs.ItemLemmas.{items-add}
+use Rattle.strm_memory.proofs.NoByteLemmas.{decode-no_bytes, items-no_bytes}
 use Rattle.strm_host_machine.specs.ReaderTurn.{lifted_items}
 use Rattle.strm_host_machine.proofs.ReaderLemmas.{IsBadNext as BadBehind}
 use Rattle.strm_host_turns.specs.Regions.{region_address, lent_items}
@@ -37,19 +38,7 @@ use Rattle.strm_host_turns.proofs.WriterPollLemmas.{Reads, of_answer}
 
 -- ## Its address
 
--- an item that takes no bytes is there, whatever the bytes
-decode-nothing : (bytes : List ℕ) → decode [] bytes ≡ Some []
-unfolding decode_from
-decode-nothing bytes = refl
-
-items-nothing : (a b : List ℕ) (n : ℕ) → items [] a n ≡ items [] b n
-unfolding items
-items-nothing a b zero = refl
-items-nothing a b (suc n) =
-    ap (option_and_then (λ x. option_map (λ xs. x ∷ xs) (items [] (drop 0 a) n))) (decode-nothing a ∙ sym (decode-nothing b))
-    ∙ ap (λ rest. option_and_then (λ x. option_map (λ xs. x ∷ xs) rest) (decode [] b)) (items-nothing (drop 0 a) (drop 0 b) n)
-
-items-none : (ss : List Scalar) (a b : List ℕ) → items ss a 0 ≡ items ss b 0
+items-none : (ss : ItemType) (a b : List ℕ) → items ss a 0 ≡ items ss b 0
 unfolding items
 items-none ss a b = refl
 
@@ -58,7 +47,7 @@ were_read : (o : Option (List Item)) (n : ℕ) → n ≡ length (listed o) → 0
 were_read None n e l = absurd (omega (arith, e, l))
 were_read (Some xs) n e l = refl
 
-none_read : (ss : List Scalar) (bytes : List ℕ) → IsSome (items ss bytes 0)
+none_read : (ss : ItemType) (bytes : List ℕ) → IsSome (items ss bytes 0)
 unfolding items
 none_read ss bytes = refl
 
@@ -66,15 +55,15 @@ module _ (guests : List Guest) (payload : Payload) (write : Operation) where
   abbrev memory : List ℕ
   memory = memory_in guests write.guest
 
-  abbrev ss : List Scalar
-  ss = scalars_of payload
+  abbrev ss : ItemType
+  ss = item_type payload
 
   -- the address of the region of so many items that take so many bytes
   abbrev address_for : ℕ → ℕ → ℕ
   address_for w n = if (w == 0) || (n == 0) then 0 else write.address
 
   region_by_size : (w n k : ℕ) → item_size ss ≡ w → k ≤ n → items_at ss memory (address_for w n) k ≡ items_at ss memory write.address k
-  region_by_size zero n k e l = rw (no_scalars ss e) (items-nothing memory (drop write.address memory) k)
+  region_by_size zero n k e l = items-no_bytes ss memory (drop write.address memory) k e
   region_by_size (suc w) zero zero e l = rw (not_zero w) (items-none ss memory (drop write.address memory))
   region_by_size (suc w) zero (suc k) e l = absurd (omega (arith, l))
   region_by_size (suc w) (suc n) k e l = rw (not_zero w, not_zero n) refl
@@ -85,7 +74,7 @@ module _ (guests : List Guest) (payload : Payload) (write : Operation) where
 
   -- and one that is none as well
   bad_by_size : (w n k : ℕ) → item_size ss ≡ w → k < n → decode ss (drop (address_for w n + item_size ss * k) memory) ≡ None → decode ss (drop (write.address + item_size ss * k) memory) ≡ None
-  bad_by_size zero n k e l b = let none = no_scalars ss e in rw none (let c = subst (λ fs. decode fs (drop (address_for 0 n + item_size fs * k) memory) ≡ None) none b in cc (decode-nothing (drop (address_for 0 n + item_size [] * k) memory), c))
+  bad_by_size zero n k e l b = cc (decode-no_bytes ss (drop (address_for zero n + item_size ss * k) memory) e, b)
   bad_by_size (suc w) zero k e l b = absurd (omega (arith, l))
   bad_by_size (suc w) (suc n) k e l b = subst (λ a. decode ss (drop (a + item_size ss * k) memory) ≡ None) (rw (not_zero w, not_zero n) refl) b
 
@@ -135,11 +124,11 @@ module _ (guests : List Guest) (payload : Payload) (write : Operation) where
 
     -- what it took
     abbrev pub took_of : Offered → List Item
-    took_of w = first_lent (scalars_of w.payload) w.source taken.taken
+    took_of w = first_lent (item_type w.payload) w.source taken.taken
 
     -- a bad item that it asked for is the next one
     abbrev pub BadNext : Offered → Type 0
-    BadNext w = taken.bad ≡ true → IsBadNext (scalars_of w.payload) w.source taken.taken
+    BadNext w = taken.bad ≡ true → IsBadNext (item_type w.payload) w.source taken.taken
 
     offered : (answer : Answer) → PollsReader tells told (record_of lent answer) (took_of lent) → BadNext lent → PollsFrom tells told guests payload since write (record_of lent answer)
     offered answer p b =
@@ -194,11 +183,11 @@ then_none : (o : Option (List Item)) → option_and_then (λ xs. option_map (λ 
 then_none None = refl
 then_none (Some xs) = refl
 
-one_none : (ss : List Scalar) (bytes : List ℕ) → decode ss bytes ≡ None → items ss bytes 1 ≡ None
+one_none : (ss : ItemType) (bytes : List ℕ) → decode ss bytes ≡ None → items ss bytes 1 ≡ None
 unfolding items
 one_none fields bytes e = ap (λ o. option_and_then (λ x. option_map (λ xs. x ∷ xs) (Some [])) o) e
 
-more_none : (ss : List Scalar) (bytes : List ℕ) (n : ℕ) → IsNone (decode ss (drop (item_size ss * n) bytes)) → items ss bytes (n + 1) ≡ None
+more_none : (ss : ItemType) (bytes : List ℕ) (n : ℕ) → IsNone (decode ss (drop (item_size ss * n) bytes)) → items ss bytes (n + 1) ≡ None
 more_none ss bytes n h =
     items-add ss bytes n 1
     ∙ ap (λ o. option_and_then (λ xs. option_map (λ ys. xs ++ ys) o) (items ss bytes n)) (one_none ss (drop (item_size ss * n) bytes) (no_item _ h))
@@ -212,11 +201,11 @@ none_listed (Some xs) n e = cc
 pub bad_behind : (guests : List Guest) (payload : Payload) (write : Operation) (n : ℕ) → IsBadBehind guests payload write n → BadBehind write.left (lifted_items guests payload write) n
 bad_behind guests payload write n b = record {
   within = b.within;
-  bad = none_listed _ n (more_none (scalars_of payload) (drop write.address (memory_in guests write.guest)) n b.bad);
+  bad = none_listed _ n (more_none (item_type payload) (drop write.address (memory_in guests write.guest)) n b.bad);
 }
 
 -- a list has no bad item
-pub no_bad : (ss : List Scalar) (source : Source) (items : TypedItems) (n : ℕ) (bad : Bool) → source ≡ Listed items → (bad ≡ true → IsBadNext ss source n) → bad ≡ false
+pub no_bad : (ss : ItemType) (source : Source) (items : TypedItems) (n : ℕ) (bad : Bool) → source ≡ Listed items → (bad ≡ true → IsBadNext ss source n) → bad ≡ false
 no_bad ss source items n false e h = refl
 no_bad ss source items n true e h =
     let next = subst (λ s. IsBadNext ss s n) e (h refl) in

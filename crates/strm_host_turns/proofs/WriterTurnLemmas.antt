@@ -3,7 +3,8 @@ use Rattle.std.proofs.Common.{◌≡◌, ℕ, suc, ◌+◌, ◌<◌, ◌≤◌, 
 use Rattle.std.specs.Prelude.{◌^◌, ◌||◌, nat_lt, IsErrAnd}
 use Rattle.std.proofs.lemmas.List.{take-append-drop}
 use Rattle.std.proofs.lemmas.Bool.Decides.{nat_tests}
-use Rattle.strm_codes.specs.Layout.{scalars_of, item_size}
+use Rattle.strm_codes.specs.Layout.{item_type}
+use Rattle.strm_codes.specs.ItemTypes.{item_size}
 use Rattle.strm_codes.specs.declared.payloads.Payload.{Payload}
 use Rattle.strm_codes.specs.declared.codes.StreamResult.TheVariants as results
 use Rattle.strm_buffers.specs.declared.answers.Answer.{Answer}
@@ -35,10 +36,10 @@ handed_on (Ok x) f = absurd f
 handed_on (Err x) f = ap Err f
 
 -- the address behind some of the items that a read has left
-pub room_behind : (guests : List Guest) (payload : Payload) (read : Operation) (n : ℕ) → IsPlaced (sizes_of guests) payload read → AreSmall (sizes_of guests) → read.address < 2 ^ 32 → n ≤ read.left → read.address + item_size (scalars_of payload) * n < 2 ^ 32
+pub room_behind : (guests : List Guest) (payload : Payload) (read : Operation) (n : ℕ) → IsPlaced (sizes_of guests) payload read → AreSmall (sizes_of guests) → read.address < 2 ^ 32 → n ≤ read.left → read.address + item_size (item_type payload) * n < 2 ^ 32
 room_behind guests payload read n h s a l =
-    let front = not_out-front _ (scalars_of payload) read.address read.left n l h.inside in
-    address_room (sizes_of guests) read.guest (scalars_of payload) read.address n h.there front s a
+    let front = not_out-front _ (item_type payload) read.address read.left n l h.inside in
+    address_room (sizes_of guests) read.guest (item_type payload) read.address n h.there front s a
 
 -- ## What is held
 

@@ -1,6 +1,6 @@
 -- What one poll of a host reader for a write is. Ours.
 use Rattle.std.specs.Prelude.{◌≡◌, ℕ, true, List, drop}
-use Rattle.strm_codes.specs.Layout.{scalars_of}
+use Rattle.strm_codes.specs.Layout.{item_type}
 use Rattle.strm_codes.specs.declared.payloads.Payload.{Payload}
 use Rattle.strm_memory.specs.Items.{IsFirstBadItem}
 use Rattle.strm_buffers.specs.declared.answers.ReaderSaid.{ReaderSaid}
@@ -12,7 +12,7 @@ use Rattle.strm_host_machine.specs.ReaderTurn.{lifted_items}
 -- of the items that a write has left, the one behind so many is the first that is none
 abbrev pub IsBadBehind : List Guest → Payload → Operation → ℕ → Type 0
 IsBadBehind guests payload write n =
-    IsFirstBadItem (scalars_of payload) (drop write.address (memory_in guests write.guest)) write.left n
+    IsFirstBadItem (item_type payload) (drop write.address (memory_in guests write.guest)) write.left n
 
 -- one poll, which offers the items that the write has left, so many being taken since the host reader
 -- was last ready; asked to finish if the write was

@@ -29,8 +29,8 @@ pub enum ReaderStops {
     /// Out of memory. No record was added.
     #[error("out of memory")]
     OutOfMemory,
-    /// The host reader asked for an item that is no Unicode scalar value.
-    #[error("the host reader asked for an item that is no Unicode scalar value")]
+    /// The host reader asked for an item that is none of its type.
+    #[error("the host reader asked for an item that is none of its type")]
     BadItem,
     /// The host reader broke its rules.
     #[error("the host reader broke its rules")]

@@ -5,7 +5,8 @@
 
 ghost use Rattle.std.specs.Prelude.{◌≡◌, ◌+◌, ◌*◌, ◌^◌, ◌<◌, ◌≤◌, List, length, true, Some, IsSomeAnd};
 ghost use Rattle.std.specs.Option.{option_map};
-ghost use Rattle.strm_codes.specs.Layout.{scalars_of, item_size};
+ghost use Rattle.strm_codes.specs.Layout.{item_type};
+ghost use Rattle.strm_codes.specs.ItemTypes.{item_size};
 ghost use Rattle.strm_buffers.specs.Listing.{Item};
 ghost use Rattle.strm_machine.specs.Sides.{opposite, end_of, with_end};
 ghost use Rattle.strm_host_machine.specs.WriterTurn.{produced_result};
@@ -102,7 +103,7 @@ pub fn move_on(
     requires open { operation.now.is_open ≡ true }
     requires left { count ≤ operation.now.left }
     requires counted { operation.now.moved + operation.now.left < 2 ^ 28 }
-    requires room { operation.now.address + item_size (scalars_of stream.old.payload) * count
+    requires room { operation.now.address + item_size (item_type stream.old.payload) * count
         < 2 ^ 32 }
     ensures { stream.new ≡ moved_on side stream.old operation.now count outcome }
 {

@@ -1,7 +1,7 @@
 -- The poll of the ready host reader of a pipe, by what came of it.
 use Rattle.std.proofs.Common.{◌≡◌, ℕ, ◌-◌, ◌≤◌, Bool, true, false, List, [], ◌∷◌, ◌++◌, length, take, Some, Result, Ok, Err, refl, sym, ap, subst, ◌∙◌, arith}
 use Rattle.std.specs.Prelude.{IfOk, OnOk, OnErr}
-use Rattle.strm_codes.specs.Layout.{scalars_of}
+use Rattle.strm_codes.specs.Layout.{item_type}
 use Rattle.strm_codes.specs.declared.counts.OutOfMemory.{OutOfMemory}
 use Rattle.strm_buffers.specs.declared.answers.ReaderSaid.{ReaderSaid}
 use Rattle.strm_buffers.specs.declared.sources.Source.TheVariants.{Listed}
@@ -22,7 +22,7 @@ module _ (old new : ReceiveQueue) (before after : Offered) (finish : Bool) (said
 
   -- what it took
   abbrev took_of : List Item
-  took_of = first_lent (scalars_of before.payload) before.source after.taken
+  took_of = first_lent (item_type before.payload) before.source after.taken
 
   pub takes_polls : after.taken ≡ length took_of → after.taken ≤ items_lent before.source → PollsReader (ready_reader_tells old) (ready_reader_tells new) said took_of
   takes_polls counted most = record {
@@ -43,23 +43,23 @@ module _ (old new : ReceiveQueue) (items : TypedItems) (since : ℕ) (before aft
   pub record OfItems : Type 0 where
     pub takes : Takes old new before after false said.answer
     pub record_is : said ≡ reader_record before after false said.answer
-    pub counted : after.taken ≡ length (first_lent (scalars_of before.payload) before.source after.taken)
+    pub counted : after.taken ≡ length (first_lent (item_type before.payload) before.source after.taken)
     pub most : after.taken ≤ items_lent before.source
-    pub next : after.bad ≡ true → IsBadNext (scalars_of before.payload) before.source after.taken
+    pub next : after.bad ≡ true → IsBadNext (item_type before.payload) before.source after.taken
     pub source : before.source ≡ Listed items
     pub since_is : before.since ≡ since
     pub untaken : before.taken ≡ 0
 
   pub passed : OfItems → PassedSo (ready_reader_tells old) (ready_reader_tells new) items.items since said
   passed o =
-      let took : first_lent (scalars_of before.payload) before.source after.taken ≡ take said.taken items.items =
-      ap (λ s. first_lent (scalars_of before.payload) s after.taken) o.source ∙ ap (λ n. take n items.items) (sym (taken_is old new before after false said o.takes o.record_is)) in
+      let took : first_lent (item_type before.payload) before.source after.taken ≡ take said.taken items.items =
+      ap (λ s. first_lent (item_type before.payload) s after.taken) o.source ∙ ap (λ n. take n items.items) (sym (taken_is old new before after false said o.takes o.record_is)) in
       record {
         polls = subst (PollsReader (ready_reader_tells old) (ready_reader_tells new) said) took (takes_polls old new before after false said o.takes o.record_is o.counted o.most);
         offered = ap (λ (s : ReaderSaid). s.offered) o.record_is ∙ ap items_lent o.source;
         after = ap (λ (s : ReaderSaid). s.since) o.record_is ∙ o.since_is;
         finish = ap (λ (s : ReaderSaid). s.finish) o.record_is;
-        good = ap (λ (s : ReaderSaid). s.bad) o.record_is ∙ no_bad (scalars_of before.payload) before.source items after.taken after.bad o.source o.next;
+        good = ap (λ (s : ReaderSaid). s.bad) o.record_is ∙ no_bad (item_type before.payload) before.source items after.taken after.bad o.source o.next;
       }
 
   pub passed_granted : OfItems → TakesGranted old new
@@ -67,7 +67,7 @@ module _ (old new : ReceiveQueue) (items : TypedItems) (since : ℕ) (before aft
       let few : after.taken ≤ old.credit = omega (arith, ap (λ (w : Offered). w.taken) o.takes.takes, o.untaken) in
       let left : new.credit ≡ old.credit - after.taken = ap (λ (q : ReceiveQueue). q.credit) o.takes.leaves in
       record {
-        items = first_lent (scalars_of before.payload) before.source after.taken;
+        items = first_lent (item_type before.payload) before.source after.taken;
         kept = ap (λ (q : ReceiveQueue). q.items) o.takes.leaves;
         credit = omega (arith, left, few, o.counted);
         ended = ap (λ (q : ReceiveQueue). q.ended) o.takes.leaves;
@@ -78,9 +78,9 @@ module _ (old new : ReceiveQueue) (items : TypedItems) (since : ℕ) (before aft
   pub record KnownOf (r : Result ReaderSaid OutOfMemory) : Type 0 where
     pub takes : IfOk r (λ said. Takes old new before after false said.answer)
     pub record_is : IfOk r (λ said. said ≡ reader_record before after false said.answer)
-    pub counted : OnOk r (after.taken ≡ length (first_lent (scalars_of before.payload) before.source after.taken))
+    pub counted : OnOk r (after.taken ≡ length (first_lent (item_type before.payload) before.source after.taken))
     pub most : OnOk r (after.taken ≤ items_lent before.source)
-    pub next : OnOk r (after.bad ≡ true → IsBadNext (scalars_of before.payload) before.source after.taken)
+    pub next : OnOk r (after.bad ≡ true → IsBadNext (item_type before.payload) before.source after.taken)
     pub err : OnErr r (new ≡ old)
     pub source : before.source ≡ Listed items
     pub since_is : before.since ≡ since

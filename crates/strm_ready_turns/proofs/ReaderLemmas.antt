@@ -2,7 +2,7 @@
 use Rattle.std.proofs.Common.{◌≡◌, ◌≢◌, ℕ, ◌-◌, ◌≤◌, min, Bool, true, false, List, [], ◌++◌, length, drop, Some, Result, Ok, Err, refl, sym, ap, subst, ◌∙◌, arith}
 use Rattle.std.proofs.lemmas.List.{append-nil}
 use Rattle.std.specs.Prelude.{IfOk, OnErr}
-use Rattle.strm_codes.specs.Layout.{scalars_of}
+use Rattle.strm_codes.specs.Layout.{item_type}
 use Rattle.strm_codes.specs.declared.counts.OutOfMemory.{OutOfMemory}
 use Rattle.strm_codes.specs.declared.payloads.Payload.{Payload}
 use Rattle.strm_memory.proofs.GoodLemmas.{length-good_items}
@@ -38,11 +38,11 @@ module _ (old new : ReceiveQueue) (bytes : List ℕ) (from offered since : ℕ) 
   answer_is = ap (λ (s : ReaderSaid). s.answer) t.record_is
 
   -- it takes what it was granted
-  pub good_granted : said.taken ≡ length (items_in (scalars_of old.payload) bytes from said.taken) → TakesGranted old new
+  pub good_granted : said.taken ≡ length (items_in (item_type old.payload) bytes from said.taken) → TakesGranted old new
   good_granted counted =
-      let few = length-good_items (scalars_of old.payload) (drop from bytes) (min offered old.credit) in
+      let few = length-good_items (item_type old.payload) (drop from bytes) (min offered old.credit) in
       record {
-        items = items_in (scalars_of old.payload) bytes from said.taken;
+        items = items_in (item_type old.payload) bytes from said.taken;
         kept = ap (λ (q : ReceiveQueue). q.items) t.leaves;
         credit = rw t.leaves (omega (arith, counted, t.taken, few));
         ended = ap (λ (q : ReceiveQueue). q.ended) t.leaves;
@@ -63,7 +63,7 @@ module _ (old new : ReceiveQueue) (bytes : List ℕ) (from offered since : ℕ) 
   -- what is known of it
   pub record TakesOf (r : Result ReaderSaid OutOfMemory) : Type 0 where
     pub takes : IfOk r (TakesGood old new bytes from offered since finish)
-    pub counted : IfOk r (λ said. said.taken ≡ length (items_in (scalars_of old.payload) bytes from said.taken))
+    pub counted : IfOk r (λ said. said.taken ≡ length (items_in (item_type old.payload) bytes from said.taken))
     pub most : IfOk r (λ said. said.taken ≤ offered)
     pub err : OnErr r (new ≡ old)
 
@@ -87,8 +87,8 @@ module _ (guests : List Guest) (payload : Payload) (write : Operation) (old new 
 
   good_polls : (said : ReaderSaid) → old.payload ≡ payload → TakesOfWrite (Ok said) → PollsForWrite said
   good_polls said p t =
-      let lies : items_in (scalars_of old.payload) (memory_in guests write.guest) (region_address payload write) said.taken ≡ lifted_items guests payload write said.taken =
-      ap (λ (q : Payload). items_in (scalars_of q) (memory_in guests write.guest) (region_address payload write) said.taken) p ∙ lifted_region guests payload write said.taken t.most in
+      let lies : items_in (item_type old.payload) (memory_in guests write.guest) (region_address payload write) said.taken ≡ lifted_items guests payload write said.taken =
+      ap (λ (q : Payload). items_in (item_type q) (memory_in guests write.guest) (region_address payload write) said.taken) p ∙ lifted_region guests payload write said.taken t.most in
       let fault = taking_is_no_fault old.kind old.ended (old.credit - said.taken) write.left said.taken write.asked in
       let offered : said.offered ≡ write.left = ap (λ (s : ReaderSaid). s.offered) t.takes.record_is in
       record {

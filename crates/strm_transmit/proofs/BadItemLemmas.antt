@@ -1,19 +1,18 @@
 -- A read or write that stops at an item that is none: nothing changes but that the store may be trapped, and
 -- whose item it is.
-use Rattle.std.proofs.Common.{◌≡◌, ℕ, ℤ, ◌+◌, ◌*◌, ◌<◌, ◌≤◌, min, List, [], set, drop, length, true, false, inl, inr, Option, Some, None, Result, Ok, Err, refl, sym, ap, ◌∙◌, subst, arith}
+use Rattle.std.proofs.Common.{◌≡◌, ℕ, ℤ, ◌+◌, ◌*◌, ◌<◌, ◌≤◌, min, List, set, drop, length, true, false, inl, inr, Option, Some, None, Result, Ok, Err, refl, sym, ap, ◌∙◌, subst, arith}
 use Rattle.std.specs.Prelude.{IsSome, IsNone, OnErr, slice_get}
 use Rattle.std.proofs.lemmas.Bool.{cond_both, cases_lt}
 use Rattle.std.proofs.lemmas.List.{set-get_or}
 use Rattle.std.proofs.lemmas.Option.{slice_get_past}
 use Rattle.strm_codes.specs.declared.codes.ReturnCode.{ReturnCode}
 use Rattle.strm_codes.specs.declared.refusals.Refusal.{Refusal}
-use Rattle.strm_codes.specs.Layout.{scalars_of, item_size}
+use Rattle.strm_codes.specs.Layout.{item_type}
+use Rattle.strm_codes.specs.ItemTypes.{item_size, ItemType}
 use Rattle.strm_codes.specs.declared.payloads.Payload.{Payload}
-use Rattle.strm_codes.specs.declared.payloads.Payload.TheVariants.{Nothing}
-use Rattle.strm_memory.proofs.RegionLemmas.{items-number_or_none}
-use Rattle.strm_codes.specs.declared.scalars.Scalar.{Scalar}
 use Rattle.strm_memory.specs.declared.copies.BadItem.{BadItem as Bad}
-use Rattle.strm_memory.specs.Items.{decode, items, items_at, good_items, IsFirstBadItem}
+use Rattle.strm_memory.specs.Items.{items, items_at, good_items, IsFirstBadItem}
+use Rattle.strm_memory.specs.Loads.{decode}
 use Rattle.strm_memory.proofs.GoodLemmas.{good_take, good_counted, behind_good, past_none}
 use Rattle.strm_machine.specs.State.{State, Guest, no_stream, stream_at, is_gone, is_held}
 use Rattle.strm_machine.specs.Acts.{act_of}
@@ -39,7 +38,7 @@ use Rattle.strm_machine.specs.declared.streams.Owner.TheVariants.{Held}
 use Rattle.strm_machine.specs.declared.streams.Side.{Side}
 use Rattle.strm_machine.specs.declared.streams.Side.TheVariants.{Writing, Reading}
 use Rattle.strm_machine.specs.declared.streams.Stream.{Stream}
-use Rattle.strm_machine.proofs.CarryLemmas.{no_scalars}
+use Rattle.strm_memory.proofs.NoByteLemmas.{some_items-no_bytes}
 use Rattle.strm_machine.proofs.HeldLemmas.{StateIsHeld}
 use Rattle.strm_machine.proofs.ReactionLemmas.{reaction-trapped, reaction-refused, refusal-on_end}
 use Rattle.strm_machine.proofs.Shapes.{Operates}
@@ -191,7 +190,7 @@ mine_of end address count = begun end.guest address (items_asked end.ty count)
 -- ## The first that is none
 
 -- what is counted tells which it is, or that there is none
-module _ (bytes : List ℕ) (ss : List Scalar) (count place : ℕ) (e : place ≡ length (good_items ss bytes count)) where
+module _ (bytes : List ℕ) (ss : ItemType) (count place : ℕ) (e : place ≡ length (good_items ss bytes count)) where
   pub first_is : place < count → IsFirstBadItem ss bytes count place
   first_is l =
       let good = good_take ss bytes count place (omega (arith, e)) in
@@ -231,7 +230,7 @@ module _ (state : State) (side : Side) (end : NamedEnd) (address count : ℕ) (s
 -- ## The item itself
 
 -- one item before which all are items, and that is none, is the first such of all
-bad_before : (ss : List Scalar) (bytes : List ℕ) (count place : ℕ) → IsFirstBadItem ss bytes count place → (other : ℕ) → place < other → (o : Option (List (List ℤ))) → items ss bytes other ≡ o → IsSome o → ⊥
+bad_before : (ss : ItemType) (bytes : List ℕ) (count place : ℕ) → IsFirstBadItem ss bytes count place → (other : ℕ) → place < other → (o : Option (List (List ℤ))) → items ss bytes other ≡ o → IsSome o → ⊥
 bad_before ss bytes count place h other l None e s = cc
 bad_before ss bytes count place h other l (Some xs) e s =
     let all : other ≤ length (good_items ss bytes other) = good_counted ss bytes other other xs (omega arith) e in
@@ -245,7 +244,7 @@ bad_before ss bytes count place h other l (Some xs) e s =
     none_is (Some x) k = cc
 
 -- so there is one such only
-pub first_once : (ss : List Scalar) (bytes : List ℕ) (count one other : ℕ) → IsFirstBadItem ss bytes count one → IsFirstBadItem ss bytes count other → one ≡ other
+pub first_once : (ss : ItemType) (bytes : List ℕ) (count one other : ℕ) → IsFirstBadItem ss bytes count one → IsFirstBadItem ss bytes count other → one ≡ other
 first_once ss bytes count one other h k =
     elim (cases_lt one other) [
       | inl l ↦ absurd (bad_before ss bytes count one h other l (items ss bytes other) refl k.before)
@@ -256,7 +255,7 @@ first_once ss bytes count one other h k =
     ]
 
 -- and all together are none
-pub first-none : (ss : List Scalar) (bytes : List ℕ) (count place : ℕ) → IsFirstBadItem ss bytes count place → items ss bytes count ≡ None
+pub first-none : (ss : ItemType) (bytes : List ℕ) (count place : ℕ) → IsFirstBadItem ss bytes count place → items ss bytes count ≡ None
 first-none ss bytes count place h = by (items ss bytes count) refl
   where
     by : (o : Option (List (List ℤ))) → items ss bytes count ≡ o → o ≡ None
@@ -270,10 +269,9 @@ item-has_bad state step item h = record { asked = h.asked; bad = first-none _ _ 
 -- ## What the call finds
 
 -- items that take no bytes are all there
-pub nothing_there : (payload : Payload) (memory : List ℕ) (from count : ℕ) → item_size (scalars_of payload) ≡ 0 → IsSome (items_at (scalars_of payload) memory from count)
+pub nothing_there : (payload : Payload) (memory : List ℕ) (from count : ℕ) → item_size (item_type payload) ≡ 0 → IsSome (items_at (item_type payload) memory from count)
 nothing_there payload memory from count e =
-    let none : scalars_of payload ≡ [] = no_scalars (scalars_of payload) e in
-    rw none (items-number_or_none Nothing (drop from memory) count refl)
+    some_items-no_bytes (item_type payload) (drop from memory) count e
 
 -- what the call looks up: the stream and how many items, the stream itself, the operation across and its own, which of
 -- them writes, how many items would move, the first of these that is none, and who has the write end

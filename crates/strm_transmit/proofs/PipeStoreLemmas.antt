@@ -68,11 +68,11 @@ use Rattle.strm_transmit.proofs.ReadyGuestLemmas.{counted-retold}
 
 -- ## What refuses a pipe
 
-kind-with : (kind : TransmitKind) (payload : Payload) → kind_of (type_with kind payload) ≡ kind
+pub kind-with : (kind : TransmitKind) (payload : Payload) → kind_of (type_with kind payload) ≡ kind
 kind-with kinds.Stream payload = refl
 kind-with kinds.Future payload = refl
 
-payload-with : (kind : TransmitKind) (payload : Payload) → payload_of (type_with kind payload) ≡ payload
+pub payload-with : (kind : TransmitKind) (payload : Payload) → payload_of (type_with kind payload) ≡ payload
 payload-with kinds.Stream payload = refl
 payload-with kinds.Future payload = refl
 

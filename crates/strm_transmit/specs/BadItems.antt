@@ -1,8 +1,8 @@
 -- A read or write that leaves a store as it was where an item that would move is none, and whose item
 -- that is.
--- Canonical ABI, `load` of a char, which traps. Ours: that the store is as it was, and what is told.
+-- Canonical ABI, `load` of a char and of a variant, which trap. Ours: that the store is as it was, and what is told.
 use Rattle.std.specs.Prelude.{◌≡◌, ℕ, ◌+◌, true, if◌then◌else◌, min, drop, Option, Some, None, Result, Err}
-use Rattle.strm_codes.specs.Layout.{scalars_of}
+use Rattle.strm_codes.specs.Layout.{item_type}
 use Rattle.strm_codes.specs.declared.payloads.Payload.{Payload}
 use Rattle.strm_memory.specs.Items.{IsFirstBadItem}
 use Rattle.strm_machine.specs.State.{State, memory_in, stream_at, is_gone}
@@ -55,7 +55,7 @@ open_across side stream =
 -- of so many items of a write that are next, the one of this place among them is the first that is none
 abbrev pub IsFirstBad : State → Payload → Operation → ℕ → ℕ → Type 0
 IsFirstBad state payload write count place =
-    IsFirstBadItem (scalars_of payload) (drop write.address (memory_in state.guests write.guest)) count place
+    IsFirstBadItem (item_type payload) (drop write.address (memory_in state.guests write.guest)) count place
 
 -- an item that is none, at which a step stops: the first such of those that the step asks to move. The guest
 -- that has the write end is told, its handle of that end, and the item's place among all items of the

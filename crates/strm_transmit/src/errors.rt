@@ -24,9 +24,9 @@ pub enum StoreError {
     /// This host end broke its rules. The store is trapped from now on.
     #[error("{end} broke its rules")]
     HostBroke { end: HostEnd },
-    /// An item that was asked for on this stream is no Unicode scalar value. None was moved, and the
-    /// store is trapped from now on.
-    #[error("an item of stream {stream} is no Unicode scalar value")]
+    /// An item that was asked for on this stream is none of its type. None was moved, and the store is
+    /// trapped from now on.
+    #[error("an item of stream {stream} is none of its type")]
     BadItem { stream: u32 },
     /// An earlier call trapped the store. Nothing has changed.
     #[error("the store is trapped")]

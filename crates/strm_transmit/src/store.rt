@@ -78,7 +78,7 @@ pub(crate) fn number_type(ty: TransmitIndex) -> Option<TransmitIndex>
     let Payload::One(scalar) = ty.payload() else {
         return None;
     };
-    if !scalar.is_whole_number() {
+    if !scalar.is_numeric() {
         return None;
     }
     Some(type_with(ty.kind(), Payload::One(scalar)))

@@ -4,7 +4,8 @@
 //! Meaning: `Feeding.antt`. Ours.
 
 ghost use Rattle.std.specs.Prelude.{◌*◌, ◌≤◌, length};
-ghost use Rattle.strm_codes.specs.Layout.{scalars_of, item_size};
+ghost use Rattle.strm_codes.specs.Layout.{item_type};
+ghost use Rattle.strm_codes.specs.ItemTypes.{item_size};
 ghost use Rattle.strm_host_store.specs.HostStates.{reader_of};
 ghost use Rattle.strm_host_store.specs.Feeding.{FeedsWriter, EndsWriter, GrantsReader, CollectsOf, FinishesReader};
 
@@ -54,7 +55,7 @@ impl HostStore {
     /// Writes the first items that a host reader keeps over bytes from their front on, at most so many, and gives them
     /// up: how many. Padding stays as it was. `reader_payload` tells how many bytes an item takes.
     pub fn collect(&mut self, reader: u32, items: &mut [u8], most: u32) -> Result<u32, UnknownHost>
-        requires { item_size (scalars_of (reader_of self.old reader).payload) * most
+        requires { item_size (item_type (reader_of self.old reader).payload) * most
             ≤ length items.old }
         ensures collects { CollectsOf self.old self.new reader items.old items.new most result }
     {

@@ -1,10 +1,11 @@
 //! Whose the item is at which a read or write stops, and which of that write's items it is.
 //!
-//! Meaning: `BadItems.antt`, and `Asked.antt` of `strm_machine`. Source: Canonical ABI, `load` of a char,
-//! which traps. Ours: that it is asked, by which nothing changes.
+//! Meaning: `BadItems.antt`, and `Asked.antt` of `strm_machine`. Source: Canonical ABI, `load` of a char
+//! and of a variant, which trap. Ours: that it is asked, by which nothing changes.
 
 ghost use Rattle.std.specs.Prelude.{◌≡◌, ◌+◌, ◌*◌, ◌^◌, ◌<◌, ◌≤◌, ℕ, true, length, drop, min, IfSome, IsNone, IsSome};
-ghost use Rattle.strm_codes.specs.Layout.{scalars_of, item_size};
+ghost use Rattle.strm_codes.specs.Layout.{item_type};
+ghost use Rattle.strm_codes.specs.ItemTypes.{item_size};
 ghost use Rattle.strm_memory.specs.Items.{items_at, IsFirstBadItem};
 ghost use Rattle.strm_machine.specs.Asked.{HasBadItem};
 ghost use Rattle.strm_machine.specs.Soundness.{sizes_of, IsPlaced};
@@ -26,7 +27,8 @@ use strm_machine::acts::NamedEnd;
 use strm_machine::streams::{Operation, Owner, Side};
 use strm_memory::good_items::count_good_items;
 
-/// An item that is no Unicode scalar value, and who writes it.
+/// An item with a char that is no Unicode scalar value, or the number of a case that there is not, and
+/// who writes it.
 #[derive(Clone, Copy, Debug, PartialEq, Eq)]
 pub struct BadItem {
     /// The guest that has the write end.
@@ -83,11 +85,11 @@ fn writer(stream: &Channel) -> (u32, u32)
 
 // Which of so many items that lie from a place on is the first that is none.
 fn first_bad(bytes: &[u8], from: usize, payload: &Payload, count: usize) -> Option<u32>
-    requires holds { from + item_size (scalars_of payload.now) * count ≤ length bytes.now }
+    requires holds { from + item_size (item_type payload.now) * count ≤ length bytes.now }
     requires few { count < 2 ^ 28 }
     ensures some { IfSome result (λ place.
-        IsFirstBadItem (scalars_of payload.now) (drop from bytes.now) count place) }
-    ensures none { IsNone result → IsSome (items_at (scalars_of payload.now) bytes.now from count) }
+        IsFirstBadItem (item_type payload.now) (drop from bytes.now) count place) }
+    ensures none { IsNone result → IsSome (items_at (item_type payload.now) bytes.now from count) }
 {
     let place = count_good_items(bytes, from, payload, count);
     if place < count {
@@ -113,7 +115,7 @@ impl Store {
         requires some { 0 < count }
         ensures some { IfSome result (λ place.
             IsFirstBad self.now payload.now write.now count place) }
-        ensures none { IsNone result → IsSome (items_at (scalars_of payload.now)
+        ensures none { IsNone result → IsSome (items_at (item_type payload.now)
             (memory_in self.now.guests write.now.guest) write.now.address count) }
     {
         if payload.size() == 0 {

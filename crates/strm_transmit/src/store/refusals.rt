@@ -88,8 +88,8 @@ fn is_number_or_none(payload: Payload) -> bool
 {
     match payload {
         Payload::Nothing => true,
-        Payload::One(scalar) => scalar.is_whole_number(),
-        Payload::Tuple(_) => false,
+        Payload::One(scalar) => scalar.is_numeric(),
+        Payload::Tuple(_) | Payload::Compound(_) => false,
     }
 }
 
