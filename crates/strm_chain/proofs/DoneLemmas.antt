@@ -17,7 +17,8 @@ use Rattle.strm_codes.specs.declared.payloads.Payload.TheVariants.{Nothing as No
 use Rattle.strm_codes.specs.declared.scalars.Scalar.TheVariants.{U8}
 use Rattle.strm_codes.specs.Codes.{count_of_code, completed_code}
 use Rattle.strm_codes.specs.Counts.{count_limit}
-use Rattle.strm_codes.specs.Layout.{scalars_of, item_size}
+use Rattle.strm_codes.specs.Layout.{item_type}
+use Rattle.strm_codes.specs.ItemTypes.{item_size}
 use Rattle.strm_codes.specs.Sameness.{same_payload}
 use Rattle.strm_codes.proofs.SamenessLemmas.{Decides-same_payload}
 use Rattle.strm_events.specs.Reports.{report_of, operation_report, idle_report, outcome_code}
@@ -92,10 +93,10 @@ bytes_free state g address count there inside =
 
 region_free : (state : State) (g address count : ℕ) → g < length state.guests → address + count ≤ length (memory_in state.guests g) → count ≤ 64 → names_misaligned bytes_type address count ≡ false → first_of (region_reasons state g bytes_type address count) ≡ None
 region_free state g address count there inside few aligned =
-    let one : item_size (scalars_of (One U8)) * count ≡ count = omega arith in
+    let one : item_size (item_type (One U8)) * count ≡ count = omega arith in
     skip _ _ _ (not_le-false (length state.guests) g there)
     (skip _ _ _ (not_le-false count_limit count (omega (arith, few)))
-    (skip _ _ _ (not_out (length (memory_in state.guests g)) (scalars_of (One U8)) address count (λ p q. omega (arith, inside, one)))
+    (skip _ _ _ (not_out (length (memory_in state.guests g)) (item_type (One U8)) address count (λ p q. omega (arith, inside, one)))
     (skip _ _ _ aligned refl)))
 
 typed_is : (s : ℕ) (side : Side) (end : TransmitEnd) (b : Bool) → b ≡ true → is_end s side (Ok (end.rep, end.state)) ≡ true → is_end s side (cond b (Ok end) (Err errors.WrongType) >>= (λ e. Ok (e.rep, e.state))) ≡ true
@@ -291,7 +292,7 @@ map_some f (Some x) e = refl
 -- bytes are always items
 bytes_carried : (guests : List Guest) (write read : Operation) (n : ℕ) → IsSome (carried guests (One U8) write read n)
 bytes_carried guests write read n =
-    map_some _ (items_at (scalars_of (One U8)) (memory_in guests write.guest) write.address n)
+    map_some _ (items_at (item_type (One U8)) (memory_in guests write.guest) write.address n)
     (items-number_or_none (One U8) (drop write.address (memory_in guests write.guest)) n refl)
 
 moves_code : (side : Side) (guests : List Guest) (stream : Stream) (mine theirs : Operation) (n : ℕ) (after : Option (List Guest)) → stream.kind ≡ AStream → IsSome after → Codes IsWriteCode (moves side guests stream mine theirs n after)

@@ -7,7 +7,7 @@ use Rattle.std.proofs.lemmas.List.{length-set, get_or-set_same, get_or-set_other
 use Rattle.strm_codes.specs.Codes.{count_of_code}
 use Rattle.strm_codes.specs.declared.codes.ReturnCode.{ReturnCode}
 use Rattle.strm_codes.specs.declared.codes.ReturnCode.TheVariants as codes
-use Rattle.strm_codes.specs.Layout.{scalars_of}
+use Rattle.strm_codes.specs.Layout.{item_type}
 use Rattle.strm_codes.specs.declared.payloads.Payload.TheVariants.{One}
 use Rattle.strm_codes.specs.declared.scalars.Scalar.TheVariants.{U8}
 use Rattle.strm_memory.specs.Region.{has_bytes}
@@ -165,7 +165,7 @@ module _ (g : ℕ) (w : Worker) (p : ChainPlay) (x : IsGuest g w p) (f : IsChain
       read_free : refusal p.state (OnEnd ARead (end_named_by g bytes_type handle) (Operate 0 count)) ≡ None
       read_free =
           operate_free p.state (g - 1) ARead g handle f.unhosted.sound (read_end handle has) 0 count (omega (arith, size, counts.most)) counts.most
-          (and_false (has_bytes (scalars_of (One U8)) count) _ refl)
+          (and_false (has_bytes (item_type (One U8)) count) _ refl)
           (record {
             idle = (reads_here handle has).reads.idle (apart_doing w Nothing Reading rests (λ e. cc));
             untold = (reads_here handle has).reads.untold unclosed;
@@ -196,7 +196,7 @@ module _ (g : ℕ) (w : Worker) (p : ChainPlay) (x : IsGuest g w p) (f : IsChain
       write_free : refusal p.state (OnEnd AWrite (end_named_by g bytes_type handle) (Operate 64 count)) ≡ None
       write_free =
           operate_free p.state g AWrite g handle f.unhosted.sound (write_end handle has (apart_doing w Nothing Ended rests (λ e. cc))) 64 count (omega (arith, size, counts.most)) counts.most
-          (and_false (has_bytes (scalars_of (One U8)) count) _ refl)
+          (and_false (has_bytes (item_type (One U8)) count) _ refl)
           (record {
             idle = (writes_here handle has).writes.idle (apart_doing w Nothing Writing rests (λ e. cc));
             untold = (writes_here handle has).writes.untold;

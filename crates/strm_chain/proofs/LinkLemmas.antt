@@ -4,8 +4,8 @@ use Rattle.std.proofs.lemmas.List.{take-take, drop-take, drop-drop, take-append-
 use Rattle.strm_memory.specs.Bytes.{bytes_at}
 use Rattle.strm_machine.specs.Moments.{decoded}
 use Rattle.strm_machine.specs.declared.streams.Operation.{Operation}
-use Rattle.strm_codes.specs.declared.scalars.Scalar.TheVariants.{U8}
-use Rattle.strm_memory.specs.Items.{decode_from}
+use Rattle.strm_codes.specs.Layout.{byte_type}
+use Rattle.strm_memory.proofs.AppendLemmas.{decode-byte}
 use Rattle.strm_chain.specs.declared.stages.Work.{Work}
 use Rattle.strm_chain.specs.Stages.{work_done, work_left}
 use Rattle.strm_chain.proofs.StageLemmas.{work_left-append, work_done-append}
@@ -14,13 +14,12 @@ use Rattle.strm_chain.specs.Linking.{OffersWrite, Sends, HoldsRead, Takes, Arriv
 
 -- ## Bytes of a memory as items
 
-pub decoded-bytes : (bytes : List ℕ) (n : ℕ) → n ≤ length bytes → decoded (U8 ∷ []) bytes n ≡ as_items (take n bytes)
-unfolding decoded decode_from
+pub decoded-bytes : (bytes : List ℕ) (n : ℕ) → n ≤ length bytes → decoded byte_type bytes n ≡ as_items (take n bytes)
+unfolding decoded
 decoded-bytes bytes zero h = refl
 decoded-bytes [] (suc n) h = absurd (omega arith)
 decoded-bytes (b ∷ bytes) (suc n) h =
-    let z : b + 0 ≡ b = omega arith in
-    rw (decoded-bytes bytes n (omega (arith, h)), z) refl
+    rw (decode-byte b bytes, decoded-bytes bytes n (omega (arith, h))) refl
 
 -- ## Fronts of lists
 
@@ -43,7 +42,7 @@ as_items-append a b = map-append (λ x. Some (pos x ∷ [])) a b
 -- ## A write hands items over
 
 -- the next items of a write are the next bytes that its guest has put out
-pub offers_next : (g at sent n : ℕ) (made memory : List ℕ) (o : Operation) → OffersWrite g at sent made memory o → n ≤ o.left → decoded (U8 ∷ []) (drop o.address memory) n ≡ as_items (take n (drop (sent + o.moved) made))
+pub offers_next : (g at sent n : ℕ) (made memory : List ℕ) (o : Operation) → OffersWrite g at sent made memory o → n ≤ o.left → decoded byte_type (drop o.address memory) n ≡ as_items (take n (drop (sent + o.moved) made))
 offers_next g at sent n made memory o h l =
     let m = o.moved in
     let long : n ≤ length (drop o.address memory) = rw (h.begun.place, length-drop (at + m) memory) (omega (arith, l, h.inside, h.begun.whole)) in
@@ -63,7 +62,7 @@ front_goes_on sent m n made received got e f =
 
 -- the write waits on, with n more items moved
 module _ (g at sent n : ℕ) (made memory : List ℕ) (o p : Operation) (received got : List (Option (List ℤ))) where
-  pub sends_on : Sends g at sent made memory (Some o) received → p.guest ≡ o.guest → p.address ≡ o.address + 1 * n → p.moved ≡ o.moved + n → p.left + n ≡ o.left → got ≡ decoded (U8 ∷ []) (drop o.address memory) n → Sends g at sent made memory (Some p) (received ++ got)
+  pub sends_on : Sends g at sent made memory (Some o) received → p.guest ≡ o.guest → p.address ≡ o.address + 1 * n → p.moved ≡ o.moved + n → p.left + n ≡ o.left → got ≡ decoded byte_type (drop o.address memory) n → Sends g at sent made memory (Some p) (received ++ got)
   sends_on h guest address moved rest is =
       let f = h.offers in
       let l : n ≤ o.left = omega (arith, rest) in
@@ -95,7 +94,7 @@ sends_told g at sent k made memory o received h e = record {
 -- a write is begun on bytes that were put where it writes from, and has moved n of them
 module _ (g at sent count n : ℕ) (made memory : List ℕ) (p : Operation) (received got : List (Option (List ℤ)))
     (h : Sends g at sent made memory None received) (lies : bytes_at memory at count ≡ take count (drop sent made)) where
-  pub sends_begun : sent + count ≤ length made → at + count ≤ length memory → p.guest ≡ g → p.address ≡ at + 1 * n → p.moved ≡ n → n + p.left ≡ count → got ≡ decoded (U8 ∷ []) (drop at memory) n → Sends g at sent made memory (Some p) (received ++ got)
+  pub sends_begun : sent + count ≤ length made → at + count ≤ length memory → p.guest ≡ g → p.address ≡ at + 1 * n → p.moved ≡ n → n + p.left ≡ count → got ≡ decoded byte_type (drop at memory) n → Sends g at sent made memory (Some p) (received ++ got)
   sends_begun within inside guest address moved rest is =
       let zero_front : received ≡ as_items (take (sent + 0) made) = h.front in
       let next = decoded-bytes (drop at memory) n (rw (length-drop at memory) (omega (arith, rest, inside))) ∙ ap as_items (parts_agree count 0 n (drop at memory) (drop sent made) (omega (arith, rest)) lies) in
@@ -114,7 +113,7 @@ module _ (g at sent count n : ℕ) (made memory : List ℕ) (p : Operation) (rec
 
 -- a write is begun and has its report at once, of k items
 module _ (g at sent count k : ℕ) (made memory : List ℕ) (received got : List (Option (List ℤ))) where
-  pub sends_served : Sends g at sent made memory None received → bytes_at memory at count ≡ take count (drop sent made) → sent + count ≤ length made → at + count ≤ length memory → k ≤ count → got ≡ decoded (U8 ∷ []) (drop at memory) k → Sends g at (sent + k) made memory None (received ++ got)
+  pub sends_served : Sends g at sent made memory None received → bytes_at memory at count ≡ take count (drop sent made) → sent + count ≤ length made → at + count ≤ length memory → k ≤ count → got ≡ decoded byte_type (drop at memory) k → Sends g at (sent + k) made memory None (received ++ got)
   sends_served h lies within inside l is =
       let next = decoded-bytes (drop at memory) k (rw (length-drop at memory) (omega (arith, l, inside))) ∙ ap as_items (parts_agree count 0 k (drop at memory) (drop sent made) (omega (arith, l)) lies) in
       record {
@@ -129,7 +128,7 @@ module _ (g at sent count k : ℕ) (made memory : List ℕ) (received got : List
 -- what a read has moved lies where it reads to, and the items that it moves next lie behind it
 module _ (g at n : ℕ) (memory after : List ℕ) (o p : Operation) (rest got : List (Option (List ℤ)))
     (h : HoldsRead g at memory o rest) where
-  pub holds_on : p.guest ≡ o.guest → p.address ≡ o.address + 1 * n → p.moved ≡ o.moved + n → p.left + n ≡ o.left → bytes_at after at o.moved ≡ bytes_at memory at o.moved → length after ≡ length memory → got ≡ decoded (U8 ∷ []) (drop o.address after) n → HoldsRead g at after p (rest ++ got)
+  pub holds_on : p.guest ≡ o.guest → p.address ≡ o.address + 1 * n → p.moved ≡ o.moved + n → p.left + n ≡ o.left → bytes_at after at o.moved ≡ bytes_at memory at o.moved → length after ≡ length memory → got ≡ decoded byte_type (drop o.address after) n → HoldsRead g at after p (rest ++ got)
   holds_on guest address moved work_left stays size is =
       let m = o.moved in
       let inside : o.address + n ≤ length after = omega (arith, size, work_left, h.inside, h.begun.place, h.begun.whole) in
@@ -154,7 +153,7 @@ module _ (g at n : ℕ) (memory after : List ℕ) (o p : Operation) (rest got : 
       }
 
 -- a read is begun, and has moved n items
-pub holds_begun : (g at count n : ℕ) (after : List ℕ) (p : Operation) (got : List (Option (List ℤ))) → p.guest ≡ g → p.address ≡ at + 1 * n → p.moved ≡ n → n + p.left ≡ count → at + count ≤ length after → count ≤ 64 → got ≡ decoded (U8 ∷ []) (drop at after) n → HoldsRead g at after p got
+pub holds_begun : (g at count n : ℕ) (after : List ℕ) (p : Operation) (got : List (Option (List ℤ))) → p.guest ≡ g → p.address ≡ at + 1 * n → p.moved ≡ n → n + p.left ≡ count → at + count ≤ length after → count ≤ 64 → got ≡ decoded byte_type (drop at after) n → HoldsRead g at after p got
 holds_begun g at count n after p got guest address moved work_left inside few is = record {
   count = count;
   begun = record { guest = guest; place = omega (arith, address, moved); whole = omega (arith, moved, work_left) };
@@ -173,7 +172,7 @@ arrived_told g at k first work made memory o received t e = record {
 }
 
 -- a read is begun and has its report at once, of k items
-pub arrived_served : (g at k : ℕ) (first work : Work) (made memory after : List ℕ) (received got : List (Option (List ℤ))) → Takes g at first work made memory None received → at + k ≤ length after → got ≡ decoded (U8 ∷ []) (drop at after) k → Arrived at k first work made after (received ++ got)
+pub arrived_served : (g at k : ℕ) (first work : Work) (made memory after : List ℕ) (received got : List (Option (List ℤ))) → Takes g at first work made memory None received → at + k ≤ length after → got ≡ decoded byte_type (drop at after) k → Arrived at k first work made after (received ++ got)
 arrived_served g at k first work made memory after received got t inside is = record {
   taken = t.taken;
   split = ap (λ r. r ++ got) (t.split ∙ ap (λ r. as_items t.taken ++ r) t.holds ∙ append-nil (as_items t.taken))

@@ -1,7 +1,8 @@
 -- What a guest's own reads, writes and events do to its links.
 use Rattle.std.proofs.Common.{◌≡◌, ℕ, ◌+◌, ◌*◌, ◌≤◌, true, ℤ, List, [], ◌∷◌, ◌++◌, length, take, drop, Option, Some, None, refl, sym, ap, ◌∙◌, subst, arith}
 use Rattle.std.proofs.lemmas.List.{append-nil}
-use Rattle.strm_codes.specs.Layout.{scalars_of, item_size}
+use Rattle.strm_codes.specs.Layout.{item_type, byte_type}
+use Rattle.strm_codes.specs.ItemTypes.{item_size}
 use Rattle.strm_codes.specs.declared.codes.ReturnCode.{ReturnCode}
 use Rattle.strm_codes.specs.declared.payloads.Payload.TheVariants.{One}
 use Rattle.strm_codes.specs.declared.scalars.Scalar.TheVariants.{U8}
@@ -89,8 +90,8 @@ module _ (s g at sent : ℕ) (made after : List ℕ) (m : Moment) (got : List (O
     (payload : (stream_at m.before s).payload ≡ One U8)
     (size : length after ≡ length (memory_in m.before.guests g))
     (same : (c : ℕ) → at + c ≤ length (memory_in m.before.guests g) → bytes_at after at c ≡ bytes_at (memory_in m.before.guests g) at c) where
-  brought : (n : ℕ) → got_in s m ≡ items_in_memory (stream_at m.before s).payload m.before.guests g at n → got_in s m ≡ decoded (U8 ∷ []) (drop at (memory_in m.before.guests g)) n
-  brought n e = e ∙ ap (λ ss. decoded (scalars_of ss) (drop at (memory_in m.before.guests g)) n) payload
+  brought : (n : ℕ) → got_in s m ≡ items_in_memory (stream_at m.before s).payload m.before.guests g at n → got_in s m ≡ decoded byte_type (drop at (memory_in m.before.guests g)) n
+  brought n e = e ∙ ap (λ ss. decoded (item_type ss) (drop at (memory_in m.before.guests g)) n) payload
 
   -- a write that waits
   module _ (count n : ℕ) (p : Operation) (x : Opens Writing (scene s Writing m) g at count p n)
@@ -98,7 +99,7 @@ module _ (s g at sent : ℕ) (made after : List ℕ) (m : Moment) (got : List (O
     pub write_opens : bytes_at (memory_in m.before.guests g) at count ≡ take count (drop sent made) → sent + count ≤ length made → at + count ≤ length (memory_in m.before.guests g) → Sends g at sent made after (stream_at m.after s).writer.operation (got ++ got_in s m)
     write_opens lies within inside =
         let memory = memory_in m.before.guests g in
-        let place : p.address ≡ at + 1 * n = x.place ∙ ap (λ ss. at + item_size (scalars_of ss) * n) payload in
+        let place : p.address ≡ at + 1 * n = x.place ∙ ap (λ ss. at + item_size (item_type ss) * n) payload in
         rw x.is
         (sends_in g at sent made memory after (got ++ got_in s m) (Some p)
         (sends_begun g at sent count n made memory p got (got_in s m) h lies within inside x.guest place x.moved x.left (brought n (x.brings refl))) size same)
@@ -142,15 +143,15 @@ event_takes s side m code r reply named = rw (named, reply) refl
 module _ (s g at : ℕ) (first work : Work) (made : List ℕ) (m : Moment) (got : List (Option (List ℤ)))
     (payload : (stream_at m.before s).payload ≡ One U8) where
   -- where the items of a read that is called lie
-  called_there : (end : NamedEnd) (count n : ℕ) → m.act ≡ OnEnd Reading end (Operate at count) → end.guest ≡ g → is_named s Reading m ≡ true → received s m.after ≡ received s m.before + n → got_in s m ≡ decoded (U8 ∷ []) (drop at (memory_in m.after.guests g)) n
+  called_there : (end : NamedEnd) (count n : ℕ) → m.act ≡ OnEnd Reading end (Operate at count) → end.guest ≡ g → is_named s Reading m ≡ true → received s m.after ≡ received s m.before + n → got_in s m ≡ decoded byte_type (drop at (memory_in m.after.guests g)) n
   called_there end count n act guest named more =
       let pay = (stream_at m.before s).payload in
       let there : target s m ≡ record { guest = end.guest; address = at } = rw (named, act) refl in
       let count_is : rise s m ≡ n = omega (arith, more) in
       ap (λ p. items_in_memory pay m.after.guests p.guest p.address (rise s m)) there
       ∙ ap (λ k. items_in_memory pay m.after.guests end.guest at k) count_is
-      ∙ ap (λ ss. decoded (scalars_of ss) (drop at (memory_in m.after.guests end.guest)) n) payload
-      ∙ ap (λ k. decoded (U8 ∷ []) (drop at (memory_in m.after.guests k)) n) guest
+      ∙ ap (λ ss. decoded (item_type ss) (drop at (memory_in m.after.guests end.guest)) n) payload
+      ∙ ap (λ k. decoded byte_type (drop at (memory_in m.after.guests k)) n) guest
 
   -- a read that waits
   module _ (end : NamedEnd) (count n : ℕ) (p : Operation) (act : m.act ≡ OnEnd Reading end (Operate at count))
@@ -160,7 +161,7 @@ module _ (s g at : ℕ) (first work : Work) (made : List ℕ) (m : Moment) (got 
     read_opens t inside few =
         let after = memory_in m.after.guests g in
         let is = called_there end count n act guest named x.more in
-        let place : p.address ≡ at + 1 * n = x.place ∙ ap (λ ss. at + item_size (scalars_of ss) * n) payload in
+        let place : p.address ≡ at + 1 * n = x.place ∙ ap (λ ss. at + item_size (item_type ss) * n) payload in
         rw x.is
         (record {
           taken = t.taken;

@@ -1,7 +1,8 @@
 -- A step that does not name an end leaves its link as it is, but for the items that move meanwhile.
 use Rattle.std.proofs.Common.{◌≡◌, ℕ, ◌+◌, ◌*◌, ◌≤◌, false, ℤ, List, [], ◌∷◌, ◌++◌, length, drop, Option, Some, None, refl, sym, ap, ◌∙◌, subst, append_assoc, arith}
 use Rattle.std.proofs.lemmas.List.{append-nil}
-use Rattle.strm_codes.specs.Layout.{scalars_of, item_size}
+use Rattle.strm_codes.specs.Layout.{item_type, byte_type}
+use Rattle.strm_codes.specs.ItemTypes.{item_size}
 use Rattle.strm_codes.specs.declared.codes.ReturnCode.{ReturnCode}
 use Rattle.strm_codes.specs.declared.payloads.Payload.TheVariants.{One}
 use Rattle.strm_codes.specs.declared.scalars.Scalar.TheVariants.{U8}
@@ -87,10 +88,10 @@ module _ (s g at sent : ℕ) (made after : List ℕ) (m : Moment) (got : List (O
   unnamed_sends (Going o p n x) h size same =
       let memory = memory_in m.before.guests g in
       let some : Sends g at sent made memory (Some o) got = subst (λ q. Sends g at sent made memory q got) x.was h in
-      let is : got_in s m ≡ decoded (U8 ∷ []) (drop o.address memory) n =
-      x.brings refl ∙ ap (λ ss. decoded (scalars_of ss) (drop o.address (memory_in m.before.guests o.guest)) n) payload
-      ∙ ap (λ k. decoded (U8 ∷ []) (drop o.address (memory_in m.before.guests k)) n) some.offers.begun.guest in
-      let address : p.address ≡ o.address + 1 * n = x.address ∙ ap (λ ss. o.address + item_size (scalars_of ss) * n) payload in
+      let is : got_in s m ≡ decoded byte_type (drop o.address memory) n =
+      x.brings refl ∙ ap (λ ss. decoded (item_type ss) (drop o.address (memory_in m.before.guests o.guest)) n) payload
+      ∙ ap (λ k. decoded byte_type (drop o.address (memory_in m.before.guests k)) n) some.offers.begun.guest in
+      let address : p.address ≡ o.address + 1 * n = x.address ∙ ap (λ ss. o.address + item_size (item_type ss) * n) payload in
       rw x.is
       (sends_in g at sent made memory after (got ++ got_in s m) (Some p)
       (sends_on g at sent n made memory o p got (got_in s m) some x.guest address x.moved x.left is) size same)
@@ -102,15 +103,15 @@ target-unnamed s m e = rw e refl
 
 -- what is received lies where the read that waits reads next
 module _ (s g n : ℕ) (m : Moment) (o : Operation) where
-  received_there : (stream_at m.before s).payload ≡ One U8 → is_named s Reading m ≡ false → (stream_at m.before s).reader.operation ≡ Some o → o.guest ≡ g → received s m.after ≡ received s m.before + n → got_in s m ≡ decoded (U8 ∷ []) (drop o.address (memory_in m.after.guests g)) n
+  received_there : (stream_at m.before s).payload ≡ One U8 → is_named s Reading m ≡ false → (stream_at m.before s).reader.operation ≡ Some o → o.guest ≡ g → received s m.after ≡ received s m.before + n → got_in s m ≡ decoded byte_type (drop o.address (memory_in m.after.guests g)) n
   received_there payload e was guest more =
       let pay = (stream_at m.before s).payload in
       let there = target-unnamed s m e ∙ ap place_of was in
       let count : rise s m ≡ n = omega (arith, more) in
       ap (λ p. items_in_memory pay m.after.guests p.guest p.address (rise s m)) there
       ∙ ap (λ k. items_in_memory pay m.after.guests o.guest o.address k) count
-      ∙ ap (λ ss. decoded (scalars_of ss) (drop o.address (memory_in m.after.guests o.guest)) n) payload
-      ∙ ap (λ k. decoded (U8 ∷ []) (drop o.address (memory_in m.after.guests k)) n) guest
+      ∙ ap (λ ss. decoded (item_type ss) (drop o.address (memory_in m.after.guests o.guest)) n) payload
+      ∙ ap (λ k. decoded byte_type (drop o.address (memory_in m.after.guests k)) n) guest
 
 holds_in : (g at : ℕ) (memory after : List ℕ) (o : Option Operation) (rest : List (Option (List ℤ))) → HoldsIf g at memory o rest → o ≡ None → HoldsIf g at after None rest
 holds_in g at memory after None rest h e = h
@@ -134,7 +135,7 @@ module _ (s g at : ℕ) (first work : Work) (made : List ℕ) (m : Moment) (got 
       let after = memory_in m.after.guests g in
       let h : HoldsRead g at memory o t.rest = subst (λ q. HoldsIf g at memory q t.rest) x.was t.holds in
       let is = received_there s g n m o payload e x.was h.begun.guest x.more in
-      let address : p.address ≡ o.address + 1 * n = x.address ∙ ap (λ ss. o.address + item_size (scalars_of ss) * n) payload in
+      let address : p.address ≡ o.address + 1 * n = x.address ∙ ap (λ ss. o.address + item_size (item_type ss) * n) payload in
       rw x.is
       (record {
         taken = t.taken;

@@ -26,7 +26,7 @@ pub const HOST_FAILED: u8 = 6;
 /// A host end broke its rules.
 pub const HOST_BROKE: u8 = 7;
 
-/// A step asked for an item that is no Unicode scalar value.
+/// A step asked for an item that is none of its type.
 pub const BAD_ITEM: u8 = 8;
 
 /// An allocation was refused. Nothing is written.

@@ -4,6 +4,12 @@ pub mod PlaceLemmas
 pub mod NumberLemmas
 pub mod HexLemmas
 pub mod ReadingLemmas
+pub mod ScalarLemmas
+pub mod TypeWordLemmas
+pub mod TreeLemmas
+pub mod FrontLemmas
+pub mod WrittenLemmas
+pub mod CompoundLemmas
 pub mod TypeLemmas
 pub mod ArgumentLemmas
 pub mod GroupLemmas

@@ -89,9 +89,13 @@ IsWithout-digits (d ∷ ds) e =
     let b : (is_digit d ≡ true) × (all_ascii_digits ds ≡ true) = both_true (is_digit d) (all_ascii_digits ds) e in
     ((λ f. let g : is_digit 32 ≡ true = rw f at b.0 in cc), IsWithout-digits ds b.1)
 
--- a number has no space
+-- a number has digits alone
+pub decimal_digits : (n : ℕ) → n < 2 ^ 32 → all_ascii_digits (decimal n) ≡ true
+decimal_digits n h = digits_decimal own n (omega arith)
+
+-- and no space
 pub IsWithout-decimal : (n : ℕ) → n < 2 ^ 32 → IsWithout 32 (decimal n)
-IsWithout-decimal n h = IsWithout-digits (decimal n) (digits_decimal own n (omega arith))
+IsWithout-decimal n h = IsWithout-digits (decimal n) (decimal_digits n h)
 
 -- a number, digit by digit, to the first space
 

@@ -1,4 +1,4 @@
--- Scalars, payloads and types: what is read is what is written, and the other way round.
+-- Payloads and types: what is read is what is written, and the other way round.
 use Rattle.std.proofs.Common.{◌≡◌, ℕ, zero, suc, ◌<◌, ◌≤◌, List, [], ◌∷◌, ◌++◌, length, map, codes, Bool, true, false, cond, eqb, Option, Some, None, refl, sym, ap, ◌∙◌, arith}
 use Rattle.std.specs.Prelude.{option_and_then}
 use Rattle.std.specs.Str.{bytes_eq}
@@ -8,54 +8,22 @@ use Rattle.std.proofs.lemmas.Bool.{eqb-true}
 use Rattle.std.proofs.lemmas.Option.{option_and_then_some, same_Some, none-some}
 use Rattle.std.proofs.lemmas.Slice.Eq.{bytes_eq-Decides}
 use Rattle.strm_codes.specs.declared.scalars.Scalar.{Scalar}
-use Rattle.strm_codes.specs.declared.scalars.Scalar.TheVariants.{Bool as Flag, S8, U8, S16, U16, S32, U32, S64, U64, Char}
+use Rattle.strm_codes.specs.declared.scalars.Scalar.TheVariants.{Bool as Flag, S8, U8, S16, U16, S32, U32, S64, U64, Char, F32, F64}
 use Rattle.strm_codes.specs.declared.payloads.Payload.{Payload}
-use Rattle.strm_codes.specs.declared.payloads.Payload.TheVariants.{Nothing, One, Tuple}
+use Rattle.strm_codes.specs.declared.payloads.Payload.TheVariants.{Nothing, One, Tuple, Compound}
 use Rattle.strm_codes.specs.declared.codes.TransmitIndex.{TransmitIndex}
 use Rattle.strm_codes.specs.declared.codes.TransmitIndex.TheVariants.{Stream, Future}
-use Rattle.strm_lines.specs.Words.{scalar_word, payload_text, type_text}
+use Rattle.strm_codes.specs.declared.nodes.Node.{Node}
+use Rattle.strm_codes.specs.Spellings.{IsCompound}
+use Rattle.strm_lines.specs.Words.{scalar_word, first_text, texts, payload_text, type_text}
 use Rattle.strm_lines.specs.Grammar.{IsBetween, IsPayload, IsType}
-use Rattle.strm_lines.specs.Reading.{cut_at, behind, named_among, early, late, scalar_read, fields_read, shape_read, payload_read, type_read, leading}
+use Rattle.strm_lines.specs.Reading.{cut_at, behind, scalar_read, fields_read, shape_read, compound_read, named_payload, payload_read, type_read, leading}
 use Rattle.strm_lines.proofs.ChoiceLemmas.{chosen}
-use Rattle.strm_lines.proofs.CutLemmas.{IsWithout, IsWithout-append, are_above, without_low, cut_sound, cut_complete, cut-without, option_map_some}
+use Rattle.strm_lines.proofs.CutLemmas.{IsWithout, IsWithout-append, without_low, cut_sound, cut_complete, cut-without, option_map_some}
 use Rattle.strm_lines.proofs.HexLemmas.{with_front, with_front-more, and_then-Some}
+use Rattle.strm_lines.proofs.ScalarLemmas.{scalar_sound, named, IsWithout-scalar}
+use Rattle.strm_lines.proofs.CompoundLemmas.{compound_sound, compound_complete, compound_other, compound_spaceless}
 use Rattle.strm_lines.proofs.ReadingLemmas.{IsReading, IsWord, behind_sound, leading_complete}
-
--- scalars
-
-named_sound : (scalars : List Scalar) (word : List ℕ) (s : Scalar) → named_among scalars word ≡ Some s → scalar_word s ≡ word
-named_sound [] word s e = absurd (none-some s e)
-named_sound (t ∷ scalars) word s e = by_test (bytes_eq word (scalar_word t)) refl (named_sound scalars word s) e
-  where
-    by_test : (b : Bool) → bytes_eq word (scalar_word t) ≡ b → (named_among scalars word ≡ Some s → scalar_word s ≡ word) → cond b (Some t) (named_among scalars word) ≡ Some s → scalar_word s ≡ word
-    by_test true f others e = let same : t ≡ s = same_Some t s e in rw (← same) (sym ((bytes_eq-Decides word (scalar_word t)).0 f))
-    by_test false f others e = others e
-
-scalar_sound : (word : List ℕ) (s : Scalar) → scalar_read word ≡ Some s → scalar_word s ≡ word
-unfolding scalar_read
-scalar_sound word s e = named_sound (early ++ late) word s e
-
--- a scalar's name is read as it, as a payload too, and has letters and digits alone
-record IsNamed (s : Scalar) : Type 0 where
-  read : scalar_read (scalar_word s) ≡ Some s
-  alone : payload_read (scalar_word s) ≡ Some (One s)
-  letters : are_above 44 (scalar_word s) ≡ true
-
-named : (s : Scalar) → IsNamed s
-unfolding scalar_read payload_read behind
-named Flag = record { read = refl; alone = refl; letters = refl }
-named S8 = record { read = refl; alone = refl; letters = refl }
-named U8 = record { read = refl; alone = refl; letters = refl }
-named S16 = record { read = refl; alone = refl; letters = refl }
-named U16 = record { read = refl; alone = refl; letters = refl }
-named S32 = record { read = refl; alone = refl; letters = refl }
-named U32 = record { read = refl; alone = refl; letters = refl }
-named S64 = record { read = refl; alone = refl; letters = refl }
-named U64 = record { read = refl; alone = refl; letters = refl }
-named Char = record { read = refl; alone = refl; letters = refl }
-
-IsWithout-scalar : (c : ℕ) → c ≤ 44 → (s : Scalar) → IsWithout c (scalar_word s)
-IsWithout-scalar c h s = without_low c 44 (scalar_word s) h (named s).letters
 
 -- the fields of a tuple
 
@@ -155,31 +123,67 @@ shape_complete shape h = rw (cut_complete 41 (fields_word shape) [] (IsWithout-f
 
 -- payloads
 
+-- a scalar's name is read as it alone
+scalar_alone : (s : Scalar) → payload_read (scalar_word s) ≡ Some (One s)
+unfolding scalar_read named_payload payload_read behind
+scalar_alone Flag = refl
+scalar_alone S8 = refl
+scalar_alone U8 = refl
+scalar_alone S16 = refl
+scalar_alone U16 = refl
+scalar_alone S32 = refl
+scalar_alone U32 = refl
+scalar_alone S64 = refl
+scalar_alone U64 = refl
+scalar_alone Char = refl
+scalar_alone F32 = refl
+scalar_alone F64 = refl
+
+named_sound : (word : List ℕ) (p : Payload) → named_payload word ≡ Some p → (payload_text p ≡ word) × IsPayload p
+unfolding named_payload
+named_sound word p e = by_scalar (scalar_read word) refl e
+  where
+    by_scalar : (o : Option Scalar) → scalar_read word ≡ o → option_map_or {U = Option Payload} (λ s. Some (One s)) o (option_map Compound (compound_read word)) ≡ Some p → (payload_text p ≡ word) × IsPayload p
+    by_scalar (Some s) f e =
+        let same : One s ≡ p = same_Some (One s) p e in
+        rw (← same) (scalar_sound word s f, tt)
+    by_scalar None f e = option_map_some Compound (compound_read word) p e (λ ns g h. rw (← h) (compound_sound word ns g))
+
 payload_sound : (word : List ℕ) (p : Payload) → payload_read word ≡ Some p → (payload_text p ≡ word) × IsPayload p
 unfolding payload_read
 payload_sound word p e = by_none (bytes_eq word (codes "none")) refl e
   where
-    by_front : (o : Option (List ℕ)) → behind (codes "(") word ≡ o → option_map_or (λ rest. option_map Tuple (shape_read rest)) o (option_map One (scalar_read word)) ≡ Some p → (payload_text p ≡ word) × IsPayload p
-    by_front None f e = option_map_some One (scalar_read word) p e (λ s g h. rw (← h) (scalar_sound word s g, tt))
+    by_front : (o : Option (List ℕ)) → behind (codes "(") word ≡ o → option_map_or (λ rest. option_map Tuple (shape_read rest)) o (named_payload word) ≡ Some p → (payload_text p ≡ word) × IsPayload p
+    by_front None f e = named_sound word p e
     by_front (Some rest) f e =
         option_map_some Tuple (shape_read rest) p e (λ shape g h.
         let r = shape_sound rest shape g in
         rw (← h) (ap (λ w. codes "(" ++ w) r.0 ∙ sym (behind_sound (codes "(") word rest f), r.1))
 
-    by_none : (b : Bool) → bytes_eq word (codes "none") ≡ b → cond b (Some Nothing) (option_map_or (λ rest. option_map Tuple (shape_read rest)) (behind (codes "(") word) (option_map One (scalar_read word))) ≡ Some p → (payload_text p ≡ word) × IsPayload p
+    by_none : (b : Bool) → bytes_eq word (codes "none") ≡ b → cond b (Some Nothing) (option_map_or (λ rest. option_map Tuple (shape_read rest)) (behind (codes "(") word) (named_payload word)) ≡ Some p → (payload_text p ≡ word) × IsPayload p
     by_none true f e = let same : Nothing ≡ p = same_Some Nothing p e in rw (← same) (sym ((bytes_eq-Decides word (codes "none")).0 f), tt)
     by_none false f e = by_front (behind (codes "(") word) refl e
+
+compound_named : (ns : List Node) → IsCompound ns → named_payload (first_text (texts ns)) ≡ Some (Compound ns)
+unfolding named_payload
+compound_named ns h = rw ((compound_other ns h).unnamed, compound_complete ns h) refl
+
+read_compound : (ns : List Node) → IsCompound ns → payload_read (first_text (texts ns)) ≡ Some (Compound ns)
+unfolding payload_read
+read_compound ns h = rw ((compound_other ns h).word, (compound_other ns h).unopened) (compound_named ns h)
 
 payload_complete : (p : Payload) → IsPayload p → payload_read (payload_text p) ≡ Some p
 unfolding payload_read behind
 payload_complete Nothing h = refl
-payload_complete (One s) h = (named s).alone
+payload_complete (One s) h = scalar_alone s
 payload_complete (Tuple shape) h = ap (option_map Tuple) (shape_complete shape h)
+payload_complete (Compound ns) h = read_compound ns h
 
-IsWithout-payload : (p : Payload) → IsWithout 32 (payload_text p)
-IsWithout-payload Nothing = without_low 32 44 (codes "none") (omega arith) refl
-IsWithout-payload (One s) = IsWithout-scalar 32 (omega arith) s
-IsWithout-payload (Tuple shape) =
+IsWithout-payload : (p : Payload) → IsPayload p → IsWithout 32 (payload_text p)
+IsWithout-payload Nothing h = without_low 32 44 (codes "none") (omega arith) refl
+IsWithout-payload (One s) h = IsWithout-scalar 32 (omega arith) s
+IsWithout-payload (Compound ns) h = compound_spaceless ns h
+IsWithout-payload (Tuple shape) h =
     ((λ e. absurd (omega arith)), IsWithout-append 32 (fields_word shape) (codes ")") (IsWithout-fields 32 (omega arith) shape) (without_low 32 40 (codes ")") (omega arith) refl))
 
 -- types
@@ -211,8 +215,8 @@ pub IsReading-type : IsReading type_read type_text IsType
 IsReading-type = record { sound = type_sound; complete = type_complete }
 
 type_spaceless : (ty : TransmitIndex) → IsType ty → IsWithout 32 (type_text ty)
-type_spaceless (Stream p) h = IsWithout-append 32 (codes "stream:") (payload_text p) (without_low 32 44 (codes "stream:") (omega arith) refl) (IsWithout-payload p)
-type_spaceless (Future p) h = IsWithout-append 32 (codes "future:") (payload_text p) (without_low 32 44 (codes "future:") (omega arith) refl) (IsWithout-payload p)
+type_spaceless (Stream p) h = IsWithout-append 32 (codes "stream:") (payload_text p) (without_low 32 44 (codes "stream:") (omega arith) refl) (IsWithout-payload p h)
+type_spaceless (Future p) h = IsWithout-append 32 (codes "future:") (payload_text p) (without_low 32 44 (codes "future:") (omega arith) refl) (IsWithout-payload p h)
 
 pub IsWord-type : IsWord type_text IsType
 IsWord-type = record { spaceless = type_spaceless }

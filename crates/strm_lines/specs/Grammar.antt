@@ -2,8 +2,9 @@
 use Rattle.std.specs.Prelude.{◌≡◌, ℕ, ◌^◌, ◌<◌, ◌≤◌, List, [], ◌∷◌, length, All, codes, decimal}
 use Rattle.std.specs.List.{flat_map, join_with_byte}
 use Rattle.strm_codes.specs.Types.{payload_of}
+use Rattle.strm_codes.specs.Spellings.{IsCompound}
 use Rattle.strm_codes.specs.declared.payloads.Payload.{Payload}
-use Rattle.strm_codes.specs.declared.payloads.Payload.TheVariants.{Tuple}
+use Rattle.strm_codes.specs.declared.payloads.Payload.TheVariants.{Tuple, Compound}
 use Rattle.strm_codes.specs.declared.codes.TransmitIndex.{TransmitIndex}
 use Rattle.strm_codes.specs.declared.codes.TransmitIndex.TheVariants.{Stream, Future}
 use Rattle.strm_machine.specs.declared.steps.Step.{Step}
@@ -131,9 +132,10 @@ pub record AreFed (bytes : List ℕ) : Type 0 where
   pub most : length bytes ≤ 64
   pub each : All (λ b. b < 2 ^ 8) bytes
 
--- a payload that can be spelled: a tuple has 1 to 8 fields
+-- a payload that can be spelled: a tuple has 1 to 8 fields, and a compound is one type
 abbrev pub IsPayload : Payload → Type 0
 IsPayload (Tuple shape) = IsBetween 1 8 (length shape)
+IsPayload (Compound words) = IsCompound words
 IsPayload _ = Unit {0}
 
 -- a type that can be spelled

@@ -1,11 +1,14 @@
 -- How a line is read, word by word: the inverse of `spelling`, as `parse` shows. Ours.
-use Rattle.std.specs.Prelude.{ℕ, zero, suc, ◌+◌, ◌-◌, ◌*◌, ◌%◌, ◌^◌, ◌==◌, ◌&&◌, ◌||◌, not, nat_lt, nat_le, Bool, List, [], ◌∷◌, ◌++◌, length, take, drop, codes, if◌then◌else◌, Option, Some, None, option_and_then}
+use Rattle.std.specs.Prelude.{ℕ, zero, suc, ◌+◌, ◌-◌, ◌*◌, ◌%◌, ◌^◌, ◌==◌, ◌&&◌, ◌||◌, not, nat_lt, nat_le, Bool, true, false, List, [], ◌∷◌, ◌++◌, length, take, drop, codes, slice_set, if◌then◌else◌, Option, Some, None, option_and_then}
 use Rattle.std.specs.Option.{option_map, option_map_or}
 use Rattle.std.specs.Str.{bytes_eq}
 use Rattle.strm_codes.specs.declared.scalars.Scalar.{Scalar}
-use Rattle.strm_codes.specs.declared.scalars.Scalar.TheVariants.{Bool as Flag, S8, U8, S16, U16, S32, U32, S64, U64, Char}
+use Rattle.strm_codes.specs.declared.scalars.Scalar.TheVariants.{Bool as Flag, S8, U8, S16, U16, S32, U32, S64, U64, Char, F32, F64}
 use Rattle.strm_codes.specs.declared.payloads.Payload.{Payload}
-use Rattle.strm_codes.specs.declared.payloads.Payload.TheVariants.{Nothing, One, Tuple}
+use Rattle.strm_codes.specs.declared.payloads.Payload.TheVariants.{Nothing, One, Tuple, Compound}
+use Rattle.strm_codes.specs.CompoundTests.{spells_compound}
+use Rattle.strm_codes.specs.declared.nodes.Node.{Node}
+use Rattle.strm_codes.specs.declared.nodes.Node.TheVariants as node
 use Rattle.strm_codes.specs.declared.codes.TransmitIndex.{TransmitIndex}
 use Rattle.strm_codes.specs.declared.codes.TransmitIndex.TheVariants.{Stream, Future}
 use Rattle.strm_machine.specs.declared.acts.NamedEnd.{NamedEnd}
@@ -121,7 +124,7 @@ early = Flag ∷ S8 ∷ U8 ∷ S16 ∷ U16 ∷ []
 
 -- and the second
 abbrev pub late : List Scalar
-late = S32 ∷ U32 ∷ S64 ∷ U64 ∷ Char ∷ []
+late = S32 ∷ U32 ∷ S64 ∷ U64 ∷ Char ∷ F32 ∷ F64 ∷ []
 
 -- a scalar, by its name
 unfoldable pub scalar_read : List ℕ → Option Scalar
@@ -144,12 +147,117 @@ shape_read rest = do
   parts ← cut_at 41 rest
   if length parts.1 == 0 then fields_read 8 parts.0 else None
 
--- nothing, a tuple or a scalar
+-- a byte that ends a name: `<`, `,` or `>`
+abbrev pub ends_name : ℕ → Bool
+ends_name c = (c == 60) || ((c == 44) || (c == 62))
+
+-- what stands before the first such byte, and what follows from there on
+unfoldable pub name_cut : List ℕ → List ℕ × List ℕ
+name_cut [] = ([], [])
+name_cut (c ∷ text) =
+    if ends_name c then ([], c ∷ text) else (c ∷ (name_cut text).0, (name_cut text).1)
+
+-- flags, by their number
+unfoldable pub flags_read : List ℕ → Option Node
+flags_read count = option_map node.Flags (number_within 1 32 count)
+
+-- an enum, by the number of its cases
+unfoldable pub enum_read : List ℕ → Option Node
+enum_read count = option_map node.Enum (number_within 1 128 count)
+
+-- a type without parts, by its name
+unfoldable pub plain_read : List ℕ → Option Node
+plain_read name =
+    if bytes_eq name (codes "_") then Some node.Nothing
+    else option_map_or flags_read (behind (codes "flags") name)
+    (option_map_or enum_read (behind (codes "enum") name)
+    (option_map node.Plain (scalar_read name)))
+
+-- no value: what a side of a result may be
+abbrev pub is_nothing : List Node → Bool
+is_nothing (node.Nothing ∷ words) = true
+is_nothing words = false
+
+-- one word more, of sixteen at most
+unfoldable pub pushed : Node → List Node → Option (List Node)
+pushed n words = if nat_lt (length words) 16 then Some (words ++ n ∷ []) else None
+
+-- the word of a type that holds so many others and is no result, by its name
+unfoldable pub holding : List ℕ → ℕ → Option Node
+holding name parts =
+    if bytes_eq name (codes "option") then (if parts == 1 then Some node.Option else None)
+    else (if bytes_eq name (codes "record") then Some (node.Tuple parts)
+    else (if bytes_eq name (codes "variant") then Some (node.Variant parts)
+    else None))
+
+-- the words with those of a type without brackets, by its name
+unfoldable pub leaf_front : List ℕ → List Node → Option (List Node)
+leaf_front name words =
+    if bytes_eq name (codes "result")
+    then (do
+      one ← pushed node.Result words
+      two ← pushed node.Nothing one
+      pushed node.Nothing two)
+    else (do
+      n ← plain_read name
+      pushed n words)
+
+-- the words with the own word of a type, by its name and the number of its parts, which are there, in the
+-- place kept for it; `result<_>` and `result<T,_>` are `result` and `result<T>`
+unfoldable pub closed : List ℕ → ℕ → ℕ → Bool → List Node → Option (List Node)
+closed name place parts ends_empty words =
+    if bytes_eq name (codes "result")
+    then (if ends_empty || nat_lt 2 parts then None
+    else (if parts == 1 then pushed node.Nothing (slice_set words place node.Result)
+    else Some (slice_set words place node.Result)))
+    else option_map (λ n. slice_set words place n) (holding name parts)
+
+-- at most so many types up to the closing bracket, each read in some way: how many they are, whether the
+-- last is no value, the words with theirs, and what follows the bracket
+unfoldable pub parts_by : (List Node → List ℕ → Option (List Node × List ℕ)) → ℕ → List Node → List ℕ → Option (ℕ × Bool × List Node × List ℕ)
+parts_by read zero words text = None
+parts_by read (suc most) words text = do
+  p ← read words text
+  option_map_or (λ after. Some (1, is_nothing (drop (length words) p.0), p.0, after))
+      (behind (codes ">") p.1)
+      (do
+        others ← behind (codes ",") p.1
+        q ← parts_by read most p.0 others
+        Some (q.0 + 1, q.1, q.2, q.3))
+
+-- the words with those of the type at the front of a text, of less than so many types in one another, and
+-- what follows it
+unfoldable pub type_front : ℕ → List Node → List ℕ → Option (List Node × List ℕ)
+type_front zero words text = None
+type_front (suc depth) words text =
+    let name = (name_cut text).0 in
+    let rest = (name_cut text).1 in
+    option_map_or
+    (λ inside. do
+      own ← pushed node.Nothing words
+      p ← parts_by (type_front depth) depth own inside
+      all ← closed name (length words) p.0 p.1 p.2
+      Some (all, p.3))
+    (behind (codes "<") rest)
+    (option_map (λ all. (all, rest)) (leaf_front name words))
+
+-- the words of the type that a word spells, where it is none of nothing, a scalar and a tuple of scalars
+unfoldable pub compound_read : List ℕ → Option (List Node)
+compound_read word = do
+  p ← type_front 16 [] word
+  if (length p.1 == 0) && spells_compound p.0 then Some p.0 else None
+
+-- a scalar, or a type that holds other types
+unfoldable pub named_payload : List ℕ → Option Payload
+named_payload word =
+    option_map_or (λ s. Some (One s)) (scalar_read word) (option_map Compound (compound_read word))
+
+-- nothing, a tuple of scalars, a scalar, or a type that holds other types
 unfoldable pub payload_read : List ℕ → Option Payload
 payload_read word =
     if bytes_eq word (codes "none") then Some Nothing
     else option_map_or (λ rest. option_map Tuple (shape_read rest)) (behind (codes "(") word)
-    (option_map One (scalar_read word))
+    (named_payload word)
 
 -- a kind, a colon and a payload
 unfoldable pub type_read : List ℕ → Option TransmitIndex

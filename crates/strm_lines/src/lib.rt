@@ -13,4 +13,5 @@ pub mod replies;
 pub mod rows;
 mod tails;
 pub mod texts;
+mod type_words;
 pub mod words;

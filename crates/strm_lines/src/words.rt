@@ -6,8 +6,9 @@ ghost use Rattle.std.specs.Prelude.{◌≡◌, ◌∷◌, ◌++◌, ◌+◌, ◌
 ghost use Rattle.strm_lines.specs.Words.{scalar_word};
 ghost use Rattle.std.specs.Option.{option_map};
 ghost use Rattle.memchr.specs.Find.{IsFirstByte, is_byte};
-ghost use Rattle.strm_lines.specs.Reading.{behind, cut_at, early, late, named_among, scalar_read, fields_read, shape_read, payload_read, leading, is_digit, decimal_number, read_to, number_within, nibble, pairs_from, hex, type_read};
+ghost use Rattle.strm_lines.specs.Reading.{behind, cut_at, early, late, named_among, scalar_read, fields_read, shape_read, named_payload, payload_read, leading, is_digit, decimal_number, read_to, number_within, nibble, pairs_from, hex, type_read};
 
+use crate::type_words::compound;
 use memchr::memchr_iter;
 use strm_codes::codes::TransmitIndex;
 use strm_codes::payloads::{Payload, Shape};
@@ -214,6 +215,10 @@ fn late_scalar(word: &[u8]) -> Option<Scalar>
         Some(Scalar::U64)
     } else if word == b"char".as_slice() {
         Some(Scalar::Char)
+    } else if word == b"f32".as_slice() {
+        Some(Scalar::F32)
+    } else if word == b"f64".as_slice() {
+        Some(Scalar::F64)
     } else {
         None
     }
@@ -221,7 +226,7 @@ fn late_scalar(word: &[u8]) -> Option<Scalar>
 
 // A scalar, by its name.
 #[tactic(auto, unfolding(crate::specs::Reading::scalar_read))]
-fn scalar(word: &[u8]) -> Option<Scalar>
+pub(crate) fn scalar(word: &[u8]) -> Option<Scalar>
     ensures { result ≡ scalar_read word.now }
 {
     match early_scalar(word) {
@@ -265,7 +270,21 @@ fn shape(rest: &[u8]) -> Option<Shape>
     fields(inside)
 }
 
-// Nothing, a tuple or a scalar.
+// A scalar, or a type that holds other types.
+#[tactic(auto, unfolding(crate::specs::Reading::named_payload))]
+fn simple_or_compound(word: &[u8]) -> Option<Payload>
+    ensures { result ≡ named_payload word.now }
+{
+    match scalar(word) {
+        Some(scalar) => Some(Payload::One(scalar)),
+        None => match compound(word) {
+            Some(compound) => Some(Payload::Compound(compound)),
+            None => None,
+        },
+    }
+}
+
+// Nothing, a tuple of scalars, a scalar, or a type that holds other types.
 #[tactic(auto, unfolding(crate::specs::Reading::payload_read))]
 fn payload(word: &[u8]) -> Option<Payload>
     ensures { result ≡ payload_read word.now }
@@ -275,7 +294,7 @@ fn payload(word: &[u8]) -> Option<Payload>
     }
     match behind(word, b"(") {
         Some(rest) => shape(rest).map(Payload::Tuple),
-        None => scalar(word).map(Payload::One),
+        None => simple_or_compound(word),
     }
 }
 

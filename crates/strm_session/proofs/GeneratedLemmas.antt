@@ -1,18 +1,18 @@
 -- The generator's steps are of guests alone, and each item that they move is one.
 use Rattle.std.proofs.Common.{◌≡◌, ℕ, zero, suc, ◌%◌, ◌^◌, ◌<◌, ◌==◌, true, List, [], ◌∷◌, ◌++◌, length, take, drop, min, Some, None, refl, sym, ap, ◌∙◌, subst, ⊎_elim, ◌≤◌, arith}
-use Rattle.std.specs.Prelude.{All, is_some, nat_lt, slice_get}
+use Rattle.std.specs.Prelude.{All, nat_lt, slice_get}
 use Rattle.std.specs.List.{range_with_len}
 use Rattle.std.proofs.lemmas.Bool.{cond_both, cases_lt}
 use Rattle.std.proofs.lemmas.List.{take_all}
 use Rattle.std.proofs.lemmas.List.Elements.{All-get_or, All-nil, All-cons}
 use Rattle.std.proofs.lemmas.Option.{slice_get_within, get_or_from_slice_get}
-use Rattle.strm_codes.specs.Layout.{scalars_of}
+use Rattle.strm_codes.specs.Layout.{item_type}
 use Rattle.strm_codes.specs.Types.{payload_of}
 use Rattle.strm_codes.specs.declared.payloads.Payload.{Payload}
 use Rattle.strm_codes.specs.declared.payloads.Payload.TheVariants.{One}
 use Rattle.strm_codes.specs.declared.scalars.Scalar.TheVariants.{U8}
 use Rattle.strm_memory.specs.Items.{items_at}
-use Rattle.strm_memory.proofs.CopyLemmas.{items-no_char, number_no_char}
+use Rattle.strm_memory.proofs.RegionLemmas.{items-number_or_none}
 use Rattle.strm_machine.specs.State.{State, memory_in, stream_at}
 use Rattle.strm_machine.specs.Sides.{write_of}
 use Rattle.strm_machine.specs.Tests.{named, stream_named}
@@ -111,11 +111,11 @@ bytes_named state side end address count h t e =
     found_payload state end h (named_ok state end second.0) ∙ ap payload_of t
 
 -- any bytes are items of it
-bytes_fit : (payload : Payload) (memory : List ℕ) (address n : ℕ) → payload ≡ One U8 → items_at (scalars_of payload) memory address n ≡ None → ⊥
+bytes_fit : (payload : Payload) (memory : List ℕ) (address n : ℕ) → payload ≡ One U8 → items_at (item_type payload) memory address n ≡ None → ⊥
 bytes_fit payload memory address n p e =
     let f = rw p at e in
-    let some = items-no_char (U8 ∷ []) n (drop address memory) (number_no_char U8 refl) in
-    let none = sym some ∙ ap is_some f in
+    let some = items-number_or_none (One U8) (drop address memory) n refl in
+    let none = rw f at some in
     cc
 
 -- the payload of the stream that such a step reads or writes

@@ -2,7 +2,7 @@
 use Rattle.std.proofs.Common.{◌≡◌, ℕ, zero, suc, List, [], ◌∷◌, map, drop, length, get_or, subst}
 use Rattle.std.specs.Prelude.{All, slice_index_or}
 use Rattle.std.proofs.lemmas.List.Elements.{All-nil, All-drop, All-head, All-tail}
-use Rattle.strm_codes.specs.Layout.{scalars_of}
+use Rattle.strm_codes.specs.Layout.{item_type}
 use Rattle.strm_codes.specs.declared.payloads.Payload.{Payload}
 use Rattle.strm_memory.specs.Items.{AreItems}
 use Rattle.strm_buffers.specs.Listing.{Item}
@@ -21,7 +21,7 @@ use Rattle.strm_session.specs.Runs.{start_among}
 supplies_none : Supplies no_writer
 supplies_none = record { holds = tt; coming = All-nil (SaidFits no_writer.payload) }
 
-held_items : (payload : Payload) (duty : Duty) (items : List Item) → AreItems (scalars_of payload) items → AreItems (scalars_of payload) (held_while duty items)
+held_items : (payload : Payload) (duty : Duty) (items : List Item) → AreItems (item_type payload) items → AreItems (item_type payload) (held_while duty items)
 held_items payload Unused items h = h
 held_items payload (Serves s) items h = h
 held_items payload Ended items h = tt

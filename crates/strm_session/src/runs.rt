@@ -42,7 +42,7 @@ pub enum RunCause {
     HostFailed { end: HostEnd },
     /// A host end broke its rules.
     HostBroke { end: HostEnd },
-    /// An item of this stream is no Unicode scalar value.
+    /// An item of this stream is none of its type.
     BadItem { stream: u32 },
     /// An allocation was refused.
     OutOfMemory,
