@@ -7,3 +7,4 @@ pub mod WrittenLemmas
 pub mod ManyLemmas
 pub mod SameLemmas
 pub mod SpelledLemmas
+pub mod VersionLemmas

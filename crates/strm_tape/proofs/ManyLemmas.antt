@@ -3,7 +3,7 @@ use Rattle.std.proofs.Common.{◌≡◌, ℕ, zero, suc, ◌<◌, Bool, List, []
 use Rattle.std.specs.Prelude.{option_and_then}
 use Rattle.std.specs.Option.{option_map}
 use Rattle.std.proofs.lemmas.List.{append-nil}
-use Rattle.strm_codes.specs.Layout.{scalars_of}
+use Rattle.strm_codes.specs.Layout.{item_type}
 use Rattle.strm_codes.specs.declared.payloads.Payload.{Payload}
 use Rattle.strm_buffers.specs.declared.answers.Answer.{Answer}
 use Rattle.strm_buffers.specs.Listing.{TypedItems}
@@ -48,8 +48,8 @@ module _ (payload : Payload) (bytes b1 b2 b3 b4 : List ℕ) (r : Option ℕ) (f 
   abbrev said_of : TypedItems → WriterSaid
   said_of u = record { room = r; finish = f; payload = u.payload; items = u.items; answer = a }
 
-  pub record_read : read_room bytes ≡ Some (r, b1) → flag b1 ≡ Some (f, b2) → read_as (typed_items payload) (read_item_list (scalars_of payload)) b2 ≡ Some (t, b3) → answer b3 ≡ Some (a, b4) → Some (said_of t, b4) ≡ read_writer_record payload bytes
+  pub record_read : read_room bytes ≡ Some (r, b1) → flag b1 ≡ Some (f, b2) → read_as (typed_items payload) (read_item_list (item_type payload)) b2 ≡ Some (t, b3) → answer b3 ≡ Some (a, b4) → Some (said_of t, b4) ≡ read_writer_record payload bytes
   record_read e g h i =
-      option_map_some (λ p. (typed_items payload p.0, p.1)) (read_item_list (scalars_of payload) b2) (t, b3) h (λ p j k.
+      option_map_some (λ p. (typed_items payload p.0, p.1)) (read_item_list (item_type payload) b2) (t, b3) h (λ p j k.
       subst (λ q. answer q.1 ≡ Some (a, b4) → Some (said_of q.0, b4) ≡ read_writer_record payload bytes) k
       (λ l. rw (e, g, j, l) refl) i)

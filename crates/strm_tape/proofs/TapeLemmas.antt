@@ -1,14 +1,16 @@
 -- Records and tapes: what is read is what is spelled, and the other way round.
+use mathlib.Core.Bool.{beq}
 use Rattle.std.proofs.Common.{◌≡◌, ℕ, ◌*◌, ◌<◌, Bool, true, false, cond, leb, ltb, eqb, List, [], ◌∷◌, ◌++◌, length, take, drop, replicate, Option, Some, None, refl, sym, ap, subst, ◌∙◌, arith, append_assoc, length-append, append-nil}
 use Rattle.std.specs.Option.{option_map}
+use Rattle.std.specs.Prelude.{option_and_then}
 use Rattle.std.specs.Str.{bytes_eq}
 use Rattle.std.proofs.lemmas.Bool.{le-leb, ltb-true, lt-ltb, ne_eqb, eqb-true}
 use Rattle.std.proofs.lemmas.List.{take_at, drop_at, take-append-drop, length-replicate}
 use Rattle.std.proofs.lemmas.Option.{option_and_then_some, same_Some, none-some}
 use Rattle.std.proofs.lemmas.Slice.Eq.{bytes_eq-Decides}
-use Rattle.strm_codes.specs.Layout.{scalars_of, item_size}
+use Rattle.strm_codes.specs.Layout.{item_type}
+use Rattle.strm_codes.specs.ItemTypes.{item_size, ItemType}
 use Rattle.strm_codes.specs.Types.{payload_of}
-use Rattle.strm_codes.specs.declared.scalars.Scalar.{Scalar}
 use Rattle.strm_codes.specs.declared.payloads.Payload.{Payload}
 use Rattle.strm_codes.specs.declared.codes.TransmitIndex.{TransmitIndex}
 use Rattle.strm_memory.specs.Bytes.{IsBytes}
@@ -22,8 +24,8 @@ use Rattle.strm_machine.specs.declared.steps.Step.{Step}
 use Rattle.strm_lines.specs.Grammar.{IsU32, HasLine}
 use Rattle.strm_lines.proofs.ChoiceLemmas.{chosen}
 use Rattle.strm_lines.proofs.CutLemmas.{option_map_some}
-use Rattle.strm_tape.specs.Spelling.{number_bytes, room_bytes, region_bytes, items_bytes, flag_byte, answer_number, step_bytes, writer_record_bytes, reader_record_bytes, WriterTape, ReaderTape, TapeOf, writer_bytes, reader_bytes, head_bytes, tape_spelling, IsSpelledRoom, IsWriterRecord, IsReaderRecord, IsWriterTape, IsReaderTape, IsTape}
-use Rattle.strm_tape.specs.Reading.{Found, read_as, followed_by_part, read_number, room_of_number, read_room, items_as_written, region, read_item_list, flag, answer, read_writer_record, read_reader_record, writer, reader, head, step, tape, transmit_type, many, read_counted, few_listed}
+use Rattle.strm_tape.specs.Spelling.{number_bytes, room_bytes, region_bytes, items_bytes, flag_byte, answer_number, step_bytes, writer_record_bytes, reader_record_bytes, WriterTape, ReaderTape, TapeOf, writer_bytes, reader_bytes, spelled_counted, few_counted, is_first, head_bytes, tape_spelling, IsSpelledRoom, IsWriterRecord, IsReaderRecord, IsWriterTape, IsReaderTape, IsTape}
+use Rattle.strm_tape.specs.Reading.{Found, read_as, followed_by_part, read_number, room_of_number, read_room, items_as_written, region, read_item_list, flag, answer, read_writer_record, read_reader_record, writer, reader, head, step, tape_parts, tape, transmit_type, many, read_counted, few_listed}
 use Rattle.strm_tape.proofs.ReadingLemmas.{IsReading, IsReading-number, IsReading-upto, IsReading-followed_by, IsReading-followed_by_its, found, rest_fits}
 use Rattle.strm_tape.proofs.TypeLemmas.{IsReading-type, made_sound}
 use Rattle.strm_tape.proofs.StepLemmas.{step_sound, step_complete}
@@ -31,23 +33,23 @@ use Rattle.strm_tape.proofs.RecordLemmas.{IsReading-flag, IsReading-answer, IsRe
 
 -- items
 
-length-region : (ss : List Scalar) (xs : List Item) → length (region_bytes ss xs) ≡ item_size ss * length xs
+length-region : (ss : ItemType) (xs : List Item) → length (region_bytes ss xs) ≡ item_size ss * length xs
 length-region ss xs =
     let size = item_size ss * length xs in
     let zeros : length (replicate {A = ℕ} size 0) ≡ size = length-replicate {A = ℕ} size 0 in
     length-stored_at ss (replicate size 0) 0 xs (omega (arith, zeros)) ∙ zeros
 
-pub items-region : (ss : List Scalar) (xs : List Item) → AreItems ss xs → items ss (region_bytes ss xs) (length xs) ≡ Some xs
+pub items-region : (ss : ItemType) (xs : List Item) → AreItems ss xs → items ss (region_bytes ss xs) (length xs) ≡ Some xs
 items-region ss xs f =
     let size = item_size ss * length xs in
     let zeros : length (replicate {A = ℕ} size 0) ≡ size = length-replicate {A = ℕ} size 0 in
     items_at-stored_at ss (replicate size 0) 0 xs f (omega (arith, zeros))
 
 -- so many items
-abbrev AreSo : List Scalar → ℕ → List Item → Type 0
+abbrev AreSo : ItemType → ℕ → List Item → Type 0
 AreSo ss n xs = (length xs ≡ n) × AreItems ss xs
 
-region_sound : (ss : List Scalar) (n : ℕ) (bytes rest : List ℕ) (xs : List Item) → IsBytes bytes → region ss n bytes ≡ Some (xs, rest) → (region_bytes ss xs ++ rest ≡ bytes) × AreSo ss n xs
+region_sound : (ss : ItemType) (n : ℕ) (bytes rest : List ℕ) (xs : List Item) → IsBytes bytes → region ss n bytes ≡ Some (xs, rest) → (region_bytes ss xs ++ rest ≡ bytes) × AreSo ss n xs
 unfolding region
 region_sound ss n bytes rest xs f e =
     let size = item_size ss * n in
@@ -62,7 +64,7 @@ region_sound ss n bytes rest xs f e =
     let fit : AreSo ss n zs = (length-items ss front n zs i, AreItems-items ss front n zs (IsBytes-take bytes size f) i) in
     found (region_bytes ss) (AreSo ss n) bytes (zs, drop size bytes) (xs, rest) (ap (λ l. (l, drop size bytes)) same ∙ h) (all, fit)))
 
-region_complete : (ss : List Scalar) (n : ℕ) (xs : List Item) (rest : List ℕ) → AreSo ss n xs → region ss n (region_bytes ss xs ++ rest) ≡ Some (xs, rest)
+region_complete : (ss : ItemType) (n : ℕ) (xs : List Item) (rest : List ℕ) → AreSo ss n xs → region ss n (region_bytes ss xs ++ rest) ≡ Some (xs, rest)
 unfolding region
 region_complete ss n xs rest f =
     let size = item_size ss * n in
@@ -71,14 +73,14 @@ region_complete ss n xs rest f =
     let read : items ss front n ≡ Some xs = ap (items ss front) (sym f.0) ∙ items-region ss xs f.1 in
     rw (le-leb size (length (front ++ rest)) (omega (arith, len, length-append front rest)), take_at front rest size len, drop_at front rest size len, read, (bytes_eq-Decides front front).1 refl) refl
 
-IsReading-region : (ss : List Scalar) (n : ℕ) → IsReading (region ss n) (region_bytes ss) (AreSo ss n)
+IsReading-region : (ss : ItemType) (n : ℕ) → IsReading (region ss n) (region_bytes ss) (AreSo ss n)
 IsReading-region ss n = record { sound = region_sound ss n; complete = region_complete ss n }
 
 -- as many as one record can have
-abbrev AreRecorded : List Scalar → List Item → Type 0
+abbrev AreRecorded : ItemType → List Item → Type 0
 AreRecorded ss xs = (length xs < 4294967295) × AreItems ss xs
 
-items_sound : (ss : List Scalar) (bytes rest : List ℕ) (xs : List Item) → IsBytes bytes → read_item_list ss bytes ≡ Some (xs, rest) → (items_bytes ss xs ++ rest ≡ bytes) × AreRecorded ss xs
+items_sound : (ss : ItemType) (bytes rest : List ℕ) (xs : List Item) → IsBytes bytes → read_item_list ss bytes ≡ Some (xs, rest) → (items_bytes ss xs ++ rest ≡ bytes) × AreRecorded ss xs
 unfolding read_item_list
 items_sound ss bytes rest xs f e =
     option_and_then_some _ (read_number bytes) (xs, rest) e (λ p g h.
@@ -87,13 +89,13 @@ items_sound ss bytes rest xs f e =
     let two : (region_bytes ss xs ++ rest ≡ p.1) × AreSo ss p.0 xs = region_sound ss p.0 p.1 rest xs (rest_fits (number_bytes p.0) p.1 bytes f one.0) c.1 in
     (append_assoc (number_bytes (length xs)) (region_bytes ss xs) rest ∙ ap (λ l. number_bytes (length xs) ++ l) two.0 ∙ ap (λ n. number_bytes n ++ p.1) two.1.0 ∙ one.0, (omega (arith, two.1.0, ltb-true p.0 4294967295 c.0), two.1.1)))
 
-items_complete : (ss : List Scalar) (xs : List Item) (rest : List ℕ) → AreRecorded ss xs → read_item_list ss (items_bytes ss xs ++ rest) ≡ Some (xs, rest)
+items_complete : (ss : ItemType) (xs : List Item) (rest : List ℕ) → AreRecorded ss xs → read_item_list ss (items_bytes ss xs ++ rest) ≡ Some (xs, rest)
 unfolding read_item_list
 items_complete ss xs rest f =
     rw (append_assoc (number_bytes (length xs)) (region_bytes ss xs) rest, IsReading-number.complete (length xs) (region_bytes ss xs ++ rest) (omega (arith, f.0)), lt-ltb (length xs) 4294967295 f.0)
     (region_complete ss (length xs) xs rest (refl, f.1))
 
-pub IsReading-items : (ss : List Scalar) → IsReading (read_item_list ss) (items_bytes ss) (AreRecorded ss)
+pub IsReading-items : (ss : ItemType) → IsReading (read_item_list ss) (items_bytes ss) (AreRecorded ss)
 IsReading-items ss = record { sound = items_sound ss; complete = items_complete ss }
 
 -- rooms
@@ -159,13 +161,13 @@ abbrev parts_of : WriterSaid → Option ℕ × (Bool × (List Item × Answer))
 parts_of said = (said.room, (said.finish, (said.items, said.answer)))
 
 abbrev bytes_of_parts : Payload → Option ℕ × (Bool × (List Item × Answer)) → List ℕ
-bytes_of_parts payload v = room_bytes v.0 ++ ((flag_byte v.1.0 ∷ []) ++ (items_bytes (scalars_of payload) v.1.1.0 ++ (answer_number v.1.1.1 ∷ [])))
+bytes_of_parts payload v = room_bytes v.0 ++ ((flag_byte v.1.0 ∷ []) ++ (items_bytes (item_type payload) v.1.1.0 ++ (answer_number v.1.1.1 ∷ [])))
 
 abbrev ArePartsFit : Payload → Option ℕ × (Bool × (List Item × Answer)) → Type 0
-ArePartsFit payload v = IsSpelledRoom v.0 × (Unit {0} × (AreRecorded (scalars_of payload) v.1.1.0 × Unit {0}))
+ArePartsFit payload v = IsSpelledRoom v.0 × (Unit {0} × (AreRecorded (item_type payload) v.1.1.0 × Unit {0}))
 
-IsReading-parts : (payload : Payload) → IsReading (followed_by_part read_room (followed_by_part flag (followed_by_part (read_item_list (scalars_of payload)) answer))) (bytes_of_parts payload) (ArePartsFit payload)
-IsReading-parts payload = IsReading-followed_by IsReading-room (IsReading-followed_by IsReading-flag (IsReading-followed_by (IsReading-items (scalars_of payload)) IsReading-answer))
+IsReading-parts : (payload : Payload) → IsReading (followed_by_part read_room (followed_by_part flag (followed_by_part (read_item_list (item_type payload)) answer))) (bytes_of_parts payload) (ArePartsFit payload)
+IsReading-parts payload = IsReading-followed_by IsReading-room (IsReading-followed_by IsReading-flag (IsReading-followed_by (IsReading-items (item_type payload)) IsReading-answer))
 
 pub IsReading-writer_record : (payload : Payload) → IsReading (read_writer_record payload) writer_record_bytes (IsWriterRecord payload)
 IsReading-writer_record payload =
@@ -211,29 +213,83 @@ module _ (bytes b1 b2 b3 : List ℕ) (ty : TransmitIndex) (p : Payload) (n : ℕ
 
 -- tapes
 
-head_sound : (bytes rest : List ℕ) (v : Unit {0}) → IsBytes bytes → head bytes ≡ Some (v, rest) → (head_bytes ++ rest ≡ bytes) × Unit {0}
-unfolding head
-head_sound bytes rest v f e =
-    let c = chosen (bytes_eq (take 5 bytes) head_bytes) _ (v, rest) e in
-    let same : (tt, drop 5 bytes) ≡ (v, rest) = same_Some (tt, drop 5 bytes) (v, rest) c.1 in
-    let is : take 5 bytes ≡ head_bytes = (bytes_eq-Decides (take 5 bytes) head_bytes).0 c.0 in
-    (ap (λ p. head_bytes ++ p.1) (sym same) ∙ ap (λ l. l ++ drop 5 bytes) (sym is) ∙ take-append-drop 5 bytes, tt)
+same_truth : (a b : Bool) → beq a b ≡ true → a ≡ b
+same_truth true true e = refl
+same_truth true false e = sym e
+same_truth false true e = e
+same_truth false false e = refl
 
-IsReading-head : IsReading head (λ v. head_bytes) (λ v. Unit {0})
+beq_self : (a : Bool) → beq a a ≡ true
+beq_self true = refl
+beq_self false = refl
+
+head_is : (bytes rest : List ℕ) (v w : Bool) → bytes_eq (take 5 bytes) (head_bytes v) ≡ true → ◌≡◌ {A = Found Bool} (Some (v, drop 5 bytes)) (Some (w, rest)) → (head_bytes w ++ rest ≡ bytes) × Unit {0}
+head_is bytes rest v w t e =
+    let same : (v, drop 5 bytes) ≡ (w, rest) = same_Some (v, drop 5 bytes) (w, rest) e in
+    let is : take 5 bytes ≡ head_bytes v = (bytes_eq-Decides (take 5 bytes) (head_bytes v)).0 t in
+    found head_bytes (λ u. Unit {0}) bytes (v, drop 5 bytes) (w, rest) same (ap (λ l. l ++ drop 5 bytes) (sym is) ∙ take-append-drop 5 bytes, tt)
+
+-- what is found by two tests
+abbrev head_if : Bool → Bool → List ℕ → Found Bool
+head_if t u rest = cond t (Some (true, rest)) (cond u (Some (false, rest)) None)
+
+head_by : (t u : Bool) (bytes rest : List ℕ) (v : Bool) → bytes_eq (take 5 bytes) (head_bytes true) ≡ t → bytes_eq (take 5 bytes) (head_bytes false) ≡ u → head_if t u (drop 5 bytes) ≡ Some (v, rest) → (head_bytes v ++ rest ≡ bytes) × Unit {0}
+head_by true u bytes rest v g h e = head_is bytes rest true v g e
+head_by false true bytes rest v g h e = head_is bytes rest false v h e
+head_by false false bytes rest v g h e = absurd (none-some (v, rest) e)
+
+head_sound : (bytes rest : List ℕ) (v : Bool) → IsBytes bytes → head bytes ≡ Some (v, rest) → (head_bytes v ++ rest ≡ bytes) × Unit {0}
 unfolding head
-IsReading-head = record { sound = head_sound; complete = λ v rest f. refl }
+head_sound bytes rest v f e = head_by (bytes_eq (take 5 bytes) (head_bytes true)) (bytes_eq (take 5 bytes) (head_bytes false)) bytes rest v refl refl e
+
+head_complete : (v : Bool) (rest : List ℕ) → Unit {0} → head (head_bytes v ++ rest) ≡ Some (v, rest)
+unfolding head
+head_complete true rest f = refl
+head_complete false rest f = refl
 
 pub IsReading-step : IsReading step step_bytes HasLine
 IsReading-step = record { sound = step_sound; complete = step_complete }
 
-pub IsReading-tape : IsReading tape tape_spelling IsTape
-IsReading-tape =
-    IsReading-made (IsReading-followed_by IsReading-head (IsReading-followed_by (IsReading-listed IsReading-step) (IsReading-followed_by (IsReading-few IsReading-writer) (IsReading-few IsReading-reader))))
-    tape_spelling IsTape (λ v. record { steps = v.1.0; writers = v.1.1.0; readers = v.1.1.1 })
-    (λ t. (tt, (t.steps, (t.writers, t.readers))))
+-- what a tape says, behind what it begins with
+abbrev behind_head : TapeOf → List ℕ
+behind_head t = spelled_counted step_bytes t.steps ++ (few_counted writer_bytes t.writers ++ few_counted reader_bytes t.readers)
+
+IsReading-parts_of_tape : IsReading tape_parts behind_head IsTape
+IsReading-parts_of_tape =
+    IsReading-made (IsReading-followed_by (IsReading-listed IsReading-step) (IsReading-followed_by (IsReading-few IsReading-writer) (IsReading-few IsReading-reader)))
+    behind_head IsTape (λ v. record { steps = v.0; writers = v.1.0; readers = v.1.1 })
+    (λ t. (t.steps, (t.writers, t.readers)))
     (λ v. refl)
-    (λ v f. record { few_steps = f.1.0.0; steps = f.1.0.1; few_writers = f.1.1.0.0; writers = f.1.1.0.1; few_readers = f.1.1.1.0; readers = f.1.1.1.1 })
-    (λ t f. (refl, (refl, (tt, ((f.few_steps, f.steps), ((f.few_writers, f.writers), (f.few_readers, f.readers)))))))
+    (λ v f. record { few_steps = f.0.0; steps = f.0.1; few_writers = f.1.0.0; writers = f.1.0.1; few_readers = f.1.1.0; readers = f.1.1.1 })
+    (λ t f. (refl, (refl, ((f.few_steps, f.steps), ((f.few_writers, f.writers), (f.few_readers, f.readers))))))
+
+tape_sound : (bytes rest : List ℕ) (t : TapeOf) → IsBytes bytes → tape bytes ≡ Some (t, rest) → (tape_spelling t ++ rest ≡ bytes) × IsTape t
+tape_sound bytes rest t f e =
+    option_and_then_some _ (head bytes) (t, rest) e (λ p g h.
+    option_and_then_some _ (tape_parts p.1) (t, rest) h (λ q i j.
+    let c : (beq (is_first q.0) p.0 ≡ true) × (Some q ≡ Some (t, rest)) = chosen (beq (is_first q.0) p.0) (Some q) (t, rest) j in
+    let first : is_first q.0 ≡ p.0 = same_truth (is_first q.0) p.0 c.0 in
+    let same : q ≡ (t, rest) = same_Some q (t, rest) c.1 in
+    let one : (head_bytes p.0 ++ p.1 ≡ bytes) × Unit {0} = head_sound bytes p.1 p.0 f g in
+    let two : (behind_head q.0 ++ q.1 ≡ p.1) × IsTape q.0 = IsReading-parts_of_tape.sound p.1 q.1 q.0 (rest_fits (head_bytes p.0) p.1 bytes f one.0) i in
+    found tape_spelling IsTape bytes q (t, rest) same
+    (ap (λ v. head_bytes v ++ behind_head q.0 ++ q.1) first ∙ append_assoc (head_bytes p.0) (behind_head q.0) q.1 ∙ ap (λ l. head_bytes p.0 ++ l) two.0 ∙ one.0, two.1)))
+
+-- a tape of a version, whose parts are read behind what it begins with
+abbrev of_version : Bool → Found TapeOf → Found TapeOf
+of_version v o = option_and_then {U = TapeOf × List ℕ} (λ (q : TapeOf × List ℕ). cond (beq (is_first q.0) v) (Some q) None) o
+
+tape_at : (v : Bool) (t : TapeOf) (rest : List ℕ) → is_first t ≡ v → IsTape t → tape (head_bytes v ++ (behind_head t ++ rest)) ≡ Some (t, rest)
+tape_at v t rest e f =
+    ap (λ o. option_and_then {U = TapeOf × List ℕ} (λ (p : Bool × List ℕ). of_version p.0 (tape_parts p.1)) o) (head_complete v (behind_head t ++ rest) tt)
+    ∙ ap (of_version v) (IsReading-parts_of_tape.complete t rest f)
+    ∙ ap (λ b. cond {A = Found TapeOf} b (Some (t, rest)) None) (ap (λ u. beq u v) e ∙ beq_self v)
+
+tape_complete : (t : TapeOf) (rest : List ℕ) → IsTape t → tape (tape_spelling t ++ rest) ≡ Some (t, rest)
+tape_complete t rest f = ap tape (append_assoc (head_bytes (is_first t)) (behind_head t) rest) ∙ tape_at (is_first t) t rest refl f
+
+pub IsReading-tape : IsReading tape tape_spelling IsTape
+IsReading-tape = record { sound = tape_sound; complete = tape_complete }
 
 -- what bytes are read as a tape, and nothing behind it
 
@@ -254,12 +310,10 @@ one_tape bytes rest t u e f s =
     let same : (t, rest) ≡ (u, []) = same_Some (t, rest) (u, []) (sym e ∙ read_whole bytes u f s) in
     (ap (λ p. p.0) same, ap (λ p. p.1) same)
 
--- a tape that was read part by part is one
-module _ (bytes b1 b2 b3 b4 : List ℕ) (steps : List Step) (writers : List WriterTape) (readers : List ReaderTape) where
+-- what a tape says, read part by part
+module _ (bytes b1 b2 b3 : List ℕ) (steps : List Step) (writers : List WriterTape) (readers : List ReaderTape) where
   abbrev the_tape : TapeOf
   the_tape = record { steps = steps; writers = writers; readers = readers }
 
-  pub read_in_parts : IsBytes bytes → option_map (λ (p : Unit {0} × List ℕ). p.1) (head bytes) ≡ Some b1 → read_counted step b1 ≡ Some (steps, b2) → few_listed writer b2 ≡ Some (writers, b3) → few_listed reader b3 ≡ Some (readers, b4) → IsTape the_tape
-  read_in_parts f e g h i =
-      option_map_some (λ (p : Unit {0} × List ℕ). p.1) (head bytes) b1 e (λ p j k.
-      (IsReading-tape.sound bytes b4 the_tape f (rw (j, k, g, h, i) refl)).1)
+  pub read_in_parts : IsBytes bytes → read_counted step bytes ≡ Some (steps, b1) → few_listed writer b1 ≡ Some (writers, b2) → few_listed reader b2 ≡ Some (readers, b3) → IsTape the_tape
+  read_in_parts f g h i = (IsReading-parts_of_tape.sound bytes b3 the_tape f (rw (g, h, i) refl)).1

@@ -1,23 +1,31 @@
 -- Scalars, payloads and types: what is read is what is written, and the other way round.
-use Rattle.std.proofs.Common.{◌≡◌, ℕ, zero, suc, ◌<◌, true, ◌&&◌, leb, List, [], ◌∷◌, ◌++◌, length, map, Some, None, refl, sym, ap, ◌∙◌, arith, append_assoc, append-nil}
-use Rattle.std.specs.Prelude.{slice_get, option_and_then}
+use Rattle.std.proofs.Common.{◌≡◌, ℕ, zero, suc, ◌<◌, Bool, true, false, true≢false, cond, ◌&&◌, leb, List, [], ◌∷◌, ◌++◌, length, map, Option, Some, None, refl, sym, ap, ◌∙◌, arith, append_assoc, append-nil}
+use Rattle.std.specs.Prelude.{All, slice_get, option_and_then}
+use Rattle.std.specs.List.{flat_map}
 use Rattle.std.specs.Option.{option_map}
 use Rattle.std.proofs.lemmas.Bool.{leb-true, le-leb, ne_eqb}
 use Rattle.std.proofs.lemmas.Option.{option_and_then_some, same_Some, none-some}
+use Rattle.strm_codes.specs.CompoundTests.{spells_compound}
+use Rattle.strm_codes.specs.NodeBytes.{node_byte, node_of_byte}
 use Rattle.strm_codes.specs.Sameness.{scalar_number}
+use Rattle.strm_codes.specs.Spellings.{IsCompound}
+use Rattle.strm_codes.specs.declared.nodes.Node.{Node}
 use Rattle.strm_codes.specs.declared.scalars.Scalar.{Scalar}
-use Rattle.strm_codes.specs.declared.scalars.Scalar.TheVariants.{Bool as Flag, S8, U8, S16, U16, S32, U32, S64, U64, Char}
+use Rattle.strm_codes.specs.declared.scalars.Scalar.TheVariants.{Bool as Flag, S8, U8, S16, U16, S32, U32, S64, U64, Char, F32, F64}
 use Rattle.strm_codes.specs.declared.payloads.Payload.{Payload}
-use Rattle.strm_codes.specs.declared.payloads.Payload.TheVariants.{Nothing, One, Tuple}
+use Rattle.strm_codes.specs.declared.payloads.Payload.TheVariants.{Nothing, One, Tuple, Compound}
 use Rattle.strm_codes.specs.declared.codes.TransmitIndex.{TransmitIndex}
 use Rattle.strm_codes.specs.declared.codes.TransmitIndex.TheVariants.{Stream, Future}
+use Rattle.strm_codes.proofs.CompoundTestLemmas.{Decides-spells_compound}
+use Rattle.strm_codes.proofs.NodeByteLemmas.{HasByte, IsWordOf, node_of_byte-node_byte, node_byte-node_of_byte, HasByte-at}
 use Rattle.strm_memory.specs.Bytes.{IsBytes}
 use Rattle.strm_lines.specs.Grammar.{IsBetween, IsPayload, IsType, IsCount}
 use Rattle.strm_lines.proofs.ChoiceLemmas.{chosen, both_true}
 use Rattle.strm_lines.proofs.CutLemmas.{option_map_some}
 use Rattle.strm_tape.specs.Spelling.{number_bytes, payload_bytes, type_bytes}
-use Rattle.strm_tape.specs.Reading.{Found, followed_by_part, read_as, byte, scalars, scalar, fields, shape, payload_by, payload, type_by, transmit_type, read_count}
+use Rattle.strm_tape.specs.Reading.{Found, followed_by_part, read_as, byte, scalars, scalar, fields, shape, many, type_word, spelled_type, words_of_type, compound, payload_by, payload, type_by, transmit_type, read_count}
 use Rattle.strm_tape.proofs.ReadingLemmas.{IsReading, IsReading-byte, IsReading-number, IsReading-within, IsReading-followed_by, found, rest_fits}
+use Rattle.strm_tape.proofs.RecordLemmas.{IsReading-many}
 
 -- scalars
 
@@ -32,7 +40,9 @@ at_place (suc (suc (suc (suc (suc (suc zero)))))) s e = sym (ap scalar_number (s
 at_place (suc (suc (suc (suc (suc (suc (suc zero))))))) s e = sym (ap scalar_number (same_Some S64 s e))
 at_place (suc (suc (suc (suc (suc (suc (suc (suc zero)))))))) s e = sym (ap scalar_number (same_Some U64 s e))
 at_place (suc (suc (suc (suc (suc (suc (suc (suc (suc zero))))))))) s e = sym (ap scalar_number (same_Some Char s e))
-at_place (suc (suc (suc (suc (suc (suc (suc (suc (suc (suc n)))))))))) s e = cc
+at_place (suc (suc (suc (suc (suc (suc (suc (suc (suc (suc zero)))))))))) s e = sym (ap scalar_number (same_Some F32 s e))
+at_place (suc (suc (suc (suc (suc (suc (suc (suc (suc (suc (suc zero))))))))))) s e = sym (ap scalar_number (same_Some F64 s e))
+at_place (suc (suc (suc (suc (suc (suc (suc (suc (suc (suc (suc (suc n)))))))))))) s e = cc
 
 scalar_sound : (bytes rest : List ℕ) (s : Scalar) → IsBytes bytes → scalar bytes ≡ Some (s, rest) → (scalar_number s ∷ rest ≡ bytes) × Unit {0}
 unfolding scalar
@@ -55,6 +65,8 @@ scalar_complete U32 rest f = refl
 scalar_complete S64 rest f = refl
 scalar_complete U64 rest f = refl
 scalar_complete Char rest f = refl
+scalar_complete F32 rest f = refl
+scalar_complete F64 rest f = refl
 
 IsReading-scalar : IsReading scalar (λ s. scalar_number s ∷ []) (λ s. Unit {0})
 IsReading-scalar = record { sound = scalar_sound; complete = scalar_complete }
@@ -118,6 +130,90 @@ shape_complete ss rest f = rw (le-leb 1 (length ss) f.0, le-leb (length ss) 8 f.
 IsReading-shape : IsReading shape shape_bytes IsShape
 IsReading-shape = record { sound = shape_sound; complete = shape_complete }
 
+-- words of types
+
+abbrev word_bytes : Node → List ℕ
+word_bytes w = node_byte w ∷ []
+
+word_sound : (bytes rest : List ℕ) (w : Node) → IsBytes bytes → type_word bytes ≡ Some (w, rest) → (word_bytes w ++ rest ≡ bytes) × HasByte w
+unfolding type_word
+word_sound bytes rest w f e =
+    option_and_then_some _ (byte bytes) (w, rest) e (λ p g h.
+    option_and_then_some _ (node_of_byte p.0) (w, rest) h (λ v i j.
+    let same : (v, p.1) ≡ (w, rest) = same_Some (v, p.1) (w, rest) j in
+    let one : (p.0 ∷ p.1 ≡ bytes) × (p.0 < 256) = IsReading-byte.sound bytes p.1 p.0 f g in
+    let is : IsWordOf p.0 v = node_byte-node_of_byte p.0 v one.1 i in
+    found word_bytes HasByte bytes (v, p.1) (w, rest) same (ap (λ n. n ∷ p.1) is.byte ∙ one.0, is.has)))
+
+word_complete : (w : Node) (rest : List ℕ) → HasByte w → type_word (word_bytes w ++ rest) ≡ Some (w, rest)
+unfolding type_word
+word_complete w rest f = ap (λ o. option_and_then {U = Node × List ℕ} (λ (v : Node). Some (v, rest)) o) (node_of_byte-node_byte w f)
+
+IsReading-word : IsReading type_word word_bytes HasByte
+IsReading-word = record { sound = word_sound; complete = word_complete }
+
+words_bytes : (ws : List Node) → flat_map word_bytes ws ≡ map node_byte ws
+words_bytes [] = refl
+words_bytes (w ∷ ws) = ap (λ l. node_byte w ∷ l) (words_bytes ws)
+
+-- the words of a type are read where they are spelled
+words_sound : (n : ℕ) (bytes rest : List ℕ) (ws : List Node) → IsBytes bytes → words_of_type n bytes ≡ Some (ws, rest) → (map node_byte ws ++ rest ≡ bytes) × ((length ws ≡ n) × IsCompound ws)
+unfolding words_of_type
+words_sound n bytes rest ws f e =
+    option_and_then_some _ (many type_word n bytes) (ws, rest) e (λ p g h.
+    let c : (spells_compound p.0 ≡ true) × (Some (p.0, p.1) ≡ Some (ws, rest)) = chosen (spells_compound p.0) (Some (p.0, p.1)) (ws, rest) h in
+    let same : (p.0, p.1) ≡ (ws, rest) = same_Some (p.0, p.1) (ws, rest) c.1 in
+    let one : (flat_map word_bytes p.0 ++ p.1 ≡ bytes) × ((length p.0 ≡ n) × All HasByte p.0) = (IsReading-many IsReading-word n).sound bytes p.1 p.0 f g in
+    found (map node_byte) (λ ns. (length ns ≡ n) × IsCompound ns) bytes (p.0, p.1) (ws, rest) same
+    (ap (λ l. l ++ p.1) (sym (words_bytes p.0)) ∙ one.0, (one.1.0, (Decides-spells_compound p.0).0 c.0)))
+
+-- words that spell a type, and others
+pub spelled_so : (ws : List Node) (rest : List ℕ) → IsCompound ws → spelled_type ws rest ≡ Some (ws, rest)
+spelled_so ws rest f = let spells : spells_compound ws ≡ true = (Decides-spells_compound ws).1 f in ap (λ b. cond b (Some (ws, rest)) None) spells
+
+pub not_spelled : (ws : List Node) (rest : List ℕ) → (IsCompound ws → false ≡ true) → spelled_type ws rest ≡ None
+not_spelled ws rest h = by (spells_compound ws) refl
+  where
+    by : (b : Bool) → spells_compound ws ≡ b → cond {A = Found (List Node)} b (Some (ws, rest)) None ≡ None
+    by true e = absurd (true≢false (sym (h ((Decides-spells_compound ws).0 e))))
+    by false e = refl
+
+-- words that were read, and none
+pub words_over : (n : ℕ) (bytes : List ℕ) (ws : List Node) (rest : List ℕ) → many type_word n bytes ≡ Some (ws, rest) → spelled_type ws rest ≡ words_of_type n bytes
+unfolding words_of_type
+words_over n bytes ws rest e = sym (ap (λ o. option_and_then {U = List Node × List ℕ} (λ (p : List Node × List ℕ). spelled_type p.0 p.1) o) e)
+
+pub words_stopped : (n : ℕ) (bytes : List ℕ) → many type_word n bytes ≡ None → words_of_type n bytes ≡ None
+unfolding words_of_type
+words_stopped n bytes e = ap (λ o. option_and_then {U = List Node × List ℕ} (λ (p : List Node × List ℕ). spelled_type p.0 p.1) o) e
+
+words_complete : (ws : List Node) (rest : List ℕ) → IsCompound ws → words_of_type (length ws) (map node_byte ws ++ rest) ≡ Some (ws, rest)
+words_complete ws rest f =
+    let bytes = map node_byte ws ++ rest in
+    let each : All HasByte ws = λ k d h. HasByte-at ws k d f.each f.few h in
+    let read : many type_word (length ws) bytes ≡ Some (ws, rest) = ap (λ l. many type_word (length ws) (l ++ rest)) (sym (words_bytes ws)) ∙ (IsReading-many IsReading-word (length ws)).complete ws rest (refl, each) in
+    sym (words_over (length ws) bytes ws rest read) ∙ spelled_so ws rest f
+
+-- behind their number
+abbrev compound_bytes : List Node → List ℕ
+compound_bytes ws = length ws ∷ map node_byte ws
+
+compound_sound : (bytes rest : List ℕ) (ws : List Node) → IsBytes bytes → compound bytes ≡ Some (ws, rest) → (compound_bytes ws ++ rest ≡ bytes) × IsCompound ws
+unfolding compound
+compound_sound bytes rest ws f e =
+    option_and_then_some _ (byte bytes) (ws, rest) e (λ p g h.
+    let c : (leb p.0 16 ≡ true) × (words_of_type p.0 p.1 ≡ Some (ws, rest)) = chosen (leb p.0 16) (words_of_type p.0 p.1) (ws, rest) h in
+    let one : (p.0 ∷ p.1 ≡ bytes) × (p.0 < 256) = IsReading-byte.sound bytes p.1 p.0 f g in
+    let two : (map node_byte ws ++ rest ≡ p.1) × ((length ws ≡ p.0) × IsCompound ws) = words_sound p.0 p.1 rest ws (rest_fits (p.0 ∷ []) p.1 bytes f one.0) c.1 in
+    (ap (λ n. n ∷ map node_byte ws ++ rest) two.1.0 ∙ ap (λ l. p.0 ∷ l) two.0 ∙ one.0, two.1.1))
+
+compound_complete : (ws : List Node) (rest : List ℕ) → IsCompound ws → compound (compound_bytes ws ++ rest) ≡ Some (ws, rest)
+unfolding compound
+compound_complete ws rest f = ap (λ b. cond b (words_of_type (length ws) (map node_byte ws ++ rest)) None) (le-leb (length ws) 16 f.few) ∙ words_complete ws rest f
+
+IsReading-compound : IsReading compound compound_bytes IsCompound
+IsReading-compound = record { sound = compound_sound; complete = compound_complete }
+
 -- what is made of a part in one way is written as that part, behind what else stands there
 module _ {A B : Type 0} {read : List ℕ → Found A} {write : A → List ℕ} {IsFit : A → Type 0}
     (write_made : B → List ℕ) (IsFitMade : B → Type 0) (make : A → B) where
@@ -132,29 +228,35 @@ abbrev form_of : Payload → ℕ
 form_of Nothing = 0
 form_of (One s) = 1
 form_of (Tuple ss) = 2
+form_of (Compound ws) = 3
 
 abbrev behind_form : Payload → List ℕ
 behind_form Nothing = []
 behind_form (One s) = scalar_number s ∷ []
 behind_form (Tuple ss) = shape_bytes ss
+behind_form (Compound ws) = compound_bytes ws
 
 record IsOfForm (n : ℕ) (p : Payload) : Type 0 where
   is : form_of p ≡ n
   fits : IsPayload p
 
-other_form : (n : ℕ) (bytes : List ℕ) → payload_by (suc (suc (suc n))) bytes ≡ None
-other_form n bytes = rw (ne_eqb (suc (suc (suc n))) 0 (λ e. omega (arith, e)), ne_eqb (suc (suc (suc n))) 1 (λ e. omega (arith, e)), ne_eqb (suc (suc (suc n))) 2 (λ e. omega (arith, e))) refl
+other_form : (n : ℕ) (bytes : List ℕ) → payload_by (suc (suc (suc (suc n)))) bytes ≡ None
+other_form n bytes =
+    let form = suc (suc (suc (suc n))) in
+    rw (ne_eqb form 0 (λ e. omega (arith, e)), ne_eqb form 1 (λ e. omega (arith, e)), ne_eqb form 2 (λ e. omega (arith, e)), ne_eqb form 3 (λ e. omega (arith, e))) refl
 
 form_sound : (n : ℕ) (bytes rest : List ℕ) (p : Payload) → IsBytes bytes → payload_by n bytes ≡ Some (p, rest) → (behind_form p ++ rest ≡ bytes) × IsOfForm n p
 form_sound zero bytes rest p f e = found behind_form (IsOfForm 0) bytes (Nothing, bytes) (p, rest) (same_Some (Nothing, bytes) (p, rest) e) (refl, record { is = refl; fits = tt })
 form_sound (suc zero) bytes rest p f e = made_sound behind_form (IsOfForm 1) One IsReading-scalar (λ s. refl) (λ s h. record { is = refl; fits = tt }) bytes rest p f e
 form_sound (suc (suc zero)) bytes rest p f e = made_sound behind_form (IsOfForm 2) Tuple IsReading-shape (λ ss. refl) (λ ss h. record { is = refl; fits = h }) bytes rest p f e
-form_sound (suc (suc (suc n))) bytes rest p f e = absurd (none-some (p, rest) (sym (other_form n bytes) ∙ e))
+form_sound (suc (suc (suc zero))) bytes rest p f e = made_sound behind_form (IsOfForm 3) Compound IsReading-compound (λ ws. refl) (λ ws h. record { is = refl; fits = h }) bytes rest p f e
+form_sound (suc (suc (suc (suc n)))) bytes rest p f e = absurd (none-some (p, rest) (sym (other_form n bytes) ∙ e))
 
 payload_of_form : (p : Payload) → payload_bytes p ≡ form_of p ∷ behind_form p
 payload_of_form Nothing = refl
 payload_of_form (One s) = refl
 payload_of_form (Tuple ss) = refl
+payload_of_form (Compound ws) = refl
 
 payload_sound : (bytes rest : List ℕ) (p : Payload) → IsBytes bytes → payload bytes ≡ Some (p, rest) → (payload_bytes p ++ rest ≡ bytes) × IsPayload p
 unfolding payload
@@ -169,6 +271,7 @@ unfolding payload
 payload_complete Nothing rest f = refl
 payload_complete (One s) rest f = rw (scalar_complete s rest tt) refl
 payload_complete (Tuple ss) rest f = rw (shape_complete ss rest f) refl
+payload_complete (Compound ws) rest f = rw (compound_complete ws rest f) refl
 
 pub IsReading-payload : IsReading payload payload_bytes IsPayload
 IsReading-payload = record { sound = payload_sound; complete = payload_complete }

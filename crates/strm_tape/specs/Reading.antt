@@ -1,13 +1,15 @@
 -- How the front of a tape is read, part by part: the inverse of `Spelling.antt`. Ours.
+use mathlib.Core.Bool.{beq}
 use Rattle.std.specs.Prelude.{ℕ, zero, suc, ◌*◌, ◌==◌, ◌&&◌, nat_le, nat_lt, Bool, true, false, List, [], ◌∷◌, length, take, drop, slice_get, slice_index_or, if◌then◌else◌, Option, Some, None}
 use Rattle.std.specs.Option.{option_map}
 use Rattle.std.specs.Str.{bytes_eq}
-use Rattle.strm_codes.specs.Layout.{scalars_of, item_size}
+use Rattle.strm_codes.specs.Layout.{item_type}
+use Rattle.strm_codes.specs.ItemTypes.{item_size, ItemType}
 use Rattle.strm_codes.specs.Types.{payload_of}
 use Rattle.strm_codes.specs.declared.scalars.Scalar.{Scalar}
-use Rattle.strm_codes.specs.declared.scalars.Scalar.TheVariants.{Bool as Flag, S8, U8, S16, U16, S32, U32, S64, U64, Char}
+use Rattle.strm_codes.specs.declared.scalars.Scalar.TheVariants.{Bool as Flag, S8, U8, S16, U16, S32, U32, S64, U64, Char, F32, F64}
 use Rattle.strm_codes.specs.declared.payloads.Payload.{Payload}
-use Rattle.strm_codes.specs.declared.payloads.Payload.TheVariants.{Nothing, One, Tuple}
+use Rattle.strm_codes.specs.declared.payloads.Payload.TheVariants.{Nothing, One, Tuple, Compound}
 use Rattle.strm_codes.specs.declared.codes.TransmitIndex.{TransmitIndex}
 use Rattle.strm_codes.specs.declared.codes.TransmitIndex.TheVariants.{Stream, Future}
 use Rattle.strm_memory.specs.Bytes.{le}
@@ -19,8 +21,11 @@ use Rattle.strm_buffers.specs.Listing.{Item, TypedItems}
 use Rattle.strm_buffers.specs.Said.{WriterSaid}
 use Rattle.strm_machine.specs.declared.steps.Step.{Step}
 use Rattle.strm_machine.specs.declared.steps.Step.TheVariants.{Guest, New, Between, Write, Read, DropWrite, DropRead, CancelWrite, CancelRead, Move, Lift, Lower, Close, HostNew, Feed, Pipe, Grant, Drive, Event, SetNew, SetJoin, SetPoll, SetDrop, ErrNew, ErrText, ErrMove, ErrDrop, Poke, Dump}
+use Rattle.strm_codes.specs.CompoundTests.{spells_compound}
 use Rattle.strm_lines.specs.Reading.{◌>>=◌}
-use Rattle.strm_tape.specs.Spelling.{region_bytes, head_bytes, WriterTape, ReaderTape, TapeOf}
+use Rattle.strm_codes.specs.NodeBytes.{node_of_byte}
+use Rattle.strm_codes.specs.declared.nodes.Node.{Node}
+use Rattle.strm_tape.specs.Spelling.{region_bytes, head_bytes, is_first, WriterTape, ReaderTape, TapeOf}
 
 -- what was found at the front, and what follows it
 abbrev pub Found : Type 0 → Type 0
@@ -62,7 +67,7 @@ within low high bytes = do
 
 -- all scalars, by their places
 abbrev pub scalars : List Scalar
-scalars = Flag ∷ S8 ∷ U8 ∷ S16 ∷ U16 ∷ S32 ∷ U32 ∷ S64 ∷ U64 ∷ Char ∷ []
+scalars = Flag ∷ S8 ∷ U8 ∷ S16 ∷ U16 ∷ S32 ∷ U32 ∷ S64 ∷ U64 ∷ Char ∷ F32 ∷ F64 ∷ []
 
 -- a scalar
 unfoldable pub scalar : List ℕ → Found Scalar
@@ -82,12 +87,41 @@ shape bytes = do
   p ← byte bytes
   if nat_le 1 p.0 && nat_le p.0 8 then fields p.0 p.1 else None
 
+-- so many things
+unfoldable pub many : {A : Type 0} → (List ℕ → Found A) → ℕ → List ℕ → Found (List A)
+many read zero bytes = Some ([], bytes)
+many read (suc n) bytes = read_as (λ p. p.0 ∷ p.1) (followed_by_part read (many read n)) bytes
+
+-- a word of a type
+unfoldable pub type_word : List ℕ → Found Node
+type_word bytes = do
+  p ← byte bytes
+  word ← node_of_byte p.0
+  Some (word, p.1)
+
+-- the type that words spell, if it holds others
+abbrev pub spelled_type : List Node → List ℕ → Found (List Node)
+spelled_type words rest = if spells_compound words then Some (words, rest) else None
+
+-- so many words of a type that holds others
+unfoldable pub words_of_type : ℕ → List ℕ → Found (List Node)
+words_of_type n bytes = do
+  p ← many type_word n bytes
+  spelled_type p.0 p.1
+
+-- the same behind their number
+unfoldable pub compound : List ℕ → Found (List Node)
+compound bytes = do
+  p ← byte bytes
+  if nat_le p.0 16 then words_of_type p.0 p.1 else None
+
 -- a payload, by its form
 abbrev pub payload_by : ℕ → List ℕ → Found Payload
 payload_by form bytes =
     if form == 0 then Some (Nothing, bytes)
     else (if form == 1 then read_as One scalar bytes
-    else (if form == 2 then read_as Tuple shape bytes else None))
+    else (if form == 2 then read_as Tuple shape bytes
+    else (if form == 3 then read_as Compound compound bytes else None)))
 
 -- a payload
 unfoldable pub payload : List ℕ → Found Payload
@@ -221,20 +255,20 @@ read_room bytes = do
   Some (r, p.1)
 
 -- items that lie in bytes as they are written over zeros
-abbrev pub items_as_written : List Scalar → List ℕ → ℕ → Option (List Item)
+abbrev pub items_as_written : ItemType → List ℕ → ℕ → Option (List Item)
 items_as_written ss bytes n = do
   xs ← items ss bytes n
   if bytes_eq (region_bytes ss xs) bytes then Some xs else None
 
 -- so many items
-unfoldable pub region : List Scalar → ℕ → List ℕ → Found (List Item)
+unfoldable pub region : ItemType → ℕ → List ℕ → Found (List Item)
 region ss n bytes =
     if nat_le (item_size ss * n) (length bytes)
     then option_map (λ xs. (xs, drop (item_size ss * n) bytes)) (items_as_written ss (take (item_size ss * n) bytes) n)
     else None
 
 -- items behind their number
-unfoldable pub read_item_list : List Scalar → List ℕ → Found (List Item)
+unfoldable pub read_item_list : ItemType → List ℕ → Found (List Item)
 read_item_list ss bytes = do
   p ← read_number bytes
   if nat_lt p.0 4294967295 then region ss p.0 p.1 else None
@@ -248,7 +282,7 @@ abbrev pub read_writer_record : Payload → List ℕ → Found WriterSaid
 read_writer_record payload =
     read_as
     (λ v. record { room = v.0; finish = v.1.0; payload = payload; items = v.1.1.0; answer = v.1.1.1 })
-    (followed_by_part read_room (followed_by_part flag (followed_by_part (read_item_list (scalars_of payload)) answer)))
+    (followed_by_part read_room (followed_by_part flag (followed_by_part (read_item_list (item_type payload)) answer)))
 
 -- a record of a host reader
 abbrev pub read_reader_record : List ℕ → Found ReaderSaid
@@ -256,11 +290,6 @@ read_reader_record =
     read_as
     (λ v. record { offered = v.0; since = v.1.0; finish = v.1.1.0; taken = v.1.1.1.0; bad = v.1.1.1.1.0; answer = v.1.1.1.1.1 })
     (followed_by_its_part read_number (λ offered. followed_by_part read_number (followed_by_part flag (followed_by_part (within 0 offered) (followed_by_part flag answer)))))
-
--- so many things
-unfoldable pub many : {A : Type 0} → (List ℕ → Found A) → ℕ → List ℕ → Found (List A)
-many read zero bytes = Some ([], bytes)
-many read (suc n) bytes = read_as (λ p. p.0 ∷ p.1) (followed_by_part read (many read n)) bytes
 
 -- things behind their number
 unfoldable pub read_counted : {A : Type 0} → (List ℕ → Found A) → List ℕ → Found (List A)
@@ -286,12 +315,21 @@ writer =
 abbrev pub reader : List ℕ → Found ReaderTape
 reader = read_as (λ v. record { ty = v.0; said = v.1 }) (followed_by_part transmit_type (read_counted read_reader_record))
 
--- what a tape begins with
-unfoldable pub head : List ℕ → Found (Unit {0})
-head bytes = if bytes_eq (take 5 bytes) head_bytes then Some (tt, drop 5 bytes) else None
+-- what a tape begins with: whether its version is the first
+unfoldable pub head : List ℕ → Found Bool
+head bytes =
+    if bytes_eq (take 5 bytes) (head_bytes true) then Some (true, drop 5 bytes)
+    else (if bytes_eq (take 5 bytes) (head_bytes false) then Some (false, drop 5 bytes) else None)
 
--- a tape, and what follows it
+-- what a tape says, and what follows it
+abbrev pub tape_parts : List ℕ → Found TapeOf
+tape_parts =
+    read_as (λ v. record { steps = v.0; writers = v.1.0; readers = v.1.1 })
+    (followed_by_part (read_counted step) (followed_by_part (few_listed writer) (few_listed reader)))
+
+-- a tape, and what follows it: its version is the least that can say it
 abbrev pub tape : List ℕ → Found TapeOf
-tape =
-    read_as (λ v. record { steps = v.1.0; writers = v.1.1.0; readers = v.1.1.1 })
-    (followed_by_part head (followed_by_part (read_counted step) (followed_by_part (few_listed writer) (few_listed reader))))
+tape bytes = do
+  p ← head bytes
+  q ← tape_parts p.1
+  if beq (is_first q.0) p.0 then Some q else None

@@ -1,13 +1,14 @@
 -- The grammar of a tape: how a number, a payload, a step is spelled. Ours.
-use Rattle.std.specs.Prelude.{◌≡◌, ℕ, ◌+◌, ◌*◌, ◌<◌, ◌≤◌, All, Bool, true, false, List, [], ◌∷◌, ◌++◌, length, map, replicate, codes, if◌then◌else◌, Option, Some, None}
-use Rattle.std.specs.List.{flat_map}
+use Rattle.std.specs.Prelude.{◌≡◌, ℕ, ◌+◌, ◌*◌, ◌<◌, ◌≤◌, nat_lt, ◌&&◌, All, Bool, true, false, List, [], ◌∷◌, ◌++◌, length, map, replicate, codes, if◌then◌else◌, Option, Some, None}
+use Rattle.std.specs.List.{flat_map, list_all}
 use Rattle.std.specs.Str.{bytes_eq}
-use Rattle.strm_codes.specs.Layout.{scalars_of, item_size}
+use Rattle.strm_codes.specs.Layout.{item_type}
+use Rattle.strm_codes.specs.ItemTypes.{item_size, ItemType}
+use Rattle.strm_codes.specs.NodeBytes.{node_byte}
 use Rattle.strm_codes.specs.Sameness.{scalar_number}
 use Rattle.strm_codes.specs.Types.{payload_of}
-use Rattle.strm_codes.specs.declared.scalars.Scalar.{Scalar}
 use Rattle.strm_codes.specs.declared.payloads.Payload.{Payload}
-use Rattle.strm_codes.specs.declared.payloads.Payload.TheVariants.{Nothing, One, Tuple}
+use Rattle.strm_codes.specs.declared.payloads.Payload.TheVariants.{Nothing, One, Tuple, Compound}
 use Rattle.strm_codes.specs.declared.codes.TransmitIndex.{TransmitIndex}
 use Rattle.strm_codes.specs.declared.codes.TransmitIndex.TheVariants.{Stream, Future}
 use Rattle.strm_memory.specs.Bytes.{to_le}
@@ -24,11 +25,13 @@ use Rattle.strm_lines.specs.Grammar.{Argument, Number, Within, Typed, Count, Byt
 abbrev pub number_bytes : ℕ → List ℕ
 number_bytes n = to_le 4 n
 
--- a payload: nothing, a scalar, or one to eight scalars, each by its place among the scalars
+-- a payload: nothing, a scalar, one to eight scalars, each by its place among the scalars, or the words of
+-- a type that holds others
 abbrev pub payload_bytes : Payload → List ℕ
 payload_bytes Nothing = 0 ∷ []
 payload_bytes (One scalar) = 1 ∷ scalar_number scalar ∷ []
 payload_bytes (Tuple shape) = 2 ∷ length shape ∷ map scalar_number shape
+payload_bytes (Compound words) = 3 ∷ length words ∷ map node_byte words
 
 -- a kind, and a payload
 abbrev pub type_bytes : TransmitIndex → List ℕ
@@ -103,18 +106,18 @@ answer_number Dropped = 3
 answer_number Failed = 4
 
 -- items as they lie in bytes that were 0
-abbrev pub region_bytes : List Scalar → List Item → List ℕ
+abbrev pub region_bytes : ItemType → List Item → List ℕ
 region_bytes ss xs = stored ss (replicate (item_size ss * length xs) 0) xs
 
 -- items behind their number
-abbrev pub items_bytes : List Scalar → List Item → List ℕ
+abbrev pub items_bytes : ItemType → List Item → List ℕ
 items_bytes ss xs = number_bytes (length xs) ++ region_bytes ss xs
 
 -- a record of a host writer
 abbrev pub writer_record_bytes : WriterSaid → List ℕ
 writer_record_bytes said =
     room_bytes said.room
-    ++ (flag_byte said.finish ∷ (items_bytes (scalars_of said.payload) said.items ++ (answer_number said.answer ∷ [])))
+    ++ (flag_byte said.finish ∷ (items_bytes (item_type said.payload) said.items ++ (answer_number said.answer ∷ [])))
 
 -- a record of a host reader
 abbrev pub reader_record_bytes : ReaderSaid → List ℕ
@@ -164,14 +167,33 @@ writer_bytes writer = type_bytes writer.ty ++ spelled_counted writer_record_byte
 abbrev pub reader_bytes : ReaderTape → List ℕ
 reader_bytes reader = type_bytes reader.ty ++ spelled_counted reader_record_bytes reader.said
 
--- what a tape begins with: `STRT`, and the version
-abbrev pub head_bytes : List ℕ
-head_bytes = 83 ∷ 84 ∷ 82 ∷ 84 ∷ 1 ∷ []
+-- a payload that the first version knows: no float, and no type that holds others
+abbrev pub is_first_payload : Payload → Bool
+is_first_payload Nothing = true
+is_first_payload (One scalar) = nat_lt (scalar_number scalar) 10
+is_first_payload (Tuple shape) = list_all (λ s. nat_lt (scalar_number s) 10) shape
+is_first_payload (Compound words) = false
+
+-- an argument that it knows
+abbrev pub is_first_argument : Argument → Bool
+is_first_argument (Typed ty) = is_first_payload (payload_of ty)
+is_first_argument argument = true
+
+-- whether all that a tape says can be said by the first version
+abbrev pub is_first : TapeOf → Bool
+is_first tape =
+    list_all (λ step. list_all is_first_argument (line_of step).arguments) tape.steps
+    && (list_all (λ writer. is_first_payload (payload_of writer.ty)) tape.writers
+    && list_all (λ reader. is_first_payload (payload_of reader.ty)) tape.readers)
+
+-- what a tape begins with: `STRT`, and its version, which is the least that can say it
+abbrev pub head_bytes : Bool → List ℕ
+head_bytes first = 83 ∷ 84 ∷ 82 ∷ 84 ∷ (if first then 1 else 2) ∷ []
 
 -- the spelling of a tape
 abbrev pub tape_spelling : TapeOf → List ℕ
 tape_spelling tape =
-    head_bytes
+    head_bytes (is_first tape)
     ++ (spelled_counted step_bytes tape.steps
     ++ (few_counted writer_bytes tape.writers
     ++ few_counted reader_bytes tape.readers))
@@ -188,7 +210,7 @@ pub record IsWriterRecord (payload : Payload) (said : WriterSaid) : Type 0 where
   pub of : said.payload ≡ payload
   pub room : IsSpelledRoom said.room
   pub few : length said.items < 4294967295
-  pub fit : AreItems (scalars_of payload) said.items
+  pub fit : AreItems (item_type payload) said.items
 
 -- a record of a host reader
 pub record IsReaderRecord (said : ReaderSaid) : Type 0 where

@@ -15,4 +15,5 @@ pub mod tapable;
 pub mod tape;
 pub mod taping;
 pub mod untaping;
+mod versions;
 mod writing;

@@ -5,9 +5,11 @@
 ghost use Rattle.std.specs.Prelude.{◌≡◌, ◌≤◌, slice_get};
 ghost use Rattle.std.specs.Option.{option_map};
 ghost use Rattle.strm_memory.specs.Bytes.{IsBytes};
-ghost use Rattle.strm_tape.specs.Reading.{byte, read_number, within, scalars, scalar, fields, shape, payload_by, payload, type_by, transmit_type, read_count, chunk};
+ghost use Rattle.strm_tape.specs.Reading.{byte, read_number, within, scalars, scalar, fields, shape, type_word, spelled_type, words_of_type, compound, payload_by, payload, type_by, transmit_type, read_count, chunk};
 
 use strm_codes::codes::TransmitIndex;
+use strm_codes::compounds::Compound;
+use strm_codes::nodes::Node;
 use strm_codes::payloads::{Payload, Shape};
 use strm_codes::scalars::Scalar;
 use strm_machine::chunks::Chunk;
@@ -72,6 +74,8 @@ fn scalar_at(place: u8) -> Option<Scalar>
         Scalar::S64,
         Scalar::U64,
         Scalar::Char,
+        Scalar::F32,
+        Scalar::F64,
     ];
     all.get(usize::from(place)).copied()
 }
@@ -135,6 +139,56 @@ fn shape(bytes: &[u8]) -> Option<(Shape, &[u8])>
     }
 }
 
+// A word of a type, and what follows it.
+#[tactic(auto, unfolding(crate::specs::Reading::type_word))]
+fn type_word(bytes: &[u8]) -> Option<(Node, &[u8])>
+    ensures { option_map (λ p. (p.0, p.1.now)) result ≡ type_word bytes.now }
+{
+    let (place, rest) = byte(bytes)?;
+    let word = Node::from_byte(place)?;
+    Some((word, rest))
+}
+
+// The type that words spell, if it holds others.
+fn spelled_type<'a>(words: &[Node], rest: &'a [u8]) -> Option<(Compound, &'a [u8])>
+    ensures { option_map (λ p. (p.0, p.1.now)) result ≡ spelled_type words.now rest.now }
+{
+    let Some(compound) = Compound::new(words) else {
+        return None;
+    };
+    Some((compound, rest))
+}
+
+// So many words of a type that holds others, and what follows them.
+fn words_of_type(count: u8, bytes: &[u8]) -> Option<(Compound, &[u8])>
+    requires { count ≤ 16 }
+    ensures { option_map (λ p. (p.0, p.1.now)) result ≡ words_of_type count bytes.now }
+{
+    let mut words = [Node::Nothing; 16];
+    let mut rest = bytes;
+    for k in 0..usize::from(count) {
+        let Some((word, behind)) = type_word(rest) else {
+            return None;
+        };
+        words[k] = word;
+        rest = behind;
+    }
+    spelled_type(&words[..usize::from(count)], rest)
+}
+
+// The same behind their number.
+#[tactic(auto, unfolding(crate::specs::Reading::compound))]
+fn compound(bytes: &[u8]) -> Option<(Compound, &[u8])>
+    ensures { option_map (λ p. (p.0, p.1.now)) result ≡ compound bytes.now }
+{
+    let (count, rest) = byte(bytes)?;
+    if count <= 16 {
+        words_of_type(count, rest)
+    } else {
+        None
+    }
+}
+
 // A payload, and what follows it.
 #[tactic(auto, unfolding(crate::specs::Reading::payload))]
 pub(crate) fn payload(bytes: &[u8]) -> Option<(Payload, &[u8])>
@@ -160,6 +214,11 @@ fn payload_by(form: u8, bytes: &[u8]) -> Option<(Payload, &[u8])>
             return None;
         };
         Some((Payload::Tuple(shape), rest))
+    } else if form == 3 {
+        let Some((compound, rest)) = compound(bytes) else {
+            return None;
+        };
+        Some((Payload::Compound(compound), rest))
     } else {
         None
     }

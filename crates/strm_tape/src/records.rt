@@ -5,7 +5,8 @@
 
 ghost use Rattle.std.specs.Prelude.{◌≡◌, ◌<◌, ◌*◌, ◌++◌, ◌∷◌, [], Bool, true, false, length, replicate, slice_get, if◌then◌else◌, Some, None, IsTrue, IfOk, OnOk};
 ghost use Rattle.std.specs.Option.{option_map, is_some};
-ghost use Rattle.strm_codes.specs.Layout.{scalars_of, item_size, is_number_payload};
+ghost use Rattle.strm_codes.specs.Layout.{item_type, is_number_payload};
+ghost use Rattle.strm_codes.specs.ItemTypes.{item_size};
 ghost use Rattle.strm_buffers.specs.Listing.{items_in, AreItemsKept};
 ghost use Rattle.strm_tape.specs.Reading.{read_as, flag, all_answers, answer, room_of_number, read_room, items_as_written, region, read_item_list, read_writer_record, read_reader_record, typed_items};
 
@@ -85,12 +86,12 @@ fn room(bytes: &[u8]) -> Option<(Option<u32>, &[u8])>
 
 // Writes so many items of these bytes over zeros: whether there are so many, and lie so in the bytes.
 fn write_again(bytes: &[u8], payload: Payload, count: u32, written: &mut Vec<u8>) -> bool
-    requires all { length bytes.now ≡ item_size (scalars_of payload) * count }
+    requires all { length bytes.now ≡ item_size (item_type payload) * count }
     requires zeros { written.old.items ≡ replicate (length bytes.now) 0 }
     requires few { count < 4294967295 }
     ensures kept { IsTrue result → AreItemsKept payload written.new.items 0 count }
-    ensures exact { items_as_written (scalars_of payload) bytes.now count
-        ≡ (if result then Some (items_in (scalars_of payload) written.new.items 0 count)
+    ensures exact { items_as_written (item_type payload) bytes.now count
+        ≡ (if result then Some (items_in (item_type payload) written.new.items 0 count)
         else None) }
 {
     are_bytes(bytes);
@@ -108,12 +109,12 @@ fn fill_plain(
     written: &mut Vec<u8>,
 ) -> Result<(), OutOfMemory>
     requires number { is_number_payload payload ≡ true }
-    requires all { length bytes.now ≡ item_size (scalars_of payload) * count }
+    requires all { length bytes.now ≡ item_size (item_type payload) * count }
     requires empty { written.old.items ≡ [] }
     requires few { count < 4294967295 }
     ensures kept { OnOk result (AreItemsKept payload written.new.items 0 count) }
-    ensures exact { OnOk result (items_as_written (scalars_of payload) bytes.now count
-        ≡ Some (items_in (scalars_of payload) written.new.items 0 count)) }
+    ensures exact { OnOk result (items_as_written (item_type payload) bytes.now count
+        ≡ Some (items_in (item_type payload) written.new.items 0 count)) }
 {
     are_bytes(bytes);
     put(written, bytes)?;
@@ -127,13 +128,13 @@ fn fill(
     count: u32,
     written: &mut Vec<u8>,
 ) -> Result<bool, OutOfMemory>
-    requires all { length bytes.now ≡ item_size (scalars_of payload) * count }
+    requires all { length bytes.now ≡ item_size (item_type payload) * count }
     requires empty { written.old.items ≡ [] }
     requires few { count < 4294967295 }
     ensures kept { IfOk result (λ same. IsTrue same →
         AreItemsKept payload written.new.items 0 count) }
-    ensures exact { IfOk result (λ same. items_as_written (scalars_of payload) bytes.now count
-        ≡ (if same then Some (items_in (scalars_of payload) written.new.items 0 count) else None)) }
+    ensures exact { IfOk result (λ same. items_as_written (item_type payload) bytes.now count
+        ≡ (if same then Some (items_in (item_type payload) written.new.items 0 count) else None)) }
 {
     if payload.is_number() {
         fill_plain(bytes, payload, count, written)?;
@@ -150,11 +151,11 @@ fn items_of_bytes(
     count: u32,
     bytes: &[u8],
 ) -> Result<Option<Items>, OutOfMemory>
-    requires all { length bytes.now ≡ item_size (scalars_of payload.now) * count }
+    requires all { length bytes.now ≡ item_size (item_type payload.now) * count }
     requires few { count < 4294967295 }
     ensures { IfOk result (λ found. found
         ≡ option_map (typed_items payload.now)
-        (items_as_written (scalars_of payload.now) bytes.now count)) }
+        (items_as_written (item_type payload.now) bytes.now count)) }
 {
     let mut written = Vec::new(alloc);
     if !fill(bytes, *payload, count, &mut written)? {
@@ -173,7 +174,7 @@ fn region(
 ) -> Result<Option<(Items, &[u8])>, OutOfMemory>
     requires few { count < 4294967295 }
     ensures { IfOk result (λ found. option_map (λ p. (p.0, p.1.now)) found
-        ≡ read_as (typed_items payload) (region (scalars_of payload) count) bytes.now) }
+        ≡ read_as (typed_items payload) (region (item_type payload) count) bytes.now) }
 {
     let size = payload.size() as usize * count as usize;
     if bytes.len() < size {
@@ -194,7 +195,7 @@ fn items_of(
     bytes: &[u8],
 ) -> Result<Option<(Items, &[u8])>, OutOfMemory>
     ensures { IfOk result (λ found. option_map (λ p. (p.0, p.1.now)) found
-        ≡ read_as (typed_items payload) (read_item_list (scalars_of payload)) bytes.now) }
+        ≡ read_as (typed_items payload) (read_item_list (item_type payload)) bytes.now) }
 {
     let Some((count, rest)) = number(bytes) else {
         return Ok(None);
@@ -213,10 +214,10 @@ fn are_items(
     count: u32,
     written: &mut Vec<u8>,
 ) -> Result<bool, OutOfMemory>
-    requires all { length bytes.now ≡ item_size (scalars_of payload) * count }
+    requires all { length bytes.now ≡ item_size (item_type payload) * count }
     requires few { count < 4294967295 }
     ensures { IfOk result (λ good. good
-        ≡ is_some (items_as_written (scalars_of payload) bytes.now count)) }
+        ≡ is_some (items_as_written (item_type payload) bytes.now count)) }
 {
     if payload.is_number() {
         are_bytes(bytes);
@@ -237,7 +238,7 @@ fn after_region<'a>(
 ) -> Result<Option<&'a [u8]>, OutOfMemory>
     requires few { count < 4294967295 }
     ensures { IfOk result (λ found. option_map (λ rest. rest.now) found
-        ≡ option_map (λ p. p.1) (region (scalars_of payload) count bytes.now)) }
+        ≡ option_map (λ p. p.1) (region (item_type payload) count bytes.now)) }
 {
     let size = payload.size() as usize * count as usize;
     if bytes.len() < size {
@@ -260,7 +261,7 @@ fn after_items<'a>(
     written: &mut Vec<u8>,
 ) -> Result<Option<&'a [u8]>, OutOfMemory>
     ensures { IfOk result (λ found. option_map (λ rest. rest.now) found
-        ≡ option_map (λ p. p.1) (read_item_list (scalars_of payload) bytes.now)) }
+        ≡ option_map (λ p. p.1) (read_item_list (item_type payload) bytes.now)) }
 {
     let Some((count, rest)) = number(bytes) else {
         return Ok(None);

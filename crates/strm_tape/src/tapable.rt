@@ -18,6 +18,9 @@ fn sound_payload(payload: &Payload)
         Payload::Tuple(shape) => {
             let _ = shape.len();
         }
+        Payload::Compound(compound) => {
+            let _ = compound.as_slice();
+        }
         Payload::Nothing | Payload::One(_) => {}
     }
 }

@@ -4,12 +4,14 @@
 
 ghost use Rattle.std.specs.Prelude.{◌≡◌, ◌*◌, ◌++◌, ◌∷◌, [], All, length, IfOk, OnOk};
 ghost use Rattle.std.specs.List.{flat_map};
-ghost use Rattle.strm_codes.specs.Layout.{scalars_of, item_size};
+ghost use Rattle.strm_codes.specs.Layout.{item_type};
+ghost use Rattle.strm_codes.specs.ItemTypes.{item_size};
 ghost use Rattle.strm_memory.specs.Items.{stored};
 ghost use Rattle.strm_lines.specs.Grammar.{IsU32};
-ghost use Rattle.strm_tape.specs.Spelling.{IsWriterTape, IsReaderTape, room_bytes, flag_byte, answer_number, region_bytes, writer_record_bytes, reader_record_bytes, step_bytes, writer_bytes, reader_bytes, tape_spelling};
+ghost use Rattle.strm_tape.specs.Spelling.{IsWriterTape, IsReaderTape, room_bytes, flag_byte, answer_number, region_bytes, writer_record_bytes, reader_record_bytes, step_bytes, writer_bytes, reader_bytes, head_bytes, tape_spelling};
 
 use crate::tape::{ReaderTape, Tape, WriterTape};
+use crate::versions::is_first;
 use crate::writing::{put, put_number, put_step, put_type, put_zeros};
 use std::alloc::Global;
 use std::marker::Model;
@@ -52,7 +54,7 @@ fn put_room(out: &mut Vec<u8>, room: Option<u32>) -> Result<(), OutOfMemory>
 // Items as they lie in bytes that were 0.
 pub(crate) fn put_items(out: &mut Vec<u8>, items: &Items) -> Result<(), OutOfMemory>
     ensures { OnOk result (out.new.items ≡ out.old.items
-        ++ region_bytes (scalars_of items.now.payload) items.now.items) }
+        ++ region_bytes (item_type items.now.payload) items.now.items) }
 {
     let start = out.len();
     put_zeros(out, items.payload().size() as usize * items.len())?;
@@ -152,11 +154,22 @@ fn put_readers(out: &mut Vec<u8>, readers: &[ReaderTape]) -> Result<(), OutOfMem
     Ok(())
 }
 
+// What a tape begins with.
+fn put_head(out: &mut Vec<u8>, first: bool) -> Result<(), OutOfMemory>
+    ensures { OnOk result (out.new.items ≡ out.old.items ++ head_bytes first) }
+{
+    if first {
+        put(out, b"STRT\x01")
+    } else {
+        put(out, b"STRT\x02")
+    }
+}
+
 // All of a tape.
 fn put_tape(out: &mut Vec<u8>, tape: &Tape) -> Result<(), OutOfMemory>
     ensures { OnOk result (out.new.items ≡ out.old.items ++ tape_spelling tape.now) }
 {
-    put(out, b"STRT\x01")?;
+    put_head(out, is_first(tape))?;
     put_number(out, tape.steps.len() as u32)?;
     put_steps(out, &tape.steps)?;
     put(out, &[tape.writers.len() as u8])?;
@@ -188,7 +201,7 @@ impl TapeBytes {
     }
 }
 
-/// The bytes that spell a tape, written in one pass. After `OutOfMemory` nothing was kept.
+/// The bytes that spell a tape, of the least version that can say it, written in one pass. After `OutOfMemory` nothing was kept.
 pub fn tape_bytes(alloc: Global, tape: &Tape) -> Result<TapeBytes, OutOfMemory>
     ensures { IfOk result (λ bytes. bytes ≡ tape_spelling tape.now) }
 {

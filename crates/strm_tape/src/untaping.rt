@@ -5,40 +5,40 @@
 ghost use Rattle.std.specs.Prelude.{◌≡◌, ◌≢◌, ◌⊎◌, List, ℕ, IfOk, IfErr, IsErrOf};
 ghost use Rattle.std.specs.Option.{option_map};
 ghost use Rattle.strm_tape.specs.Spelling.{tape_spelling, TapeOf, IsTape};
-ghost use Rattle.strm_tape.specs.Reading.{head, tape};
+ghost use Rattle.strm_tape.specs.Reading.{head, tape_parts, tape};
 
 use crate::errors::TapeError;
 use crate::lists::{few_readers, few_writers, listed_steps};
 use crate::parts::are_bytes;
 use crate::tape::Tape;
+use crate::versions::is_first;
 use std::alloc::Global;
 use strm_codes::counts::OutOfMemory;
 
-// What follows that with which a tape begins.
+// Whether a tape's version is the first, and what follows that with which it begins.
 #[tactic(auto, unfolding(crate::specs::Reading::head))]
-fn head(bytes: &[u8]) -> Option<&[u8]>
-    ensures { option_map (λ rest. rest.now) result ≡ option_map (λ p. p.1) (head bytes.now) }
+fn head(bytes: &[u8]) -> Option<(bool, &[u8])>
+    ensures { option_map (λ p. (p.0, p.1.now)) result ≡ head bytes.now }
 {
     if bytes.len() < 5 {
         return None;
     }
     let (front, rest) = bytes.split_at(5);
     if front == b"STRT\x01".as_slice() {
-        Some(rest)
+        Some((true, rest))
+    } else if front == b"STRT\x02".as_slice() {
+        Some((false, rest))
     } else {
         None
     }
 }
 
-// A tape, and what follows it.
-fn tape(alloc: Global, bytes: &[u8]) -> Result<Option<(Tape, &[u8])>, OutOfMemory>
-    ensures { IfOk result (λ found. option_map (λ p. (p.0, p.1.now)) found ≡ tape bytes.now) }
+// What a tape says, and what follows it.
+fn tape_parts(alloc: Global, bytes: &[u8]) -> Result<Option<(Tape, &[u8])>, OutOfMemory>
+    ensures { IfOk result (λ found. option_map (λ p. (p.0, p.1.now)) found ≡ tape_parts bytes.now) }
 {
     are_bytes(bytes);
-    let Some(rest) = head(bytes) else {
-        return Ok(None);
-    };
-    let Some((steps, rest)) = listed_steps(alloc, rest)? else {
+    let Some((steps, rest)) = listed_steps(alloc, bytes)? else {
         return Ok(None);
     };
     let Some((writers, rest)) = few_writers(alloc, rest)? else {
@@ -55,6 +55,23 @@ fn tape(alloc: Global, bytes: &[u8]) -> Result<Option<(Tape, &[u8])>, OutOfMemor
         },
         rest,
     )))
+}
+
+// A tape, and what follows it.
+fn tape(alloc: Global, bytes: &[u8]) -> Result<Option<(Tape, &[u8])>, OutOfMemory>
+    ensures { IfOk result (λ found. option_map (λ p. (p.0, p.1.now)) found ≡ tape bytes.now) }
+{
+    let Some((first, rest)) = head(bytes) else {
+        return Ok(None);
+    };
+    let Some((tape, rest)) = tape_parts(alloc, rest)? else {
+        return Ok(None);
+    };
+    if is_first(&tape) == first {
+        Ok(Some((tape, rest)))
+    } else {
+        Ok(None)
+    }
 }
 
 /// The tape that these bytes spell, read in one pass. What is no tape is told as `NotATape`, whatever is

@@ -3,13 +3,16 @@
 //!
 //! Source: ours.
 
-ghost use Rattle.std.specs.Prelude.{◌≡◌, [], ◌∷◌, ◌++◌, map, replicate, OnOk};
+ghost use Rattle.std.specs.Prelude.{◌≡◌, ◌≤◌, [], ◌∷◌, ◌++◌, length, map, replicate, OnOk};
+ghost use Rattle.strm_codes.specs.NodeBytes.{node_byte};
 ghost use Rattle.strm_codes.specs.Sameness.{scalar_number};
+ghost use Rattle.strm_codes.specs.Spellings.{AreSpelled};
 ghost use Rattle.strm_lines.specs.Grammar.{Number, Typed, operands};
 ghost use Rattle.strm_tape.specs.Spelling.{number_bytes, payload_bytes, type_bytes, counted_bytes, arguments_bytes, step_bytes};
 
 use strm_codes::codes::TransmitIndex;
 use strm_codes::counts::OutOfMemory;
+use strm_codes::nodes::Node;
 use strm_codes::payloads::Payload;
 use strm_codes::scalars::Scalar;
 use strm_machine::chunks::Chunk;
@@ -69,6 +72,8 @@ fn place_of(scalar: Scalar) -> u8
         Scalar::S64 => 7,
         Scalar::U64 => 8,
         Scalar::Char => 9,
+        Scalar::F32 => 10,
+        Scalar::F64 => 11,
     }
 }
 
@@ -123,6 +128,18 @@ fn put_shape(out: &mut Vec<u8>, scalars: &[Scalar]) -> Result<(), OutOfMemory>
     Ok(())
 }
 
+// The words of a type.
+fn put_type_words(out: &mut Vec<u8>, words: &[Node]) -> Result<(), OutOfMemory>
+    requires each { AreSpelled words.now }
+    requires few { length words.now ≤ 16 }
+    ensures { OnOk result (out.new.items ≡ out.old.items ++ map node_byte words.now) }
+{
+    for k in 0..words.len() {
+        put(out, &[words[k].to_byte()])?;
+    }
+    Ok(())
+}
+
 // A payload.
 pub(crate) fn put_payload(out: &mut Vec<u8>, payload: &Payload) -> Result<(), OutOfMemory>
     ensures { OnOk result (out.new.items ≡ out.old.items ++ payload_bytes payload.now) }
@@ -134,6 +151,11 @@ pub(crate) fn put_payload(out: &mut Vec<u8>, payload: &Payload) -> Result<(), Ou
             let scalars = shape.as_slice();
             put(out, &[2, scalars.len() as u8])?;
             put_shape(out, scalars)
+        }
+        Payload::Compound(compound) => {
+            let words = compound.as_slice();
+            put(out, &[3, words.len() as u8])?;
+            put_type_words(out, words)
         }
     }
 }

@@ -79,7 +79,7 @@ fn turns_of(alloc: Global, said: &[ReaderSaid]) -> Result<Vec<ReaderTurn>, OutOf
 
 impl HostReader for ReplayReader {
     ghost use Rattle.std.specs.Prelude.{true, false, OnErr};
-    ghost use Rattle.strm_codes.specs.Layout.{scalars_of};
+    ghost use Rattle.strm_codes.specs.Layout.{item_type};
     ghost use Rattle.strm_buffers.specs.Offers.{IsBadNext};
     ghost use Rattle.strm_buffers.specs.Said.{IfAnswered, IfNoMemory};
     ghost use Rattle.strm_buffers.specs.Tells.{PollsReader, KeepsReader, SameOffer, reader_record, first_lent, reader_tells_closed, reader_granted};
@@ -102,12 +102,12 @@ impl HostReader for ReplayReader {
         ensures polls { IfAnswered result (λ answer.
             PollsReader (replay_reader_tells self.old) (replay_reader_tells self.new)
             (reader_record offer.old offer.new finish answer)
-            (first_lent (scalars_of offer.old.payload) offer.old.source offer.new.taken)) }
+            (first_lent (item_type offer.old.payload) offer.old.source offer.new.taken)) }
         ensures no_memory { IfNoMemory result
             (KeepsReader (replay_reader_tells self.old) (replay_reader_tells self.new)) }
         ensures untaken { IfNoMemory result (offer.new.taken ≡ 0) }
         ensures next { offer.new.bad ≡ true →
-            IsBadNext (scalars_of offer.old.payload) offer.old.source offer.new.taken }
+            IsBadNext (item_type offer.old.payload) offer.old.source offer.new.taken }
         ensures same { SameOffer offer.old offer.new }
 
         // It follows the record of its place among the polls.
