@@ -13,4 +13,5 @@ mod ready;
 mod sets;
 mod stores;
 mod streams;
+mod types;
 mod version;

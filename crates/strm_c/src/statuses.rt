@@ -14,7 +14,8 @@ use strm_transmit::errors::StoreError;
 /// What an export answers: 0 where it was done, a refusal's number from 1 to 30, or one of those below.
 pub type Status = u32;
 
-/// An item that was to move is no Unicode scalar value. strm_find_bad_item tells which, and who writes it.
+/// An item that was to move is none of its type: a char that is no Unicode scalar value, or the number of a case that
+/// there is not. strm_find_bad_item tells which, and who writes it.
 pub const BAD_ITEM: Status = 64;
 
 /// An allocation was refused, and nothing has changed.
@@ -43,6 +44,12 @@ pub const SHORTER: Status = 75;
 
 /// The guest has bytes, handles, or a memory that was lent: it did not end, or began again.
 pub const IN_USE: Status = 76;
+
+/// The words of a type are more than seven.
+pub const TYPE_TOO_LONG: Status = 77;
+
+/// The words spell no type, more than one, or a tuple that STRM_FIELD makes.
+pub const NO_TYPE: Status = 78;
 
 /// The word of no event, which no code has.
 pub const NO_EVENT: u32 = 3;

@@ -14,7 +14,7 @@ use crate::statuses::{NO_BAD_ITEM, NO_STORE, Status, UNKNOWN_PAYLOAD};
 use strm_machine::streams::Side;
 use strm_transmit::BadItem;
 
-/// An item that is no Unicode scalar value: who writes it, and which of its write's items it is.
+/// An item that is none of its type: who writes it, and which of its write's items it is.
 #[repr(C)]
 #[derive(Drop)]
 pub struct StrmBadItem {

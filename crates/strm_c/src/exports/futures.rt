@@ -15,7 +15,7 @@ ghost use Rattle.strm_c.specs.Payloads.{payload_at};
 
 use crate::exports::pairs::{StrmPair, pair};
 use crate::handles::StoreHandle;
-use crate::payloads::payload_at;
+use crate::payloads::{number_payload_at, payload_at};
 use crate::statuses::{GUEST_LIMIT, NO_STORE, Status, UNKNOWN_PAYLOAD, code, done, operated};
 
 /// Makes a future whose two ends the guest gets, and puts their handles and the future's number at `out`,
@@ -67,6 +67,32 @@ pub extern "C" fn strm_future_write(
         result out.old out.new }
     ensures limits { store.new.limits ≡ store.old.limits }
 {
+    let Some(payload) = number_payload_at(payload) else {
+        return write_apart(store, guest, payload, handle, address, out);
+    };
+    let Some(store) = store.get_mut() else {
+        return NO_STORE;
+    };
+    operated(store.future_write(guest, payload, handle, address), out)
+}
+
+// The same of any word, apart from the code for numbers.
+#[tactic(auto, using(crate::proofs::OperateLemmas::is_operated))]
+#[cold]
+#[inline(never)]
+fn write_apart(
+    store: &mut StoreHandle,
+    guest: u32,
+    payload: u64,
+    handle: u32,
+    address: u32,
+    out: &mut u32,
+) -> Status
+    ensures answers { AnswersOperation store.old store.new payload
+        (λ payload. steps.Write guest (index.Future payload) handle address 1)
+        result out.old out.new }
+    ensures limits { store.new.limits ≡ store.old.limits }
+{
     let Some(store) = store.get_mut() else {
         return NO_STORE;
     };
@@ -82,6 +108,32 @@ pub extern "C" fn strm_future_write(
 #[tactic(auto, using(crate::proofs::OperateLemmas::is_operated))]
 #[unsafe(no_mangle)]
 pub extern "C" fn strm_future_read(
+    store: &mut StoreHandle,
+    guest: u32,
+    payload: u64,
+    handle: u32,
+    address: u32,
+    out: &mut u32,
+) -> Status
+    ensures answers { AnswersOperation store.old store.new payload
+        (λ payload. steps.Read guest (index.Future payload) handle address 1)
+        result out.old out.new }
+    ensures limits { store.new.limits ≡ store.old.limits }
+{
+    let Some(payload) = number_payload_at(payload) else {
+        return read_apart(store, guest, payload, handle, address, out);
+    };
+    let Some(store) = store.get_mut() else {
+        return NO_STORE;
+    };
+    operated(store.future_read(guest, payload, handle, address), out)
+}
+
+// The same of any word, apart from the code for numbers.
+#[tactic(auto, using(crate::proofs::OperateLemmas::is_operated))]
+#[cold]
+#[inline(never)]
+fn read_apart(
     store: &mut StoreHandle,
     guest: u32,
     payload: u64,

@@ -16,7 +16,7 @@ ghost use Rattle.strm_c.specs.Statuses.{AnswersCall, AnswersOf, AnswersOfOr, no_
 
 use crate::exports::pairs::{StrmPair, pair};
 use crate::handles::StoreHandle;
-use crate::payloads::{payload_at, scalar_type_at, type_at};
+use crate::payloads::{payload_at, scalar_future_at, scalar_stream_at, type_at};
 use crate::statuses::{GUEST_LIMIT, NO_STORE, Status, UNKNOWN_PAYLOAD, done, number};
 
 /// Makes a stream or future from one guest to another, which may be the same, and puts the handles of its
@@ -35,8 +35,34 @@ pub extern "C" fn strm_new_between(
         result out.old out.new }
     ensures kept { result ≢ 0 → out.new ≡ out.old }
 {
-    let Some(ty) = scalar_type_at(ty) else {
-        return between_apart(store, writer, reader, ty, out);
+    let Some(ty) = scalar_stream_at(ty) else {
+        return other_between(store, writer, reader, ty, out);
+    };
+    let Some(store) = store.limited_mut() else {
+        return NO_STORE;
+    };
+    let Ok(answer) = store.new_between(writer, reader, ty) else {
+        return GUEST_LIMIT;
+    };
+    pair(answer, out)
+}
+
+// The same of any word, apart from the code for streams of scalars.
+#[tactic(auto, using(crate::proofs::MakingLemmas::is_made))]
+#[inline(never)]
+fn other_between(
+    store: &mut StoreHandle,
+    writer: u32,
+    reader: u32,
+    word: u64,
+    out: &mut StrmPair,
+) -> Status
+    ensures answers { AnswersBetween store.old store.new writer reader (type_at word)
+        result out.old out.new }
+    ensures kept { result ≢ 0 → out.new ≡ out.old }
+{
+    let Some(ty) = scalar_future_at(word) else {
+        return between_apart(store, writer, reader, word, out);
     };
     let Some(store) = store.limited_mut() else {
         return NO_STORE;

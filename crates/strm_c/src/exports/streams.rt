@@ -17,7 +17,7 @@ ghost use Rattle.strm_c.specs.Statuses.{AnswersCall};
 
 use crate::exports::pairs::{StrmPair, pair};
 use crate::handles::StoreHandle;
-use crate::payloads::payload_at;
+use crate::payloads::{number_payload_at, payload_at};
 use crate::statuses::{
     GUEST_LIMIT, NO_STORE, Status, UNKNOWN_PAYLOAD, code, done, event, operated,
 };
@@ -73,6 +73,34 @@ pub extern "C" fn strm_stream_write(
         result out.old out.new }
     ensures limits { store.new.limits ≡ store.old.limits }
 {
+    let Some(payload) = number_payload_at(payload) else {
+        return write_apart(store, guest, payload, handle, address, count, out);
+    };
+    let Some(store) = store.get_mut() else {
+        return NO_STORE;
+    };
+    let answer = store.stream_write(guest, payload, handle, address, count);
+    operated(answer, out)
+}
+
+// The same of any word, apart from the code for numbers.
+#[tactic(auto, using(crate::proofs::OperateLemmas::is_operated))]
+#[cold]
+#[inline(never)]
+fn write_apart(
+    store: &mut StoreHandle,
+    guest: u32,
+    payload: u64,
+    handle: u32,
+    address: u32,
+    count: u32,
+    out: &mut u32,
+) -> Status
+    ensures answers { AnswersOperation store.old store.new payload
+        (λ payload. steps.Write guest (index.Stream payload) handle address count)
+        result out.old out.new }
+    ensures limits { store.new.limits ≡ store.old.limits }
+{
     let Some(store) = store.get_mut() else {
         return NO_STORE;
     };
@@ -90,6 +118,34 @@ pub extern "C" fn strm_stream_write(
 #[tactic(auto, using(crate::proofs::OperateLemmas::is_operated))]
 #[unsafe(no_mangle)]
 pub extern "C" fn strm_stream_read(
+    store: &mut StoreHandle,
+    guest: u32,
+    payload: u64,
+    handle: u32,
+    address: u32,
+    count: u32,
+    out: &mut u32,
+) -> Status
+    ensures answers { AnswersOperation store.old store.new payload
+        (λ payload. steps.Read guest (index.Stream payload) handle address count)
+        result out.old out.new }
+    ensures limits { store.new.limits ≡ store.old.limits }
+{
+    let Some(payload) = number_payload_at(payload) else {
+        return read_apart(store, guest, payload, handle, address, count, out);
+    };
+    let Some(store) = store.get_mut() else {
+        return NO_STORE;
+    };
+    let answer = store.stream_read(guest, payload, handle, address, count);
+    operated(answer, out)
+}
+
+// The same of any word, apart from the code for numbers.
+#[tactic(auto, using(crate::proofs::OperateLemmas::is_operated))]
+#[cold]
+#[inline(never)]
+fn read_apart(
     store: &mut StoreHandle,
     guest: u32,
     payload: u64,

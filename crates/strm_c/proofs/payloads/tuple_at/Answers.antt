@@ -2,8 +2,8 @@
 use Rattle.std.proofs.Common.{◌≡◌, ◌≤◌, ◌<◌, length, take, Some, refl, sym, ap, ◌∙◌, arith}
 use Rattle.std.proofs.lemmas.List.{length-set}
 use Rattle.std.proofs.Math.Seq.{take-length}
-use Rattle.strm_c.specs.Payloads.{fields_at, tuple_with}
-use Rattle.strm_c.proofs.PayloadLemmas.{joined-none, found_all, found_wrong, found_past, found_field}
+use Rattle.strm_c.specs.Payloads.{scalar_of_number, fields_at, tuple_with}
+use Rattle.strm_c.proofs.PayloadLemmas.{joined-none, found_all, found_wrong, found_past, found_first}
 use Rattle.strm_c.proofs.payloads.tuple_at.Goals as goal
 
 pub loop-k-init : goal.loop-k-init
@@ -11,16 +11,16 @@ loop-k-init c = (joined-none (fields_at 8 c.args.word), (refl, omega arith))
 
 pub returns-then-rest-eq0 : goal.returns-then-rest-eq0
 returns-then-rest-eq0 c =
-    c.tuple_of.ensures ∙ ap tuple_with (sym (found_all c.loop-k.fields c.loop-k.k c.loop-k.rest c.args.word c.loop-k.invariant.0 c.if-rest-eq0.true))
+    c.tuple_of.ensures ∙ ap tuple_with (sym (found_all 16 scalar_of_number 8 c.loop-k.fields c.loop-k.k c.loop-k.rest c.args.word c.loop-k.invariant.0 c.if-rest-eq0.true))
 
 pub returns-in_default : goal.returns-in_default
 returns-in_default c =
-    ap tuple_with (sym (found_wrong c.loop-k.fields c.loop-k.k c.loop-k.rest c.args.word c.loop-k.invariant.0 c.loop-k-test.true c.if-rest-eq0.false (sym c.scalar_at.ensures ∙ c.in_default.is)))
+    ap tuple_with (sym (found_wrong 16 scalar_of_number 8 c.loop-k.fields c.loop-k.k c.loop-k.rest c.args.word c.loop-k.invariant.0 c.loop-k-test.true c.if-rest-eq0.false (sym c.scalar_at.ensures ∙ c.in_default.is)))
 
 pub loop-k-preserved : goal.loop-k-preserved
 loop-k-preserved c =
     let inside : c.loop-k.k < length c.loop-k.fields = omega (arith, c.loop-k-test.true, c.loop-k.invariant.1.0) in (
-      found_field c.loop-k.fields c.loop-k.k c.loop-k.rest c.args.word c.loop-k.invariant.0 c.in-Some.field inside c.loop-k-test.true c.if-rest-eq0.false (sym c.scalar_at.ensures ∙ c.in-Some.is),
+      found_first 16 scalar_of_number 8 c.loop-k.fields c.loop-k.k c.loop-k.rest c.args.word c.loop-k.invariant.0 c.in-Some.field inside c.loop-k-test.true c.if-rest-eq0.false (sym c.scalar_at.ensures ∙ c.in-Some.is),
       (length-set c.loop-k.fields c.loop-k.k c.in-Some.field ∙ c.loop-k.invariant.1.0, omega (arith, c.loop-k-test.true)),
     )
 
@@ -28,10 +28,10 @@ pub returns-then-rest-eq0-2 : goal.returns-then-rest-eq0-2
 returns-then-rest-eq0-2 c =
     let whole : c.loop-k.k ≡ 8 = omega (arith, c.loop-k-test.false, c.loop-k.invariant.1.1) in
     c.tuple_of-then-rest-eq0-2.ensures
-    ∙ ap tuple_with (sym (found_all c.loop-k.fields c.loop-k.k c.loop-k.rest c.args.word c.loop-k.invariant.0 c.if-rest-eq0-2.true
+    ∙ ap tuple_with (sym (found_all 16 scalar_of_number 8 c.loop-k.fields c.loop-k.k c.loop-k.rest c.args.word c.loop-k.invariant.0 c.if-rest-eq0-2.true
     ∙ ap (λ k. Some (take k c.loop-k.fields)) (whole ∙ sym c.loop-k.invariant.1.0) ∙ ap Some (take-length c.loop-k.fields)))
 
 pub returns-else-rest-eq0-2 : goal.returns-else-rest-eq0-2
 returns-else-rest-eq0-2 c =
     let past : 8 ≤ c.loop-k.k = omega (arith, c.loop-k-test.false) in
-    ap tuple_with (sym (found_past c.loop-k.fields c.loop-k.k c.loop-k.rest c.args.word c.loop-k.invariant.0 past c.if-rest-eq0-2.false))
+    ap tuple_with (sym (found_past 16 scalar_of_number 8 c.loop-k.fields c.loop-k.k c.loop-k.rest c.args.word c.loop-k.invariant.0 past c.if-rest-eq0-2.false))
