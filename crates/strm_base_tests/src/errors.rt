@@ -118,8 +118,8 @@ fn errors_of_counts_and_memories_print(rt: HostRuntime) {
     let odd = RegionError::NotAligned;
     display_is(&rt, alloc, &odd, "the address is not aligned");
     let bad = LiftError::BadItem { index: 7 };
-    display_is(&rt, alloc, &bad, "item 7 is no Unicode scalar value");
+    display_is(&rt, alloc, &bad, "item 7 is none of its type");
     display_is(&rt, alloc, &LiftError::OutOfMemory, "out of memory");
-    let copied = "an item is no Unicode scalar value";
+    let copied = "an item is none of its type";
     display_is(&rt, alloc, &BadItem, copied);
 }

@@ -11,6 +11,8 @@ mod buffers;
 #[cfg(test)]
 mod codes;
 #[cfg(test)]
+mod compounds;
+#[cfg(test)]
 mod ends;
 #[cfg(test)]
 mod errors;

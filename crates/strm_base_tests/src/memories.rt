@@ -16,12 +16,12 @@ use strm_memory::memories::{GuestMemory, OutOfBounds};
 
 const BYTES: Payload = Payload::One(Scalar::U8);
 
-fn value(rt: &impl Abort, numbers: &[i128]) -> Value {
+pub(crate) fn value(rt: &impl Abort, numbers: &[i128]) -> Value {
     Value::new(numbers).expect(rt, "a value")
 }
 
 // Items lifted from 16 bytes; `OutOfMemory` stands for bytes that are too few.
-fn lifted(
+pub(crate) fn lifted(
     payload: Payload,
     count: u32,
     bytes: &[u8; 16],
@@ -51,7 +51,7 @@ fn items_are_lifted(rt: HostRuntime) {
 }
 
 // One item lowered over 8 bytes aa.
-fn lowered(payload: Payload, value: Value) -> [u8; 8] {
+pub(crate) fn lowered(payload: Payload, value: Value) -> [u8; 8] {
     let mut bytes = [0xaa; 8];
     if payload.size() <= 8 && value.fits(payload) {
         lower_items(&[value], payload, &mut bytes);
@@ -60,10 +60,38 @@ fn lowered(payload: Payload, value: Value) -> [u8; 8] {
 }
 
 #[test]
+fn floats_are_their_bits(rt: HostRuntime) {
+    let mut out = Vec::new(rt.alloc());
+    let nans = b"\x01\x00\x80\x7f\x00\x00\xc0\xff\x00\x00\x80\x3f\x00\x00\x00\x80";
+    is(
+        &rt,
+        lifted(Payload::One(Scalar::F32), 4, nans, &mut out),
+        Ok(()),
+    );
+    let double = b"\x01\x00\x00\x00\x00\x00\xf0\x7f\x00\x00\x00\x00\x00\x00\xf8\xff";
+    is(
+        &rt,
+        lifted(Payload::One(Scalar::F64), 1, double, &mut out),
+        Ok(()),
+    );
+    let wanted = [
+        value(&rt, &[0x7f80_0001]),
+        value(&rt, &[0xffc0_0000]),
+        value(&rt, &[0x3f80_0000]),
+        value(&rt, &[0x8000_0000]),
+        value(&rt, &[0x7ff0_0000_0000_0001]),
+    ];
+    is(&rt, out.as_slice(), wanted.as_slice());
+}
+
+#[test]
 fn items_are_lowered(rt: HostRuntime) {
     let pair = value(&rt, &[7, 305_419_896]);
     let found = lowered(tuple(&[Scalar::U8, Scalar::U32]), pair);
     is(&rt, found, *b"\x07\xaa\xaa\xaa\x78\x56\x34\x12");
+    let signalling = value(&rt, &[0x7ff0_0000_0000_0001]);
+    let found = lowered(Payload::One(Scalar::F64), signalling);
+    is(&rt, found, *b"\x01\x00\x00\x00\x00\x00\xf0\x7f");
     let signed = value(&rt, &[-2, -1]);
     let found = lowered(tuple(&[Scalar::S16, Scalar::S32]), signed);
     is(&rt, found, *b"\xfe\xff\xaa\xaa\xff\xff\xff\xff");

@@ -1,7 +1,8 @@
 //! Items copied from one slice to another, as they are between two guests.
 
 ghost use Rattle.std.specs.Prelude.{◌≡◌, ◌*◌, ◌≤◌, length, IfOk, vec_len};
-ghost use Rattle.strm_codes.specs.Layout.{scalars_of, item_size};
+ghost use Rattle.strm_codes.specs.Layout.{item_type};
+ghost use Rattle.strm_codes.specs.ItemTypes.{item_size};
 
 use crate::sums::sum_of;
 use std::alloc::Global;
@@ -53,8 +54,8 @@ pub struct Copies {
     count: ItemCount,
     source: Vec<u8>,
     destination: Vec<u8>,
-    ghost source_holds: { item_size (scalars_of payload) * count ≤ vec_len source },
-    ghost room: { item_size (scalars_of payload) * count ≤ vec_len destination },
+    ghost source_holds: { item_size (item_type payload) * count ≤ vec_len source },
+    ghost room: { item_size (item_type payload) * count ≤ vec_len destination },
 }
 
 impl Copies {

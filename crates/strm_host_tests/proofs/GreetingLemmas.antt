@@ -1,7 +1,7 @@
 -- A greeting does what every producer owes.
 use Rattle.std.proofs.Common.{◌≡◌, ℕ, ◌+◌, ◌≤◌, inl, inr, List, [], ◌∷◌, ◌++◌, length, take, min, pos, refl, sym, ap, subst, arith, length-append}
 use Rattle.std.proofs.lemmas.List.{take_at, drop_at, length-take, length-map}
-use Rattle.strm_codes.specs.Layout.{scalars_of}
+use Rattle.strm_codes.specs.Layout.{item_type}
 use Rattle.strm_codes.specs.declared.codes.StreamResult.{StreamResult}
 use Rattle.strm_codes.specs.declared.codes.StreamResult.TheVariants as result
 use Rattle.strm_buffers.specs.declared.answers.Turn.{Turn}
@@ -19,7 +19,7 @@ written_fills w capacity bytes =
     let items = byte_items bytes in
     record {
       payload = refl;
-      place = ap (stored_in (scalars_of w.payload) w.place (length w.marked)) (sym (drop_at w.marked items (length w.marked) refl));
+      place = ap (stored_in (item_type w.payload) w.place (length w.marked)) (sym (drop_at w.marked items (length w.marked) refl));
       marked = take_at w.marked items (length w.marked) refl;
       prepared = refl;
       base = refl;

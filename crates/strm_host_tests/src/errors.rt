@@ -51,7 +51,7 @@ fn errors_of_values_print(rt: HostRuntime) {
         &NotErrorContext,
         "the value is no error context",
     );
-    let bad = "the next item is no Unicode scalar value";
+    let bad = "the next item is none of its type";
     prints(&rt, alloc, &ReadError::BadItem, bad);
     prints(&rt, alloc, &ReadError::OutOfMemory, "out of memory");
 }

@@ -5,8 +5,12 @@ use crate::play::{AMPLE, Row};
 use crate::told::{BLOCKED, Told, done, number, pair};
 use std::alloc::Global;
 use std::process::Abort;
-use strm_codes::codes::ReturnCode;
+use strm_codes::codes::{ReturnCode, TransmitIndex};
+use strm_codes::compounds::Compound;
+use strm_codes::nodes::Node;
+use strm_codes::payloads::Payload;
 use strm_codes::refusals::Refusal;
+use strm_codes::scalars::Scalar;
 use strm_guest_store::BadItem;
 use strm_guest_store::guest_store::GuestStore;
 use strm_guest_store::operations::OperateError;
@@ -112,4 +116,35 @@ const A_WRITE: [Row; 4] = [
 #[test]
 fn a_writer_is_told_of_its_own_item(rt: HostRuntime) {
     two_guests(&rt, rt.alloc(), &A_WRITE);
+}
+
+// An option of a byte; nothing where there is no such type.
+fn option_of_a_byte() -> Payload {
+    match Compound::new(&[Node::Option, Node::Plain(Scalar::U8)]) {
+        Some(compound) => Payload::Compound(compound),
+        None => Payload::Nothing,
+    }
+}
+
+fn is(rt: &impl Abort, told: Told, wanted: Told) {
+    assert!(rt; told == wanted);
+}
+
+/// An option of a case that there is not is a bad item; the one before it moves.
+#[test]
+fn a_case_that_there_is_not_is_a_bad_item(rt: HostRuntime) {
+    let mut store = GuestStore::new(rt.alloc(), 0, AMPLE);
+    does(&rt, &mut store, &GUESTS[..2]);
+    let ends = pair(store.new_between(0, 1, TransmitIndex::Stream(option_of_a_byte())));
+    is(&rt, ends, Told::Ends(1, 1, 0));
+    is(&rt, pokes(&mut store, 0, 0, [1, 7, 2, 0]), Told::Done);
+    let write = operated(store.stream_write(0, option_of_a_byte(), 1, 0, 2));
+    is(&rt, write, Told::Code(BLOCKED));
+    let read = operated(store.stream_read(1, option_of_a_byte(), 1, 0, 1));
+    is(&rt, read, Told::Code(0x10));
+    let stopped = operated(store.stream_read(1, option_of_a_byte(), 1, 2, 1));
+    is(&rt, stopped, Told::BadItemOf(0, 1, 1));
+    let mut arrived = [0; 4];
+    assert!(rt; store.read_memory(1, 0, &mut arrived).is_ok());
+    assert!(rt; arrived == [1, 7, 0, 0]);
 }

@@ -27,7 +27,7 @@ fn errors_of_the_store_print(rt: HostRuntime) {
     let broke = StoreError::HostBroke { end };
     prints(&rt, alloc, &broke, "host reader 63 broke its rules");
     let bad = StoreError::BadItem { stream: 12 };
-    let text = "an item of stream 12 is no Unicode scalar value";
+    let text = "an item of stream 12 is none of its type";
     prints(&rt, alloc, &bad, text);
     prints(
         &rt,
@@ -51,7 +51,7 @@ fn errors_of_turns_print(rt: HostRuntime) {
     );
     prints(&rt, alloc, &ReaderStops::Failed, "the host reader failed");
     prints(&rt, alloc, &ReaderStops::OutOfMemory, "out of memory");
-    let bad = "the host reader asked for an item that is no Unicode scalar value";
+    let bad = "the host reader asked for an item that is none of its type";
     prints(&rt, alloc, &ReaderStops::BadItem, bad);
     prints(
         &rt,

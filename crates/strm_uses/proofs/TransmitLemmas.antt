@@ -7,7 +7,8 @@ use Rattle.strm_codes.specs.declared.codes.TransmitIndex.TheVariants as index
 use Rattle.strm_codes.specs.declared.payloads.Payload.TheVariants.{One}
 use Rattle.strm_codes.specs.declared.scalars.Scalar.TheVariants.{U8}
 use Rattle.strm_memory.specs.Bytes.{IsBytes}
-use Rattle.strm_memory.specs.Items.{decode_from, encode_from, items, stored}
+use Rattle.strm_memory.specs.Items.{items, stored}
+use Rattle.strm_memory.specs.Loads.{decode, encode}
 use Rattle.strm_machine.specs.Acts.{act_of}
 use Rattle.strm_machine.specs.State.{State, empty, memory_in, stream_at}
 use Rattle.strm_machine.specs.Operating.{operate}
@@ -115,19 +116,19 @@ unfolding reaction refusal performs with_stream
 written_alone x y z = refl
 
 read_alone : (x y z : ℕ) → touches (lone (written (x ∷ y ∷ z ∷ [])).state) (act_of (steps.Read 1 bytes_type 1 0 3)) ≡ false
-unfolding reaction refusal performs with_stream operate decode_from encode_from items stored
+unfolding reaction refusal performs with_stream operate decode encode items stored
 read_alone x y z = refl
 
 read_is : (x y z : ℕ) → code_in (read (x ∷ y ∷ z ∷ [])).reply ≡ Completed 3
-unfolding reaction refusal performs with_stream operate decode_from encode_from items stored
+unfolding reaction refusal performs with_stream operate decode encode items stored
 read_is x y z = refl
 
 told_is : (x y z : ℕ) → event_in (told (x ∷ y ∷ z ∷ [])).reply ≡ Some (Completed 3)
-unfolding reaction refusal performs with_stream operate delivered decode_from encode_from items stored
+unfolding reaction refusal performs with_stream operate delivered decode encode items stored
 told_is x y z = refl
 
 moved_is : (x y z : ℕ) → (stream_at (told (x ∷ y ∷ z ∷ [])).state 0).received ≡ 3
-unfolding reaction refusal performs with_stream operate delivered decode_from encode_from items stored
+unfolding reaction refusal performs with_stream operate delivered decode encode items stored
 moved_is x y z = refl
 
 in_byte : ℕ → ℕ
@@ -138,7 +139,7 @@ unfolding in_byte
 byte_is x h = omega (arith, h)
 
 memory_is : (x y z : ℕ) → x < 256 → y < 256 → z < 256 → take 3 (memory_in (told (x ∷ y ∷ z ∷ [])).state.guests 1) ≡ x ∷ y ∷ z ∷ []
-unfolding reaction refusal performs with_stream operate delivered decode_from encode_from items stored in_byte
+unfolding reaction refusal performs with_stream operate delivered decode encode items stored in_byte
 memory_is x y z a b c =
     let raw : take 3 (memory_in (told (x ∷ y ∷ z ∷ [])).state.guests 1) ≡ in_byte x ∷ in_byte y ∷ in_byte z ∷ [] = refl in
     raw ∙ ap (λ n. n ∷ in_byte y ∷ in_byte z ∷ []) (byte_is x a) ∙ ap (λ n. x ∷ n ∷ in_byte z ∷ []) (byte_is y b) ∙ ap (λ n. x ∷ y ∷ n ∷ []) (byte_is z c)

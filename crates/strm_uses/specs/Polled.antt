@@ -1,7 +1,7 @@
 -- What a caller knows after it polled a host writer, or a host reader. Ours.
 use Rattle.std.specs.Prelude.{◌≡◌, ℕ, Bool, List, ◌∷◌, [], ◌++◌, take, drop, Some}
 use Rattle.std.specs.Option.{option_map}
-use Rattle.strm_codes.specs.Layout.{scalars_of}
+use Rattle.strm_codes.specs.Layout.{item_type}
 use Rattle.strm_memory.specs.Items.{stored_at}
 use Rattle.strm_buffers.specs.declared.answers.Answer.{Answer}
 use Rattle.strm_buffers.specs.declared.answers.ReaderSaid.{ReaderSaid}
@@ -18,7 +18,7 @@ pub record FetchesItems (old new : WriterTells) (memory after : List ℕ) (addre
   pub room_is : said.room ≡ Some room
   pub finish_is : said.finish ≡ finish
   pub answer_is : said.answer ≡ answer
-  pub stored : after ≡ stored_at (scalars_of old.payload) memory address (take room said.items)
+  pub stored : after ≡ stored_at (item_type old.payload) memory address (take room said.items)
   pub held : new.holds ≡ drop room said.items
 
 -- the host reader told one poll more, of so many items of the memory, of which it took so many from
@@ -32,4 +32,4 @@ pub record DeliversItems (old new : ReaderTells) (memory : List ℕ) (address of
   pub answer_is : said.answer ≡ answer
   pub taken_is : said.taken ≡ taken
   pub took : new.holds
-      ≡ option_map (λ xs. xs ++ items_in (scalars_of old.payload) memory address taken) old.holds
+      ≡ option_map (λ xs. xs ++ items_in (item_type old.payload) memory address taken) old.holds

@@ -1,7 +1,8 @@
 //! A boxed host writer fills a guest's memory, and a boxed host reader takes from one.
 
 ghost use Rattle.std.specs.Prelude.{◌≡◌, ℕ, ◌+◌, ◌*◌, ◌≤◌, [], length};
-ghost use Rattle.strm_codes.specs.Layout.{scalars_of, item_size};
+ghost use Rattle.strm_codes.specs.Layout.{item_type};
+ghost use Rattle.strm_codes.specs.ItemTypes.{item_size};
 ghost use Rattle.strm_memory.specs.Bytes.{bytes_at, IsApart};
 ghost use Rattle.strm_buffers.specs.Said.{IfAnswered, IfNoMemory};
 ghost use Rattle.strm_uses.specs.Polled.{FetchesItems, DeliversItems};
@@ -26,7 +27,7 @@ pub fn fetch(
     room: u32,
     finish: bool,
 ) -> HostTurn
-    requires inside { address + item_size (scalars_of (writer_tells writer.old).payload) * room
+    requires inside { address + item_size (item_type (writer_tells writer.old).payload) * room
         ≤ length memory.old.bytes }
     requires nothing_held { (writer_tells writer.old).holds ≡ [] }
     ensures fetched { IfAnswered result
@@ -35,7 +36,7 @@ pub fn fetch(
     ensures no_record { IfNoMemory result
         ((writer_tells writer.new).said ≡ (writer_tells writer.old).said) }
     ensures outside { (other n : ℕ)
-        → IsApart address (item_size (scalars_of (writer_tells writer.old).payload) * room) other n
+        → IsApart address (item_size (item_type (writer_tells writer.old).payload) * room) other n
         → bytes_at memory.new.bytes other n ≡ bytes_at memory.old.bytes other n }
     ensures stays { memory.new.base ≡ memory.old.base }
 {
@@ -64,7 +65,7 @@ pub fn deliver(
     count: u32,
     finish: bool,
 ) -> (HostTurn, u32)
-    requires inside { address + item_size (scalars_of (reader_tells reader.old).payload) * count
+    requires inside { address + item_size (item_type (reader_tells reader.old).payload) * count
         ≤ length memory.old.bytes }
     ensures delivered { IfAnswered result.0 (DeliversItems (reader_tells reader.old)
         (reader_tells reader.new) memory.old.bytes address count finish result.1) }

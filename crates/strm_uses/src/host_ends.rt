@@ -2,9 +2,7 @@
 
 ghost use Rattle.std.specs.Prelude.{◌≡◌, length, IfOk};
 ghost use Rattle.strm_buffers.specs.Listing.{items_in};
-ghost use Rattle.strm_codes.specs.Layout.{scalars_of};
-ghost use Rattle.strm_codes.specs.declared.payloads.Payload.TheVariants.{One};
-ghost use Rattle.strm_codes.specs.declared.scalars.Scalar.TheVariants.{U8};
+ghost use Rattle.strm_codes.specs.Layout.{byte_type};
 ghost use Rattle.strm_host_store.specs.HostStates.{writer_of};
 
 use std::alloc::Global;
@@ -33,7 +31,7 @@ pub enum HoldError {
 /// A store whose first host writer, of a stream of bytes, holds these three.
 pub fn hold_three(alloc: Global, bytes: &[u8]) -> Result<HostStore, HoldError>
     ensures held { IfOk result (λ store. (writer_of store 0).items
-        ≡ items_in (scalars_of (One U8)) bytes.now 0 3) }
+        ≡ items_in byte_type bytes.now 0 3) }
     ensures one { IfOk result (λ store. length store.writers ≡ 1) }
 {
     let mut store = HostStore::new(alloc, 0, LIMITS);
