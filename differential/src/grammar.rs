@@ -1,5 +1,6 @@
 //! The lines of a script: which are in the grammar, and what steps they spell.
 
+use crate::compound::Tree;
 use crate::payload::{Fields, Payload, Scalar, TransmitIndex};
 use crate::steps::{Chunk, Script, Step};
 
@@ -79,8 +80,11 @@ fn payload_in(word: &[u8]) -> Option<Payload> {
     if word == b"none" {
         return Some(Payload::Nothing);
     }
+    let Some(fields) = word.strip_prefix(b"(") else {
+        return Tree::named(word).map(Payload::compound);
+    };
     let mut scalars = Vec::with_capacity(8);
-    for name in word.strip_prefix(b"(")?.strip_suffix(b")")?.split(|byte| *byte == b',') {
+    for name in fields.strip_suffix(b")")?.split(|byte| *byte == b',') {
         scalars.push(Scalar::named(name)?);
     }
     Fields::new(&scalars).map(Payload::Tuple)

@@ -5,6 +5,7 @@
 pub mod chain;
 pub mod codes;
 pub mod compare;
+pub mod compound;
 pub mod faults;
 pub mod generated;
 pub mod grammar;

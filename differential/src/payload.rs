@@ -1,5 +1,6 @@
-//! What one item consists of, where its fields lie, and items that are copied or looked at.
+//! What one item is, where its fields lie, and items that are copied or looked at.
 
+use crate::compound::Tree;
 use crate::faults::{Fault, planted};
 use std::fmt;
 
@@ -16,11 +17,13 @@ pub enum Scalar {
     S64,
     U64,
     Char,
+    F32,
+    F64,
 }
 
 impl Scalar {
     /// All of them, each at the place by which a tape names it.
-    pub const ALL: [Scalar; 10] = [
+    pub const ALL: [Scalar; 12] = [
         Scalar::Bool,
         Scalar::S8,
         Scalar::U8,
@@ -31,9 +34,11 @@ impl Scalar {
         Scalar::S64,
         Scalar::U64,
         Scalar::Char,
+        Scalar::F32,
+        Scalar::F64,
     ];
 
-    const NAMES: [&str; 10] = ["bool", "s8", "u8", "s16", "u16", "s32", "u32", "s64", "u64", "char"];
+    const NAMES: [&str; 12] = ["bool", "s8", "u8", "s16", "u16", "s32", "u32", "s64", "u64", "char", "f32", "f64"];
 
     /// The scalar that a line names so.
     pub fn named(name: &[u8]) -> Option<Scalar> {
@@ -48,6 +53,8 @@ impl Scalar {
             b"s64" => Scalar::S64,
             b"u64" => Scalar::U64,
             b"char" => Scalar::Char,
+            b"f32" => Scalar::F32,
+            b"f64" => Scalar::F64,
             _ => return None,
         })
     }
@@ -57,9 +64,13 @@ impl Scalar {
         match self {
             Scalar::Bool | Scalar::S8 | Scalar::U8 => 1,
             Scalar::S16 | Scalar::U16 => 2,
-            Scalar::S32 | Scalar::U32 | Scalar::Char => 4,
-            Scalar::S64 | Scalar::U64 => 8,
+            Scalar::S32 | Scalar::U32 | Scalar::Char | Scalar::F32 => 4,
+            Scalar::S64 | Scalar::U64 | Scalar::F64 => 8,
         }
+    }
+
+    const fn is_float(self) -> bool {
+        matches!(self, Scalar::F32 | Scalar::F64)
     }
 
     const fn is_number(self) -> bool {
@@ -67,18 +78,18 @@ impl Scalar {
     }
 
     // Whether the first bytes are an item: all are, but characters that are no Unicode scalar value.
-    fn is_item(self, bytes: &[u8]) -> bool {
+    pub fn is_item(self, bytes: &[u8]) -> bool {
         self != Scalar::Char
             || bytes.first_chunk().is_some_and(|word| char::from_u32(u32::from_le_bytes(*word)).is_some())
     }
 
-    fn copy(self, from: &[u8], to: &mut [u8]) {
+    pub fn copy(self, from: &[u8], to: &mut [u8]) {
         match self {
             Scalar::Bool => to[0] = u8::from(from[0] != 0),
             Scalar::S8 | Scalar::U8 => to[0] = from[0],
             Scalar::S16 | Scalar::U16 => to[..2].copy_from_slice(&from[..2]),
-            Scalar::S32 | Scalar::U32 | Scalar::Char => to[..4].copy_from_slice(&from[..4]),
-            Scalar::S64 | Scalar::U64 => to[..8].copy_from_slice(&from[..8]),
+            Scalar::S32 | Scalar::U32 | Scalar::Char | Scalar::F32 => to[..4].copy_from_slice(&from[..4]),
+            Scalar::S64 | Scalar::U64 | Scalar::F64 => to[..8].copy_from_slice(&from[..8]),
         }
     }
 }
@@ -136,15 +147,22 @@ pub enum Payload {
     Nothing,
     One(Scalar),
     Tuple(Fields),
+    Compound(&'static Tree),
 }
 
 impl Payload {
+    /// A type that holds others, which is kept for good.
+    pub fn compound(tree: Tree) -> Payload {
+        Payload::Compound(Box::leak(Box::new(tree)))
+    }
+
     /// The bytes of an item.
     pub fn size(&self) -> usize {
         match self {
             Payload::Nothing => 0,
             Payload::One(scalar) => scalar.size(),
             Payload::Tuple(fields) => usize::from(fields.size),
+            Payload::Compound(tree) => tree.size(),
         }
     }
 
@@ -154,15 +172,26 @@ impl Payload {
             Payload::Nothing => 1,
             Payload::One(scalar) => scalar.size(),
             Payload::Tuple(fields) => usize::from(fields.align),
+            Payload::Compound(tree) => tree.align(),
         }
     }
 
-    /// Whether items move within one guest: those that are a whole number, or nothing.
+    /// Whether the first version of tapes does not know it: it has a float, or holds other types.
+    pub fn is_new(&self) -> bool {
+        match self {
+            Payload::Nothing => false,
+            Payload::One(scalar) => scalar.is_float(),
+            Payload::Tuple(fields) => fields.as_slice().iter().any(|scalar| scalar.is_float()),
+            Payload::Compound(_) => true,
+        }
+    }
+
+    /// Whether items move within one guest: those that are a number, or nothing.
     pub fn moves_within(&self) -> bool {
         match self {
             Payload::Nothing => true,
             Payload::One(scalar) => scalar.is_number(),
-            Payload::Tuple(_) => false,
+            Payload::Tuple(_) | Payload::Compound(_) => false,
         }
     }
 
@@ -173,6 +202,9 @@ impl Payload {
             Payload::Tuple(fields) if fields.as_slice().contains(&Scalar::Char) => bytes
                 .chunks_exact(self.size())
                 .position(|item| fields.places().any(|(place, scalar)| !scalar.is_item(&item[place..]))),
+            Payload::Compound(tree) if tree.size() > 0 => {
+                bytes.chunks_exact(tree.size()).position(|item| !tree.is_item(item))
+            }
             _ => None,
         }
     }
@@ -195,7 +227,12 @@ impl Payload {
                     }
                 }
             }
-            Payload::One(_) | Payload::Tuple(_) => to.copy_from_slice(from),
+            Payload::Compound(tree) if tree.size() > 0 && !planted(Fault::WritesPadding) => {
+                for (from, to) in from.chunks_exact(tree.size()).zip(to.chunks_exact_mut(tree.size())) {
+                    tree.copy(from, to);
+                }
+            }
+            Payload::One(_) | Payload::Tuple(_) | Payload::Compound(_) => to.copy_from_slice(from),
         }
     }
 }
@@ -213,6 +250,7 @@ impl fmt::Display for Payload {
                 }
                 f.write_str(")")
             }
+            Payload::Compound(tree) => tree.fmt(f),
         }
     }
 }

@@ -47,6 +47,26 @@ pub enum Step {
     Dump { guest: u32, address: u32, len: u32 },
 }
 
+impl Step {
+    /// The type that it names, if it names one.
+    pub fn ty(&self) -> Option<TransmitIndex> {
+        match *self {
+            Step::New { ty, .. }
+            | Step::Pair { ty, .. }
+            | Step::Write { ty, .. }
+            | Step::Read { ty, .. }
+            | Step::CancelWrite { ty, .. }
+            | Step::CancelRead { ty, .. }
+            | Step::DropWrite { ty, .. }
+            | Step::DropRead { ty, .. }
+            | Step::Move { ty, .. }
+            | Step::Lift { ty, .. }
+            | Step::Lower { ty, .. } => Some(ty),
+            _ => None,
+        }
+    }
+}
+
 /// Steps, and the bytes that they have.
 #[derive(Clone, Debug, Default)]
 pub struct Script {

@@ -8,13 +8,13 @@ use crate::payload::TransmitIndex;
 use crate::programs::{Output, script_of};
 use crate::records::{ReaderRecord, WriterRecord};
 use crate::session::run;
-use crate::steps::Script;
+use crate::steps::{Script, Step};
 
 /// The most bytes of a tape.
 const MOST_BYTES: usize = 1 << 26;
 
-/// What a tape begins with.
-const HEAD: &[u8] = b"STRT\x01";
+/// What a tape begins with, by its version: the first knows neither floats nor types that hold others.
+const HEADS: [&[u8]; 2] = [b"STRT\x01", b"STRT\x02"];
 
 /// The steps of a run, and what its host ends recorded.
 #[derive(Clone, Debug, Default)]
@@ -28,6 +28,13 @@ impl Tape {
     /// Its spelling.
     pub fn bytes(&self) -> Vec<u8> {
         writing::bytes_of(self)
+    }
+
+    // What it begins with: the least version that can say it.
+    fn head(&self) -> &'static [u8] {
+        let ends = self.writers.iter().map(|(ty, _)| *ty).chain(self.readers.iter().map(|(ty, _)| *ty));
+        let is_new = self.script.steps.iter().filter_map(Step::ty).chain(ends).any(|ty| ty.payload.is_new());
+        HEADS[usize::from(is_new)]
     }
 
     // The host ends that follow it.

@@ -3,7 +3,7 @@
 use super::random::Random;
 
 /// Words that are no number, no type, no bytes, or only just.
-const WORDS: [&str; 36] = [
+const WORDS: [&str; 46] = [
     "",
     "00",
     "01",
@@ -27,12 +27,22 @@ const WORDS: [&str; 36] = [
     "stream:u8)",
     "stream:(none)",
     "stream:((u8))",
-    "stream:f32",
+    "stream:f16",
     "stream:U8",
     "Stream:u8",
     "stream:(u8,u8,u8,u8,u8,u8,u8,u8)",
     "stream:(u8,u8,u8,u8,u8,u8,u8,u8,u8)",
     "future:(bool,char)",
+    "stream:record<u8,u8>",
+    "stream:record<u8,f64,enum1>",
+    "stream:_",
+    "stream:option<_>",
+    "stream:option<u8>>",
+    "stream:result<_>",
+    "stream:result<u8,_>",
+    "stream:enum129",
+    "stream:flags0",
+    "stream:variant<option<u8>,enum0>",
     "0a0",
     "0A",
     "0g",

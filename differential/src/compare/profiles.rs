@@ -1,6 +1,7 @@
 //! What kinds of scripts are drawn.
 
 use super::actions::Action;
+use crate::compound::Tree;
 use crate::payload::{Fields, Payload, Scalar};
 use std::fmt;
 
@@ -30,6 +31,24 @@ pub enum Profile {
     /// Numbers at the limits.
     Edges,
 }
+
+/// Types that hold others, by their spelling.
+const COMPOUNDS: [&str; 14] = [
+    "result<_,enum3>",
+    "result",
+    "result<u8>",
+    "option<char>",
+    "option<f64>",
+    "enum128",
+    "flags3",
+    "flags17",
+    "record<u8,option<f64>>",
+    "record<bool,record<u8,u32>,flags9>",
+    "variant<_,u8,record<char,u64>>",
+    "option<option<option<bool>>>",
+    "result<record<u64,u8>,variant<char,_>>",
+    "record<u8,u8,u8,u8,u8,u8,u8,u8,u8>",
+];
 
 impl Profile {
     pub const ALL: [Profile; 12] = [
@@ -74,14 +93,14 @@ impl Profile {
 
     /// The payloads of its streams.
     pub fn payloads(self) -> Vec<Payload> {
-        use Scalar::{Bool, Char, S8, S16, S32, S64, U8, U16, U32, U64};
+        use Scalar::{Bool, Char, F32, F64, S8, S16, S32, S64, U8, U16, U32, U64};
         let one = |scalars: &[Scalar]| scalars.iter().copied().map(Payload::One).collect::<Vec<_>>();
         let tuples = |tuples: &[&[Scalar]]| -> Vec<Payload> {
             tuples.iter().filter_map(|fields| Fields::new(fields).map(Payload::Tuple)).collect()
         };
         let mut payloads = vec![Payload::Nothing];
         match self {
-            Profile::OneGuest => payloads.extend(one(&[U8, U8, U16, U32, U64, S64, Bool, Char])),
+            Profile::OneGuest => payloads.extend(one(&[U8, U8, U16, U32, U64, S64, F64, Bool, Char])),
             Profile::Hosts | Profile::Pipes => {
                 payloads.extend(one(&[U8, U8, U32, Char]));
                 payloads.extend(tuples(&[&[U8, U32]]));
@@ -96,8 +115,9 @@ impl Profile {
                 payloads.extend(tuples(&[&[U8, U32], &[U64, U8, U64, U8, U64, U8, U64, U8]]));
             }
             _ => {
-                payloads.extend(one(&[Bool, S8, U8, U8, S16, U16, S32, U32, S64, U64, Char]));
-                payloads.extend(tuples(&[&[U8, U32], &[U32, U8], &[U8, U16, U8], &[U8], &[Bool, Char, S64]]));
+                payloads.extend(one(&[Bool, S8, U8, U8, S16, U16, S32, U32, S64, U64, Char, F32, F64]));
+                payloads.extend(tuples(&[&[U8, U32], &[U32, U8], &[U8, U16, U8], &[U8], &[Bool, Char, S64], &[U8, F64, F32]]));
+                payloads.extend(COMPOUNDS.iter().filter_map(|name| Tree::named(name.as_bytes()).map(Payload::compound)));
             }
         }
         payloads

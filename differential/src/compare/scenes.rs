@@ -213,7 +213,10 @@ impl Scene {
         let bad = if self.random.chance(25) { 35 } else { 0 };
         for item in bytes.chunks_exact_mut(payload.size().max(1)) {
             if payload.first_bad(item).is_some() && !self.random.chance(bad) {
-                self.put_good_char(item);
+                match payload {
+                    Payload::Compound(tree) => tree.mend(item),
+                    _ => self.put_good_char(item),
+                }
             }
         }
         bytes

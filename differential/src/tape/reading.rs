@@ -1,7 +1,8 @@
 //! Bytes as tapes: those that are the spelling of one.
 
 use super::writing::NO_ROOM;
-use super::{HEAD, Tape};
+use super::{HEADS, Tape};
+use crate::compound::Tree;
 use crate::hosts::Answer;
 use crate::payload::{Fields, Payload, Scalar, TransmitIndex};
 use crate::records::{ReaderRecord, WriterRecord};
@@ -9,7 +10,8 @@ use crate::steps::{Chunk, Script, Step};
 
 /// The tape that these bytes spell.
 pub fn tape_of(bytes: &[u8]) -> Option<Tape> {
-    let mut rest = Rest(bytes.strip_prefix(HEAD)?);
+    let head = bytes.get(..HEADS[0].len())?;
+    let mut rest = Rest(&bytes[head.len()..]);
     let mut tape = Tape::default();
     for _ in 0..rest.number()? {
         let step = rest.step(&mut tape.script)?;
@@ -17,7 +19,7 @@ pub fn tape_of(bytes: &[u8]) -> Option<Tape> {
     }
     tape.writers = rest.ends(Rest::writer_record)?;
     tape.readers = rest.ends(|rest, _| rest.reader_record())?;
-    rest.0.is_empty().then_some(tape)
+    (rest.0.is_empty() && tape.head() == head).then_some(tape)
 }
 
 // The bytes that are still to be read.
@@ -77,6 +79,10 @@ impl<'a> Rest<'a> {
                 let count = self.byte()?;
                 let scalars: Vec<Scalar> = (0..count).map(|_| self.scalar()).collect::<Option<_>>()?;
                 Payload::Tuple(Fields::new(&scalars)?)
+            }
+            3 => {
+                let count = usize::from(self.byte()?);
+                Payload::compound(Tree::of_words(self.bytes(count)?)?)
             }
             _ => return None,
         };

@@ -1,6 +1,6 @@
 //! Tapes as bytes.
 
-use super::{HEAD, Tape};
+use super::Tape;
 use crate::payload::{Payload, Scalar, TransmitIndex};
 use crate::records::{ReaderRecord, WriterRecord};
 use crate::steps::{Script, Step};
@@ -10,7 +10,7 @@ pub const NO_ROOM: u32 = u32::MAX;
 
 /// The bytes of a tape.
 pub fn bytes_of(tape: &Tape) -> Vec<u8> {
-    let mut bytes = HEAD.to_vec();
+    let mut bytes = tape.head().to_vec();
     put_count(&mut bytes, tape.script.steps.len());
     for step in &tape.script.steps {
         put_step(&mut bytes, &tape.script, step);
@@ -47,6 +47,11 @@ fn put_type(bytes: &mut Vec<u8>, ty: TransmitIndex) {
             let scalars = fields.as_slice();
             bytes.extend([2, scalars.len() as u8]);
             bytes.extend(scalars.iter().map(|scalar| place_of(*scalar)));
+        }
+        Payload::Compound(tree) => {
+            let words = tree.words();
+            bytes.extend([3, words.len() as u8]);
+            bytes.extend(words);
         }
     }
 }
