@@ -55,11 +55,13 @@
    - A future passes one value, once, and its codes count 0. From then on its reads and writes are refused, either
      end can be dropped, and no event tells that the other one is gone. Before that, its write end can be dropped
      only once it was told so; but it goes with its guest.
-   - A bad item, a char that is no Unicode scalar value, stops its writer alone: a read or write that would move it is
-     answered STRM_BAD_ITEM, and moves nothing. strm_find_bad_item tells who writes the item. The embedder ends that
-     guest, and all others go on; until then the same call is answered the same.
-   - Within one guest whole numbers move as by a copy in between, and STRM_NOTHING; other items are refused, which is
-     STRM_INTRA_COMPONENT. Between two guests a bool arrives as 0 or 1, and padding stays as it was.
+   - A bad item, with a char that is no Unicode scalar value or the number of a case that there is not, stops its
+     writer alone: a read or write that would move it is answered STRM_BAD_ITEM, and moves nothing.
+     strm_find_bad_item tells who writes the item. The embedder ends that guest, and all others go on; until then the
+     same call is answered the same.
+   - Within one guest numbers and floats move as by a copy in between, and STRM_NOTHING; other items are refused, which
+     is STRM_INTRA_COMPONENT. Between two guests a bool arrives as 0 or 1, a float as its bits, flags that have no name
+     as 0; padding, and the bytes of cases that an item is not, stay as they were.
 
    GUESTS THAT END. A guest is ended alone (strm_end_guest), as one that trapped or writes a bad item; all others go on.
    - Whoever has the other end of an end of it is told STRM_DROPPED, as after a drop. So is the reader of a future that
@@ -122,7 +124,7 @@ enum {
     STRM_WRITE_TO_DROPPED_FUTURE = 17, /* The write end of a future was told so, or the value passed. */
     STRM_READ_FROM_DROPPED_STREAM = 18, /* The read end of a stream was told that the write end is gone. */
     STRM_FUTURE_ALREADY_READ = 19, /* The value passed. */
-    /* Both operations are of one guest, and the payload is neither none nor a whole number. */
+    /* Both operations are of one guest, and the payload is neither none nor a number. */
     STRM_INTRA_COMPONENT = 20,
     STRM_LIFT_DROPPED = 21, /* The end that would move was told, or the value passed. */
     STRM_LIFT_IN_SET = 22, /* The end that would move is a member of a set. */
@@ -134,7 +136,8 @@ enum {
     STRM_MEMORY_TOO_BIG = 28, /* The guests' memories would pass 268,435,456 bytes together. */
     STRM_BAD_TEXT = 29, /* The bytes are not UTF-8. */
     STRM_MESSAGE_TOO_LONG = 30, /* The message is longer than 4,096 bytes. */
-    /* An item that was to move is no Unicode scalar value. strm_find_bad_item tells which, and who writes it. */
+    /* An item that was to move is none of its type: a char that is no Unicode scalar value, or the number of a case that
+       there is not. strm_find_bad_item tells which, and who writes it. */
     STRM_BAD_ITEM = 64,
     STRM_OUT_OF_MEMORY = 66, /* An allocation was refused, and nothing has changed. */
     STRM_UNKNOWN_PAYLOAD = 67, /* No payload, or no type, has the word. */
@@ -146,7 +149,9 @@ enum {
     STRM_NOT_LENT = 74, /* The guest's memory is the store's own, which neither grows nor moves. */
     STRM_SHORTER = 75, /* There are fewer bytes than the guest's memory has. */
     /* The guest has bytes, handles, or a memory that was lent: it did not end, or began again. */
-    STRM_IN_USE = 76
+    STRM_IN_USE = 76,
+    STRM_TYPE_TOO_LONG = 77, /* The words of a type are more than seven. */
+    STRM_NO_TYPE = 78 /* The words spell no type, more than one, or a tuple that STRM_FIELD makes. */
 };
 
 /* A status by its name, as "STRM_BUSY"; "?" where it is none. */
@@ -162,7 +167,8 @@ static inline const char *strm_status_name(strm_status status) {
     STRM_NAMED(INDEX_OVERFLOW) STRM_NAMED(HANDLE_LIMIT) STRM_NAMED(FULL) STRM_NAMED(MEMORY_TOO_BIG)
     STRM_NAMED(BAD_TEXT) STRM_NAMED(MESSAGE_TOO_LONG) STRM_NAMED(BAD_ITEM) STRM_NAMED(OUT_OF_MEMORY)
     STRM_NAMED(UNKNOWN_PAYLOAD) STRM_NAMED(UNKNOWN_STREAM) STRM_NAMED(NO_STORE) STRM_NAMED(GUEST_LIMIT)
-    STRM_NAMED(NO_BAD_ITEM) STRM_NAMED(NOT_LENT) STRM_NAMED(SHORTER) STRM_NAMED(IN_USE)
+    STRM_NAMED(NO_BAD_ITEM) STRM_NAMED(NOT_LENT) STRM_NAMED(SHORTER) STRM_NAMED(IN_USE) STRM_NAMED(TYPE_TOO_LONG)
+    STRM_NAMED(NO_TYPE)
     default: return "?";
     }
 #undef STRM_NAMED
@@ -176,12 +182,20 @@ enum { STRM_COMPLETED, STRM_DROPPED, STRM_CANCELLED };
 #define STRM_RESULT(code) ((code) & 15u)
 #define STRM_COUNT(code) ((code) >> 4)
 
-/* What one item is: nothing, a scalar, or a tuple of one to eight scalars, as in
-   STRM_TUPLE | STRM_FIELD(0, STRM_U8) | STRM_FIELD(1, STRM_U32), whose fields begin at 0 without a gap. */
+/* What one item is: nothing, a scalar, a tuple of one to eight scalars, as in
+   STRM_TUPLE | STRM_FIELD(0, STRM_U8) | STRM_FIELD(1, STRM_U32), whose fields begin at 0 without a gap,
+   or another type of a fixed size that holds no pointer and no handle, which strm_type_of builds. */
 typedef uint64_t strm_payload;
-enum { STRM_NOTHING, STRM_BOOL, STRM_S8, STRM_U8, STRM_S16, STRM_U16, STRM_S32, STRM_U32, STRM_S64, STRM_U64, STRM_CHAR };
+enum { STRM_NOTHING, STRM_BOOL, STRM_S8, STRM_U8, STRM_S16, STRM_U16, STRM_S32, STRM_U32, STRM_S64, STRM_U64, STRM_CHAR, STRM_F32, STRM_F64 };
 #define STRM_TUPLE ((strm_payload)1 << 32)
 #define STRM_FIELD(index, scalar) ((strm_payload)(scalar) << 4 * (index))
+
+/* The words that strm_type_of takes, a byte each: a type before the types that it holds. A scalar's is its number. */
+enum { STRM_WORD_NOTHING = 13, STRM_WORD_OPTION, STRM_WORD_RESULT };
+#define STRM_WORD_RECORD(fields) (16 + (fields))
+#define STRM_WORD_VARIANT(cases) (32 + (cases))
+#define STRM_WORD_FLAGS(names) (47 + (names))
+#define STRM_WORD_ENUM(cases) (127 + (cases))
 
 /* The type of a stream is its payload's word, that of a future the payload's with STRM_FUTURE. */
 typedef uint64_t strm_type;
@@ -209,7 +223,7 @@ typedef struct {
     uint64_t high;
 } strm_count;
 
-/* An item that is no Unicode scalar value: who writes it, and which of its write's items it is. */
+/* An item that is none of its type: who writes it, and which of its write's items it is. */
 typedef struct {
     /* The guest that has the write end. */
     uint32_t guest;
@@ -577,6 +591,13 @@ STRM_ANSWER strm_set_guest_limits(
 
 /* Puts at `out` how much a guest may have at once. Refused: STRM_UNKNOWN_GUEST. */
 STRM_ANSWER strm_guest_limits(const strm_store *store, uint32_t guest, strm_limits *out);
+
+/* TYPES THAT HOLD OTHER TYPES */
+
+/* Puts at `out` the payload that these words spell, each of them a byte: a type before the types that it holds, as
+   STRM_WORD_RESULT, STRM_WORD_NOTHING, STRM_WORD_ENUM(3). It is built once, and then passed as any other.
+   STRM_TYPE_TOO_LONG. STRM_NO_TYPE. */
+STRM_ANSWER strm_type_of(const uint8_t *words, size_t len, uint64_t *out);
 
 #ifdef __cplusplus
 }

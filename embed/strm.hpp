@@ -11,6 +11,7 @@
 #error "strm.hpp needs C++17"
 #endif
 #include <cassert>
+#include <initializer_list>
 #include <optional>
 #include <utility>
 
@@ -77,9 +78,11 @@ enum class Scalar : uint32_t {
     S64 = STRM_S64,
     U64 = STRM_U64,
     Char = STRM_CHAR,
+    F32 = STRM_F32,
+    F64 = STRM_F64,
 };
 
-// What one item is: nothing, a scalar, or a tuple of scalars.
+// What one item is: nothing, a scalar, a tuple of scalars, or a type that holds others.
 class Payload {
   public:
     constexpr Payload() noexcept : word_(STRM_NOTHING) {}
@@ -96,6 +99,12 @@ class Payload {
         int index = 0;
         ((word |= STRM_FIELD(index++, Scalar(scalars))), ...);
         return of(word);
+    }
+    // A type that holds others, by the words of strm.h: {STRM_WORD_RESULT, STRM_WORD_NOTHING, STRM_WORD_ENUM(3)}.
+    static Result<Payload> spelled(std::initializer_list<uint8_t> words) noexcept {
+        Result<Payload> built{};
+        built.status = strm_type_of(words.begin(), words.size(), &built.value.word_);
+        return built;
     }
     constexpr strm_payload word() const noexcept { return word_; }
     friend constexpr bool operator==(Payload a, Payload b) noexcept { return a.word_ == b.word_; }
@@ -155,7 +164,7 @@ template <Kind kind> struct Loose {
     uint32_t stream = 0;
 };
 
-// An item that is no Unicode scalar value: the write end of the guest that writes it, and the item's place among all
+// An item that is none of its type: the write end of the guest that writes it, and the item's place among all
 // items of the write, from 0.
 template <Kind kind> struct BadItem {
     End<kind, Side::Writing> write;

@@ -17,12 +17,16 @@ static void expect(int holds, const char *what) {
 /* A call is made of {NULL}, and answers that there is no store. */
 #define HAS_NO_STORE(call) expect((call) == STRM_NO_STORE && store.at == NULL, #call)
 
-/* What is asked of no store at all: whose header this is, and what a status is called. */
+/* What is asked of no store at all: whose header this is, what a status is called, and a type by its words. */
 static void name_all(void) {
+    static const uint8_t words[] = {STRM_WORD_OPTION, STRM_U32, STRM_WORD_OPTION};
+    strm_payload payload = 7;
     expect(strm_version() == STRM_VERSION, "strm_version");
     expect(strcmp(strm_status_name(STRM_DONE), "STRM_DONE") == 0, "strm_status_name");
     expect(strcmp(strm_status_name(STRM_NO_STORE), "STRM_NO_STORE") == 0, "strm_status_name of a status that is no refusal");
     expect(strcmp(strm_status_name(3), "?") == 0, "strm_status_name of none");
+    expect(strm_type_of(words, 3, &payload) == STRM_NO_TYPE && payload == 7, "strm_type_of of more than a type");
+    expect(strm_type_of(words, 2, &payload) == STRM_DONE && payload != 7, "strm_type_of");
 }
 
 static void query_none(strm_store store) {

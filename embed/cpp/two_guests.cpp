@@ -74,6 +74,22 @@ void pass_pairs(Store &store, Guest writer, Guest reader) {
     must(store.drop(pair.read));
 }
 
+// What a reading ended by: nothing more than that, or an error of three.
+void pass_a_result(Store &store, Guest writer, Guest reader) {
+    auto done = must(Payload::spelled({STRM_WORD_RESULT, STRM_WORD_NOTHING, STRM_WORD_ENUM(3)}));
+    const uint8_t items[2][2] = {{1, 3}, {1, 2}};
+    auto [write, read, number] = must(store.future_between(writer, reader, done));
+    must(store.memory_write(writer, 0, items, sizeof items));
+    show("read of a result", must(store.read(read, 8)));
+    std::printf("write of error 3: %s\n", store.write(write, 0).status.name());
+    show("write of error 2", must(store.write(write, 2)));
+    show("event", must(store.take_event(read)));
+    std::printf("%u %u\n", must(store.memory(reader)).data[8], must(store.memory(reader)).data[9]);
+    must(store.drop(read));
+    must(store.drop(write));
+    std::printf("an option of nothing that is there: %s\n", Payload::spelled({STRM_WORD_OPTION}).status.name());
+}
+
 // The read end of a future moves, loose in between, and its guest hears of the value by a set.
 void pass_a_value(Store &store, Guest writer, Guest reader) {
     auto [write, read, number] = must(store.future_new(writer, Scalar::U32));
@@ -187,6 +203,7 @@ int main() {
     }).join();
     std::printf("left behind: %s\n", store.add_guest(1).status.name());
     pass_a_value(moved, writer, reader);
+    pass_a_result(moved, writer, reader);
     tell_an_error(moved, writer, reader);
     stop_a_writer(moved, writer, reader);
     end_a_guest(moved, writer, reader);

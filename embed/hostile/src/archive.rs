@@ -31,6 +31,14 @@ pub struct Answer {
     pub bytes: Vec<u8>,
 }
 
+// A type that is built, which no store knows of.
+fn type_of(words: &[u8], before: Words) -> Answer {
+    let mut word = before[0];
+    // SAFETY: the words are lent for the call.
+    let status = unsafe { sys::strm_type_of(words.as_ptr(), words.len(), &mut word) };
+    Answer { status, words: over(before, [word]), bytes: Vec::new() }
+}
+
 type Handles = *mut StoreHandle;
 type HandleCall = unsafe extern "C" fn(Handles, u32, u32, &mut Handle) -> u32;
 type NewCall = unsafe extern "C" fn(Handles, u32, u64, &mut Pair) -> u32;
@@ -116,6 +124,7 @@ impl Archive {
             }
             Call::Free | Call::Tag | Call::Streams => self.answer_store(call, before),
             Call::Moved { .. } | Call::TransmitIndex { .. } => self.answer_stream(call, before),
+            Call::TypeOf { words } => type_of(words.list(), before),
             Call::HandleInfo { .. } | Call::NextHandle { .. } | Call::HandleCount { .. } => {
                 self.answer_handle(call, before)
             }

@@ -16,6 +16,7 @@ pub enum Call {
     Streams,
     Moved { stream: u32 },
     TransmitIndex { stream: u32 },
+    TypeOf { words: TypeWords },
     HandleInfo { guest: u32, handle: u32 },
     NextHandle { guest: u32, after: u32 },
     HandleCount { guest: u32 },
@@ -74,6 +75,7 @@ impl Call {
             Call::Streams => "streams",
             Call::Moved { .. } => "moved",
             Call::TransmitIndex { .. } => "transmit_index",
+            Call::TypeOf { .. } => "type_of",
             Call::HandleInfo { .. } => "handle_info",
             Call::NextHandle { .. } => "next_handle",
             Call::HandleCount { .. } => "handle_count",
@@ -132,6 +134,7 @@ impl Call {
         match *self {
             Call::Free | Call::Tag | Call::Streams => Vec::new(),
             Call::Moved { stream } | Call::TransmitIndex { stream } => of(&[stream]),
+            Call::TypeOf { words } => words.list().iter().map(|word| (*word).into()).collect(),
             Call::AddGuest { size } => of(&[size]),
             Call::NextReadyGuest { from } => of(&[from]),
             Call::AddGuestAt { size } => vec![size],
@@ -184,12 +187,35 @@ impl fmt::Display for Call {
     }
 }
 
+/// The words of a type, or nearly, each of them a byte.
+#[derive(Clone, Copy, Debug, PartialEq, Eq)]
+pub struct TypeWords {
+    len: u8,
+    words: [u8; 9],
+}
+
+impl TypeWords {
+    /// The first nine of these.
+    pub fn of(list: &[u8]) -> TypeWords {
+        let mut words = [0; 9];
+        let len = list.len().min(words.len());
+        words[..len].copy_from_slice(&list[..len]);
+        TypeWords { len: len as u8, words }
+    }
+
+    pub fn list(&self) -> &[u8] {
+        &self.words[..self.len.into()]
+    }
+}
+
 /// What bytes are like.
 #[derive(Clone, Copy, Debug, PartialEq, Eq)]
 pub enum Likeness {
     Any,
     /// A char in each four, of some all but one.
     Chars,
+    /// A small number in each four, so that it may be that of a case, some of them with one byte that is not.
+    Cases,
     /// UTF-8, which the end may cut.
     Text,
 }
@@ -216,6 +242,16 @@ impl Bytes {
                     words[bad] = random.pick(&[0xd800, 0xdfff, 0x11_0000, u32::MAX]);
                 }
                 words.into_iter().flat_map(u32::to_le_bytes).collect()
+            }
+            Likeness::Cases => {
+                let small = |random: &mut Random| random.pick(&[0, 0, 1, 1, 2, 3]);
+                let mut list: Vec<u8> =
+                    (0..len).map(|at| if at % 4 == 0 { small(&mut random) } else { 0 }).collect();
+                if random.chance(30) && !list.is_empty() {
+                    let other = random.below(list.len());
+                    list[other] = random.draw() as u8;
+                }
+                list
             }
             Likeness::Text => {
                 let mut text = String::new();

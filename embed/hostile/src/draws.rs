@@ -1,10 +1,10 @@
 //! Calls that are drawn from a seed: mostly of what is there, so that they are done, and often with something
 //! wrong in them.
 
-use crate::calls::{Bytes, Call, Likeness};
+use crate::calls::{Bytes, Call, Likeness, TypeWords};
 use crate::lent::{ROOM, SIZE_LIMIT};
 use crate::limits::GuestLimits;
-use crate::profiles::{Family, Profile, SIZES};
+use crate::profiles::{Family, Profile, SIZES, some_tree};
 use crate::words::{FUTURE, type_word};
 use plain::compare::random::Random;
 use plain::payload::{TransmitIndex, TransmitKind};
@@ -140,10 +140,10 @@ impl<'a> Draws<'a> {
         }
         match self.random.below(6) {
             0 => self.random.draw() >> self.random.within(0, 63),
-            1 => type_word(&ty) ^ 1 << self.random.within(0, 40),
+            1 => type_word(&ty) ^ 1 << self.random.within(0, 63),
             2 => type_word(&TransmitIndex { kind: ty.kind, ..self.profile.some_type(self.random) }),
             3 => type_word(&ty) ^ FUTURE,
-            _ => type_word(&ty) & FUTURE | u64::from(self.random.within(0, 10)),
+            _ => type_word(&ty) & FUTURE | u64::from(self.random.within(0, 12)),
         }
     }
 
@@ -479,6 +479,7 @@ impl Draws<'_> {
         Some(match self.random.below(16) {
             0 => Call::Tag,
             1 => self.operate()?.find_bad_item()?,
+            2 if self.random.chance(50) => Call::TypeOf { words: self.type_words() },
             2 => Call::Streams,
             3 | 4 => Call::Moved { stream: self.stream(false)? },
             5 | 6 => Call::TransmitIndex { stream: self.stream(false)? },
@@ -486,6 +487,24 @@ impl Draws<'_> {
             8 | 9 => Call::NextHandle { guest, after: self.handle(guest, |_| true)? },
             _ => Call::HandleInfo { guest, handle: self.handle(guest, |_| true)? },
         })
+    }
+
+    // The words of a type, or some that are nearly.
+    fn type_words(&mut self) -> TypeWords {
+        let most = self.random.within(1, 9) as usize;
+        let mut words = some_tree(self.random, most).words();
+        if self.random.chance(40) {
+            let at = self.random.below(words.len());
+            match self.random.below(4) {
+                0 => words[at] = self.random.draw() as u8,
+                1 => _ = words.remove(at),
+                2 => {
+                    words.insert(at, self.random.pick(&[0, 1, 13, 14, 15, 16, 17, 32, 33, 47, 80, 127, 128]))
+                }
+                _ => words.push(3),
+            }
+        }
+        TypeWords::of(&words)
     }
 
     // From the first guest on, from one, or from behind one.

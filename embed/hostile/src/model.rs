@@ -9,7 +9,7 @@ use crate::lives;
 use crate::queries::queried;
 use crate::ready::Readiness;
 use crate::sys;
-use crate::words::{NO_EVENT, event_word, payload_at, status_of, type_at};
+use crate::words::{NO_EVENT, built, event_word, payload_at, payload_word, status_of, type_at};
 use plain::codes::{Refusal, StoreError};
 use plain::payload::{Payload, TransmitIndex};
 use plain::store::{Limits, Reply, Store};
@@ -52,6 +52,7 @@ impl Model {
     pub fn answer(&mut self, call: &Call, before: Words, seen: &Answer) -> Answer {
         let told = |word| of(0, over(before, [word]));
         match (*call, &self.store) {
+            (Call::TypeOf { words }, _) => type_of(words.list(), before),
             (_, None) => answer_of_none(call, before),
             (Call::Free, _) => {
                 self.store = None;
@@ -93,6 +94,17 @@ impl Model {
 /// An answer without bytes.
 pub fn of(status: u32, words: Words) -> Answer {
     Answer { status, words, bytes: Vec::new() }
+}
+
+// What words of a type should be, where there is no store too.
+fn type_of(words: &[u8], before: Words) -> Answer {
+    if words.len() > 7 {
+        return of(sys::TYPE_TOO_LONG, before);
+    }
+    match built(words) {
+        Some(payload) => of(0, over(before, [payload_word(&payload)])),
+        None => of(sys::NO_TYPE, before),
+    }
 }
 
 // Of no store nothing is told.

@@ -1,7 +1,9 @@
 //! What the calls of one store are like, so that each store comes to other things.
 
 use crate::calls::Likeness;
+use crate::words::built;
 use plain::compare::random::Random;
+use plain::compound::Tree;
 use plain::payload::{Fields, Payload, Scalar, TransmitIndex};
 
 /// Calls of a kind.
@@ -74,11 +76,52 @@ pub struct Profile {
 /// What payloads there are in a store.
 #[derive(Clone, Copy)]
 enum Payloads {
-    /// Whole numbers, and nothing.
+    /// Numbers, and nothing.
     Plain,
     /// Chars, alone and in tuples.
     Chars,
+    /// Types that hold others.
+    Compounds,
     All,
+}
+
+/// The most words of a type that C names.
+const WORDS: usize = 7;
+
+/// A type of so many words at most.
+pub fn some_tree(random: &mut Random, words: usize) -> Tree {
+    let kinds = if words < 2 { 4 } else { 9 };
+    match random.below(kinds) {
+        0 | 1 => Tree::Plain(random.pick(&Scalar::ALL)),
+        2 => Tree::Flags(random.pick(&[1, 3, 8, 9, 16, 17, 32])),
+        3 => Tree::Enum(random.pick(&[1, 2, 3, 4, 128])),
+        4 => Tree::Option(Box::new(some_case(random, words - 1))),
+        5 | 6 if words > 2 => {
+            let ok = some_case(random, words - 2);
+            let left = words - 1 - ok.words().len();
+            Tree::Result(Box::new(ok), Box::new(some_case(random, left)))
+        }
+        7 => Tree::Variant(some_parts(random, words - 1, some_case)),
+        _ => Tree::Record(some_parts(random, words - 1, some_tree)),
+    }
+}
+
+// The type of a case, or nothing.
+fn some_case(random: &mut Random, words: usize) -> Tree {
+    if random.chance(30) { Tree::Nothing } else { some_tree(random, words) }
+}
+
+// One part or more.
+fn some_parts(random: &mut Random, words: usize, some: fn(&mut Random, usize) -> Tree) -> Vec<Tree> {
+    let mut parts = Vec::new();
+    let mut left = words;
+    while left > 0 && (parts.is_empty() || random.chance(70)) {
+        let most = random.within(1, left as u32) as usize;
+        let part = some(random, most);
+        left -= part.words().len();
+        parts.push(part);
+    }
+    parts
 }
 
 fn some_payload(random: &mut Random, payloads: Payloads) -> Payload {
@@ -89,12 +132,21 @@ fn some_payload(random: &mut Random, payloads: Payloads) -> Payload {
     let (first, last) = match payloads {
         Payloads::Plain => (0, 3),
         Payloads::Chars => (4, 9),
-        Payloads::All => (0, 9),
+        Payloads::Compounds => (10, 13),
+        Payloads::All => (0, 13),
     };
     match random.within(first, last) {
         0 => Payload::Nothing,
-        1..4 => Payload::One(random.pick(&[Scalar::U8, Scalar::U8, Scalar::U16, Scalar::U32, Scalar::U64])),
+        1..4 => Payload::One(random.pick(&[
+            Scalar::U8,
+            Scalar::U8,
+            Scalar::U16,
+            Scalar::U32,
+            Scalar::U64,
+            Scalar::F32,
+        ])),
         4..7 => Payload::One(scalar(random)),
+        10.. => built(&some_tree(random, WORDS).words()).unwrap_or(Payload::Nothing),
         _ => {
             let len = random.within(1, 8);
             let fields: Vec<_> = (0..len).map(|_| scalar(random)).collect();
@@ -106,8 +158,13 @@ fn some_payload(random: &mut Random, payloads: Payloads) -> Payload {
 impl Profile {
     /// One that is drawn.
     pub fn draw(random: &mut Random, is_scarce: bool) -> Profile {
-        let payloads =
-            random.pick(&[Payloads::Plain, Payloads::Plain, Payloads::Chars, Payloads::All, Payloads::All]);
+        let payloads = random.pick(&[
+            Payloads::Plain,
+            Payloads::Chars,
+            Payloads::Compounds,
+            Payloads::All,
+            Payloads::All,
+        ]);
         let types = (0..random.within(1, 4))
             .map(|_| {
                 let payload = some_payload(random, payloads);
@@ -154,13 +211,18 @@ impl Profile {
         Family::Operate
     }
 
-    /// What bytes that are written are like: chars often where the store has streams of them.
+    /// What bytes that are written are like: chars often where the store has streams of them, numbers of cases where
+    /// it has types that hold others.
     pub fn likeness(&self, random: &mut Random) -> Likeness {
         let has_chars = self.types.iter().any(|ty| match &ty.payload {
-            Payload::Nothing => false,
+            Payload::Nothing | Payload::Compound(_) => false,
             Payload::One(scalar) => *scalar == Scalar::Char,
             Payload::Tuple(fields) => fields.as_slice().contains(&Scalar::Char),
         });
+        let has_cases = self.types.iter().any(|ty| matches!(ty.payload, Payload::Compound(_)));
+        if has_cases && random.chance(self.chars) {
+            return Likeness::Cases;
+        }
         if has_chars && random.chance(self.chars) {
             return Likeness::Chars;
         }

@@ -22,7 +22,7 @@ type Origin = (usize, usize);
 #[rustfmt::skip]
 fn names_of(call: &mut Call) -> Vec<(Role, &mut u32)> {
     match call {
-        Call::Free | Call::Tag | Call::Streams | Call::AddGuest { .. } | Call::AddGuestAt { .. } => Vec::new(),
+        Call::Free | Call::Tag | Call::Streams | Call::TypeOf { .. } | Call::AddGuest { .. } | Call::AddGuestAt { .. } => Vec::new(),
         Call::NextReadyGuest { from } => vec![(Role::Guest, from)],
         Call::Moved { stream } | Call::TransmitIndex { stream } => vec![(Role::Stream, stream)],
         Call::MemoryWrite { guest, .. } | Call::MemoryRead { guest, .. } | Call::MemoryAt { guest } | Call::MemoryGrown { guest, .. } | Call::MemoryMoved { guest, .. } | Call::EndGuest { guest } | Call::BeginGuest { guest, .. } | Call::BeginGuestAt { guest, .. } | Call::NextHandle { guest, .. } | Call::HandleCount { guest } | Call::SetGuestLimits { guest, .. } | Call::GuestLimits { guest }

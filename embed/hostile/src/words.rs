@@ -2,14 +2,20 @@
 
 use crate::sys;
 use plain::codes::{Refusal, ReturnCode};
+use plain::compound::Tree;
 use plain::payload::{Fields, Payload, Scalar, TransmitIndex};
 use plain::streams::Side;
+use std::cell::RefCell;
+use std::collections::HashMap;
 
 /// The bit of a tuple's word.
 pub const TUPLE: u64 = 1 << 32;
 
 /// The bit of a future's type.
 pub const FUTURE: u64 = 1 << 33;
+
+/// What the fifth byte of the word of a type that holds others is, but for the future's bit.
+const COMPOUND: u8 = 4;
 
 /// The word of no event.
 pub const NO_EVENT: u64 = 3;
@@ -35,10 +41,43 @@ fn tuple_at(mut word: u64) -> Option<Payload> {
     Fields::new(&fields).map(Payload::Tuple)
 }
 
+thread_local! {
+    // What was built, since a type that holds others is kept for good.
+    static BUILT: RefCell<HashMap<Vec<u8>, Payload>> = RefCell::default();
+}
+
+// The type that holds others whose words these bytes are.
+fn compound(words: &[u8]) -> Option<Payload> {
+    if let Some(payload) = BUILT.with_borrow(|built| built.get(words).copied()) {
+        return Some(payload);
+    }
+    let payload = Payload::compound(Tree::of_words(words)?);
+    BUILT.with_borrow_mut(|built| built.insert(words.to_vec(), payload));
+    Some(payload)
+}
+
+/// The payload that words spell, each of them a byte: nothing, a scalar, or a type that holds others.
+pub fn built(words: &[u8]) -> Option<Payload> {
+    match words {
+        [13] => Some(Payload::Nothing),
+        [word @ 1..13] => scalar_at((*word).into()).map(Payload::One),
+        _ => compound(words),
+    }
+}
+
+// The words lie in the lowest four bytes and the highest three; 0 ends them.
+fn compound_at(word: u64) -> Option<Payload> {
+    let bytes = word.to_le_bytes();
+    let words = [&bytes[..4], &bytes[5..]].concat();
+    let last = words.iter().rposition(|word| *word != 0)?;
+    compound(&words[..=last])
+}
+
 /// The payload of a word, if it is one's.
 pub fn payload_at(word: u64) -> Option<Payload> {
     match word {
         0 => Some(Payload::Nothing),
+        TUPLE.. if word.to_le_bytes()[4] == COMPOUND => compound_at(word),
         TUPLE.. => tuple_at(word - TUPLE),
         _ => scalar_at(word).map(Payload::One),
     }
@@ -46,13 +85,13 @@ pub fn payload_at(word: u64) -> Option<Payload> {
 
 /// The type of a word, if it is one's.
 pub fn type_at(word: u64) -> Option<TransmitIndex> {
-    match word {
-        FUTURE.. => payload_at(word - FUTURE).map(TransmitIndex::future),
-        _ => payload_at(word).map(TransmitIndex::stream),
+    match word & FUTURE {
+        0 => payload_at(word).map(TransmitIndex::stream),
+        _ => payload_at(word - FUTURE).map(TransmitIndex::future),
     }
 }
 
-/// The word of a payload.
+/// The word of a payload; of a type that holds others that of its words, which are seven at most.
 pub fn payload_word(payload: &Payload) -> u64 {
     let number = |scalar: &Scalar| *scalar as u64 + 1;
     match payload {
@@ -60,6 +99,12 @@ pub fn payload_word(payload: &Payload) -> u64 {
         Payload::One(scalar) => number(scalar),
         Payload::Tuple(fields) => {
             TUPLE + fields.as_slice().iter().rev().fold(0, |word, scalar| 16 * word + number(scalar))
+        }
+        Payload::Compound(tree) => {
+            let mut words = tree.words();
+            words.resize(7, 0);
+            words.insert(4, COMPOUND);
+            words.iter().rev().fold(0, |word, byte| 256 * word + u64::from(*byte))
         }
     }
 }
@@ -126,6 +171,8 @@ pub fn name_of(status: u32) -> String {
         sys::NOT_LENT => "NotLent".to_owned(),
         sys::SHORTER => "Shorter".to_owned(),
         sys::IN_USE => "InUse".to_owned(),
+        sys::TYPE_TOO_LONG => "TypeTooLong".to_owned(),
+        sys::NO_TYPE => "NoType".to_owned(),
         number => match sys::REFUSALS.get(number as usize - 1) {
             Some(refusal) => format!("{refusal:?}"),
             None => return number.to_string(),

@@ -39,7 +39,7 @@ pub struct Count {
     pub high: u64,
 }
 
-/// An item that is no Unicode scalar value: who writes it, and which of its write's items it is.
+/// An item that is none of its type: who writes it, and which of its write's items it is.
 #[repr(C)]
 #[derive(Clone, Copy, Debug, Default, PartialEq, Eq)]
 pub struct BadItem {
@@ -149,7 +149,7 @@ pub enum Refusal {
     ReadFromDroppedStream = 18,
     /// The value passed.
     FutureAlreadyRead = 19,
-    /// Both operations are of one guest, and the payload is neither none nor a whole number.
+    /// Both operations are of one guest, and the payload is neither none nor a number.
     IntraComponent = 20,
     /// The end that would move was told, or the value passed.
     LiftDropped = 21,
@@ -248,7 +248,7 @@ pub const TEXTS: [&str; 30] = [
     "the write end of a future was told so, or the value passed",
     "the read end of a stream was told that the write end is gone",
     "the value passed",
-    "both operations are of one guest, and the payload is neither none nor a whole number",
+    "both operations are of one guest, and the payload is neither none nor a number",
     "the end that would move was told, or the value passed",
     "the end that would move is a member of a set",
     "the set has a member",
@@ -261,7 +261,7 @@ pub const TEXTS: [&str; 30] = [
     "the message is longer than 4,096 bytes",
 ];
 
-/// An item that was to move is no Unicode scalar value. strm_find_bad_item tells which, and who writes it.
+/// An item that was to move is none of its type: a char that is no Unicode scalar value, or the number of a case that there is not. strm_find_bad_item tells which, and who writes it.
 pub const BAD_ITEM: u32 = 64;
 
 /// An allocation was refused, and nothing has changed.
@@ -290,6 +290,12 @@ pub const SHORTER: u32 = 75;
 
 /// The guest has bytes, handles, or a memory that was lent: it did not end, or began again.
 pub const IN_USE: u32 = 76;
+
+/// The words of a type are more than seven.
+pub const TYPE_TOO_LONG: u32 = 77;
+
+/// The words spell no type, more than one, or a tuple that STRM_FIELD makes.
+pub const NO_TYPE: u32 = 78;
 
 /// The handle is of an end of a stream or future.
 pub const KIND_END: u32 = 1;
@@ -520,4 +526,8 @@ unsafe extern "C" {
     pub fn strm_set_guest_limits(store: *mut StoreHandle, guest: u32, handles: u32, ends: u32, bytes: u64) -> u32;
     /// Puts at `out` how much a guest may have at once. Refused: UnknownGuest.
     pub fn strm_guest_limits(store: *mut StoreHandle, guest: u32, out: &mut Limits) -> u32;
+    /// Puts at `out` the payload that these words spell, each of them a byte: a type before the types that it holds,
+    /// as STRM_WORD_RESULT, STRM_WORD_NOTHING, STRM_WORD_ENUM(3). It is built once, and then passed as any other.
+    /// TYPE_TOO_LONG. NO_TYPE.
+    pub fn strm_type_of(words: *const u8, len: usize, out: &mut u64) -> u32;
 }

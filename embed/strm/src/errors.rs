@@ -4,13 +4,14 @@ use crate::{Code, Guest, Handle, Refusal};
 use core::fmt;
 use strm_sys as sys;
 
-/// An item that is no Unicode scalar value, and who writes it.
+/// An item that is none of its type, and who writes it: a char that is no Unicode scalar value, or the number of a case
+/// that there is not.
 ///
 /// ```
 /// use strm::{BadItem, Guest, Handle};
 ///
 /// let item = BadItem { guest: Guest(0), handle: Handle(3), index: 2 };
-/// assert_eq!(item.to_string(), "item 2 of what guest 0 writes by handle 3 is no Unicode scalar value");
+/// assert_eq!(item.to_string(), "item 2 of what guest 0 writes by handle 3 is none of its type");
 /// ```
 #[derive(Clone, Copy, Debug, PartialEq, Eq, Hash)]
 pub struct BadItem {
@@ -39,7 +40,7 @@ pub struct BadItem {
 pub enum Error {
     /// It may not be done now. Nothing has changed.
     Refused(Refusal),
-    /// An item that was to move is no Unicode scalar value. Nothing has changed: the embedder ends the guest that
+    /// An item that was to move is none of its type. Nothing has changed: the embedder ends the guest that
     /// writes it ([`Store::end_guest`](crate::Store::end_guest)), all others go on, and until then the same call
     /// answers the same.
     BadItem(BadItem),
@@ -71,7 +72,7 @@ impl fmt::Display for BadItem {
         let BadItem { guest, handle, index } = self;
         write!(
             f,
-            "item {index} of what {guest} writes by {handle} is no Unicode scalar value"
+            "item {index} of what {guest} writes by {handle} is none of its type"
         )
     }
 }

@@ -1,15 +1,16 @@
 //! The types of Rust that are items of a stream.
 
-use crate::{Payload, Scalar};
+use crate::{Payload, Scalar, TypeError};
 
 /// A type of Rust whose values are the items of a stream, or the value of a future.
 ///
 /// It says which payload its items are, and how one lies in memory by the Canonical ABI. A wrong one gives wrong
-/// values and nothing worse. It is there for nothing `()`, `bool`, the integers of 8 to 64 bits, `char`, and tuples
-/// of one to eight of these scalars.
+/// values and nothing worse. It is there for nothing `()`, `bool`, the integers of 8 to 64 bits, `char`, `f32` and `f64`
+/// as their bits, `Option`, `Result`, arrays and tuples of items, and structs and enums that
+/// [`record!`](crate::record) and [`enumeration!`](crate::enumeration) make.
 ///
-/// A record of scalars is one by [`record!`](crate::record). Another type composed of others needs no more than their
-/// [`SIZE`](Item::SIZE), [`put`](Item::put) and [`get`](Item::get), as here a record by hand:
+/// Another type composed of others needs no more than their [`SIZE`](Item::SIZE), [`put`](Item::put) and
+/// [`get`](Item::get), as here a record by hand:
 ///
 /// ```
 /// use strm::{Field, Item, Payload};
@@ -101,9 +102,9 @@ impl Field for char {
     const SCALAR: Scalar = Scalar::Char;
 }
 
-macro_rules! integers {
-    ($($integer:ident $scalar:ident),+) => {$(
-        impl Item for $integer {
+macro_rules! numbers {
+    ($($number:ident $scalar:ident),+) => {$(
+        impl Item for $number {
             const PAYLOAD: Payload = Payload::one(Scalar::$scalar);
 
             #[inline]
@@ -112,37 +113,142 @@ macro_rules! integers {
             }
 
             #[inline]
-            fn get(bytes: &[u8]) -> Option<$integer> {
-                bytes.try_into().ok().map($integer::from_le_bytes)
+            fn get(bytes: &[u8]) -> Option<$number> {
+                bytes.try_into().ok().map($number::from_le_bytes)
             }
         }
 
-        impl Field for $integer {
+        impl Field for $number {
             const SCALAR: Scalar = Scalar::$scalar;
         }
     )+};
 }
 
-integers!(i8 S8, u8 U8, i16 S16, u16 U16, i32 S32, u32 U32, i64 S64, u64 U64);
+numbers!(i8 S8, u8 U8, i16 S16, u16 U16, i32 S32, u32 U32, i64 S64, u64 U64, f32 F32, f64 F64);
+
+// A payload, or the end of a compilation that names one that there is not.
+const fn known(payload: Result<Payload, TypeError>) -> Payload {
+    match payload {
+        Ok(payload) => payload,
+        Err(TypeError::TooLong) => panic!("a type of more than seven words"),
+        Err(_) => panic!("a type without parts, or with too many"),
+    }
+}
+
+/// An enum of so many cases.
+#[doc(hidden)]
+#[must_use]
+pub const fn enumeration_of(cases: usize) -> Payload {
+    known(Payload::enumeration(if cases > 128 { 0 } else { cases as u8 }))
+}
+
+// What a case holds, if it holds something.
+const fn held(payload: Payload) -> Option<Payload> {
+    if payload.word() == 0 { None } else { Some(payload) }
+}
+
+// Where the value of a case begins, behind its number.
+const fn value_at(alignments: &[u32]) -> usize {
+    let (mut align, mut k) = (1, 0);
+    while k < alignments.len() {
+        if alignments[k] > align {
+            align = alignments[k];
+        }
+        k += 1;
+    }
+    align as usize
+}
+
+impl<T: Item> Item for Option<T> {
+    const PAYLOAD: Payload = known(T::PAYLOAD.option());
+
+    fn put(&self, bytes: &mut [u8]) {
+        let at = const { value_at(&[T::PAYLOAD.align()]) };
+        bytes[0] = u8::from(self.is_some());
+        if let Some(value) = self {
+            value.put(&mut bytes[at..at + T::SIZE]);
+        }
+    }
+
+    fn get(bytes: &[u8]) -> Option<Option<T>> {
+        let at = const { value_at(&[T::PAYLOAD.align()]) };
+        match bytes.first()? {
+            0 => Some(None),
+            1 => T::get(bytes.get(at..at + T::SIZE)?).map(Some),
+            _ => None,
+        }
+    }
+}
+
+impl<T: Item, E: Item> Item for Result<T, E> {
+    const PAYLOAD: Payload = known(Payload::result(held(T::PAYLOAD), held(E::PAYLOAD)));
+
+    fn put(&self, bytes: &mut [u8]) {
+        let at = const { value_at(&[T::PAYLOAD.align(), E::PAYLOAD.align()]) };
+        bytes[0] = u8::from(self.is_err());
+        match self {
+            Ok(value) if T::SIZE > 0 => value.put(&mut bytes[at..at + T::SIZE]),
+            Err(error) if E::SIZE > 0 => error.put(&mut bytes[at..at + E::SIZE]),
+            _ => {}
+        }
+    }
+
+    fn get(bytes: &[u8]) -> Option<Result<T, E>> {
+        let at = const { value_at(&[T::PAYLOAD.align(), E::PAYLOAD.align()]) };
+        match bytes.first()? {
+            0 => T::get(bytes.get(at..at + T::SIZE)?).map(Ok),
+            1 => E::get(bytes.get(at..at + E::SIZE)?).map(Err),
+            _ => None,
+        }
+    }
+}
+
+impl<T: Item, const N: usize> Item for [T; N] {
+    const PAYLOAD: Payload = known(Payload::record(&[T::PAYLOAD; N]));
+
+    fn put(&self, bytes: &mut [u8]) {
+        for (item, bytes) in self.iter().zip(bytes.chunks_mut(T::SIZE.max(1))) {
+            item.put(bytes);
+        }
+    }
+
+    fn get(bytes: &[u8]) -> Option<[T; N]> {
+        let mut items = [const { None }; N];
+        for (k, item) in items.iter_mut().enumerate() {
+            *item = Some(T::get(bytes.get(k * T::SIZE..(k + 1) * T::SIZE)?)?);
+        }
+        let mut left = items.into_iter().flatten();
+        Some(core::array::from_fn(|_| match left.next() {
+            Some(item) => item,
+            None => unreachable!(),
+        }))
+    }
+}
+
+// The fields of a tuple.
+trait Fields {
+    const FIELDS: &'static [Payload];
+}
 
 macro_rules! tuples {
     ($($field:ident $index:tt),+) => {
-        impl<$($field: Field),+> Item for ($($field,)+) {
-            const PAYLOAD: Payload = match Payload::tuple(&[$($field::SCALAR),+]) {
-                Some(payload) => payload,
-                None => unreachable!(),
-            };
+        impl<$($field: Item),+> Fields for ($($field,)+) {
+            const FIELDS: &'static [Payload] = &[$($field::PAYLOAD),+];
+        }
+
+        impl<$($field: Item),+> Item for ($($field,)+) {
+            const PAYLOAD: Payload = known(Payload::record(<Self as Fields>::FIELDS));
 
             fn put(&self, bytes: &mut [u8]) {
                 $(
-                    let at = const { Self::PAYLOAD.offset($index) as usize };
+                    let at = const { Payload::field_offset(<Self as Fields>::FIELDS, $index) };
                     self.$index.put(&mut bytes[at..at + $field::SIZE]);
                 )+
             }
 
             fn get(bytes: &[u8]) -> Option<Self> {
                 Some(($({
-                    let at = const { Self::PAYLOAD.offset($index) as usize };
+                    let at = const { Payload::field_offset(<Self as Fields>::FIELDS, $index) };
                     $field::get(bytes.get(at..at + $field::SIZE)?)?
                 },)+))
             }

@@ -80,6 +80,7 @@ mod rooms;
 mod set_wait;
 mod share;
 mod store;
+mod types;
 mod version;
 mod waits;
 
@@ -99,7 +100,10 @@ pub use set_wait::{SetWait, set_wait};
 pub use share::Share;
 pub use store::{EndInfo, GuestLimits, HandleInfo, Limits, OtherEnd, Side, Store};
 pub use strm_sys::Refusal;
+pub use types::TypeError;
 pub use version::{Version, version};
 
 #[doc(hidden)]
 pub use examples::{example, example_poll, example_run, example_shared};
+#[doc(hidden)]
+pub use item::enumeration_of;

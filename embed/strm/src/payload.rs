@@ -2,7 +2,7 @@
 
 use core::fmt;
 
-/// A scalar type of the Component Model.
+/// A scalar type of the Component Model. Floats are moved as their bits.
 ///
 /// ```
 /// use strm::Scalar;
@@ -25,10 +25,12 @@ pub enum Scalar {
     S64,
     U64,
     Char,
+    F32,
+    F64,
 }
 
 /// The scalars by their numbers, from 1.
-const SCALARS: [Scalar; 10] = [
+const SCALARS: [Scalar; 12] = [
     Scalar::Bool,
     Scalar::S8,
     Scalar::U8,
@@ -39,6 +41,8 @@ const SCALARS: [Scalar; 10] = [
     Scalar::S64,
     Scalar::U64,
     Scalar::Char,
+    Scalar::F32,
+    Scalar::F64,
 ];
 
 impl Scalar {
@@ -52,8 +56,8 @@ impl Scalar {
         match self {
             Scalar::Bool | Scalar::S8 | Scalar::U8 => 1,
             Scalar::S16 | Scalar::U16 => 2,
-            Scalar::S32 | Scalar::U32 | Scalar::Char => 4,
-            Scalar::S64 | Scalar::U64 => 8,
+            Scalar::S32 | Scalar::U32 | Scalar::Char | Scalar::F32 => 4,
+            Scalar::S64 | Scalar::U64 | Scalar::F64 => 8,
         }
     }
 }
@@ -71,6 +75,8 @@ impl fmt::Display for Scalar {
             Scalar::S64 => "s64",
             Scalar::U64 => "u64",
             Scalar::Char => "char",
+            Scalar::F32 => "f32",
+            Scalar::F64 => "f64",
         })
     }
 }
@@ -81,7 +87,8 @@ const FUTURE: u64 = 1 << 33;
 // The most fields of a tuple.
 const FIELDS: u32 = 8;
 
-/// What one item is: nothing, a scalar, or a tuple of one to eight scalars.
+/// What one item is: nothing, a scalar, a tuple of one to eight scalars, or any other type of a fixed size that holds
+/// no pointer and no handle, as [`option`](Payload::option) and [`result`](Payload::result) build them.
 ///
 /// ```
 /// use strm::{Payload, Scalar};
@@ -109,6 +116,8 @@ impl Payload {
     pub const S64: Payload = Payload::one(Scalar::S64);
     pub const U64: Payload = Payload::one(Scalar::U64);
     pub const CHAR: Payload = Payload::one(Scalar::Char);
+    pub const F32: Payload = Payload::one(Scalar::F32);
+    pub const F64: Payload = Payload::one(Scalar::F64);
 }
 
 impl Payload {
@@ -137,7 +146,47 @@ impl Payload {
         Some(Payload(word))
     }
 
-    /// Whether it is a tuple, of one field or more.
+    /// A tuple of these, if all are scalars and there are one to eight of them.
+    pub(crate) const fn tuple_of(fields: &[Payload]) -> Option<Payload> {
+        if fields.is_empty() || fields.len() > FIELDS as usize {
+            return None;
+        }
+        let (mut word, mut k) = (TUPLE, 0);
+        while k < fields.len() {
+            if fields[k].0 == 0 || fields[k].0 > SCALARS.len() as u64 {
+                return None;
+            }
+            word |= fields[k].0 << (4 * k);
+            k += 1;
+        }
+        Some(Payload(word))
+    }
+
+    // A type that holds others, by its word.
+    pub(crate) const fn compound(word: u64) -> Payload {
+        Payload(word)
+    }
+
+    // The scalar of a number, from 1.
+    pub(crate) const fn scalar_of(number: u8) -> Scalar {
+        SCALARS[number as usize - 1]
+    }
+
+    // How many scalars there are, of a payload that holds nothing else.
+    pub(crate) const fn fields(self) -> u32 {
+        let mut count = 0;
+        while self.scalar(count).is_some() {
+            count += 1;
+        }
+        count
+    }
+
+    // The number of the scalar of this index, which is there.
+    pub(crate) const fn scalar_number(self, index: u32) -> u8 {
+        (self.0 >> (4 * index) & 15) as u8
+    }
+
+    /// Whether it is a tuple of scalars, of one field or more.
     ///
     /// ```
     /// use strm::{Payload, Scalar};
@@ -147,17 +196,17 @@ impl Payload {
     /// ```
     #[must_use]
     pub const fn is_tuple(self) -> bool {
-        self.0 >= TUPLE
+        self.0 >= TUPLE && !self.is_compound()
     }
 
-    /// The scalars of an item, in order.
+    /// The scalars of an item that is nothing, a scalar or a tuple of scalars, in order; of any other none.
     pub fn scalars(self) -> impl Iterator<Item = Scalar> {
         (0..FIELDS).map_while(move |index| self.scalar(index))
     }
 
     // The scalar of this index, if there is one.
     const fn scalar(self, index: u32) -> Option<Scalar> {
-        if index >= FIELDS {
+        if index >= FIELDS || self.is_compound() {
             return None;
         }
         match (self.0 >> (4 * index) & 15) as usize {
@@ -173,7 +222,8 @@ impl Payload {
     ///
     /// assert_eq!(Payload::U8.word(), 3);
     /// assert_eq!(Payload::from_word(3), Some(Payload::U8));
-    /// assert_eq!(Payload::from_word(11), None);
+    /// assert_eq!(Payload::from_word(12), Some(Payload::F64));
+    /// assert_eq!(Payload::from_word(13), None);
     /// ```
     #[must_use]
     pub const fn word(self) -> u64 {
@@ -183,6 +233,13 @@ impl Payload {
     /// The payload of a word, if one has it.
     #[must_use]
     pub const fn from_word(word: u64) -> Option<Payload> {
+        if Payload(word).is_compound() {
+            return if Payload::has_words(word) {
+                Some(Payload(word))
+            } else {
+                None
+            };
+        }
         let mut numbers = word & (TUPLE - 1);
         let is_one = word == 0 || word <= SCALARS.len() as u64;
         let is_tuple = word >> 32 == 1 && numbers > 0;
@@ -203,12 +260,18 @@ impl Payload {
     /// The bytes of an item, and of those that lie between it and the next.
     #[must_use]
     pub const fn size(self) -> u32 {
+        if self.is_compound() {
+            return self.measures().0;
+        }
         self.offset(FIELDS).next_multiple_of(self.align())
     }
 
     /// An item lies at a multiple of it.
     #[must_use]
     pub const fn align(self) -> u32 {
+        if self.is_compound() {
+            return self.measures().1;
+        }
         let (mut align, mut index) = (1, 0);
         while let Some(scalar) = self.scalar(index) {
             if scalar.size() > align {
@@ -246,6 +309,7 @@ impl Payload {
 impl fmt::Debug for Payload {
     fn fmt(&self, f: &mut fmt::Formatter<'_>) -> fmt::Result {
         match self.scalar(0) {
+            None if self.is_compound() => self.write_words(f),
             None => f.write_str("Nothing"),
             Some(scalar) if !self.is_tuple() => scalar.fmt(f),
             Some(_) => f.debug_list().entries(self.scalars()).finish(),
@@ -256,6 +320,7 @@ impl fmt::Debug for Payload {
 impl fmt::Display for Payload {
     fn fmt(&self, f: &mut fmt::Formatter<'_>) -> fmt::Result {
         match self.scalar(0) {
+            None if self.is_compound() => return self.write_words(f),
             None => return f.write_str("none"),
             Some(scalar) if !self.is_tuple() => return write!(f, "{scalar}"),
             Some(first) => write!(f, "({first}")?,

@@ -124,7 +124,7 @@ fn tuples_keep_the_padding_of_the_reader() {
 fn each_tuple_is_a_type_of_its_own() {
     let (mut store, writer, reader, _) = two();
     for len in 1..=8 {
-        for scalar in [Scalar::Bool, Scalar::U16, Scalar::Char] {
+        for scalar in [Scalar::Bool, Scalar::U16, Scalar::Char, Scalar::F64] {
             let item = Payload::tuple(&vec![scalar; len]).unwrap();
             let pair = store.new_between(writer, reader, Type::Future(item)).unwrap();
             assert_eq!(store.transmit_index(pair.stream), Some(Type::Future(item)));
