@@ -108,7 +108,8 @@ class Module:
             self.scope.names[name] = (self.name, owner)
 
     def read(self, told):
-        """Cuts the file into its definitions. Those in a `module _` stand deeper, under its parameters."""
+        """Cuts the file into its definitions. Those in a `module _` stand deeper, under its parameters,
+        and so do those that name each other (`mutual`)."""
         self.under, self.begun = [], None
         for number, line in enumerate(told):
             text = line.strip()
@@ -122,6 +123,9 @@ class Module:
             if text.startswith("module "):
                 self.end()
                 self.under.append((depth + 2, text))
+            elif re.fullmatch(r"(abbrev |unfoldable )?mutual", text):
+                self.end()
+                self.under.append((depth + 2, ""))
             elif depth == at and header(text):
                 self.end()
                 self.begin(number, line, told)
